@@ -9,18 +9,17 @@ use Rattle.std.proofs.lemmas.List.{length-map, map-append, take_more}
 use Rattle.std.proofs.lemmas.List.Elements.{All-cons, All-head, All-nil, All-tail, All-filter, All-weaker, filter-append}
 use Rattle.std.proofs.lemmas.Option.{get_or_from_slice_get, slice_get-get_or, slice_get-map, slice_get_within}
 use Rattle.air_source.specs.declared.events.Side.{Side}
-use Rattle.measured_traffic.specs.document_traffic.specs.Landing.{injected_at, injected_to, is_to}
-use Rattle.measured_traffic.specs.fh_document.specs.Proper.{IsDocument}
-use Rattle.measured_traffic.specs.fh_document.specs.declared.document.Document.{Document}
-use Rattle.measured_traffic.specs.fh_document.specs.declared.document.Injection.{Injection}
+use Rattle.frame_deliveries.specs.Landing.{injected_at, injected_to, is_to}
+use Rattle.frame_deliveries.specs.fh_document.specs.Proper.{IsDocument}
+use Rattle.frame_deliveries.specs.fh_document.specs.declared.document.Document.{Document}
+use Rattle.frame_deliveries.specs.fh_document.specs.declared.document.Injection.{Injection}
 use Rattle.fh_time.specs.declared.values.Ticks.{Ticks}
 use Rattle.frame_network.specs.declared.landings.Landing.{Landing}
 use Rattle.frame_network.specs.Queues.{IsPlaced, at_time, enumerated, enumerated_from, landing_of as place_of}
-use Rattle.measured_traffic.specs.replay_events.specs.Moments.{landing_at}
-use Rattle.ru_buffers.specs.unit_model.specs.Meetings.{Arrival}
-use Rattle.ru_buffers.specs.unit_model.specs.Radiated.{first_clock}
+use Rattle.frame_deliveries.specs.Landing.{landing_at}
+use Rattle.unit_model.specs.Meetings.{Arrival}
 use Rattle.frame_ways.specs.Listed.{AreFrom, HasTime, landing_arrival, injected_frame, injections_in, injections_to, landings_left, time_of}
-use Rattle.ru_buffers.specs.unit_memory.specs.Memory.{arrival_at}
+use Rattle.frame_deliveries.specs.Landing.{arrival_at}
 use Rattle.fh_time.specs.declared.nanoseconds.TheConstants.{NANOSECOND}
 
 -- ---- those of a unit
@@ -105,26 +104,27 @@ left_listed d side times lent q are those same tick =
     ∙ ap (λ ts. landings_left d side tick (enumerated ts)) (are ∙ ap (map time_of) those)
     ∙ left_all d side tick
 
--- ---- none is before the first tick
+-- ---- none is before a tick that is not after time 0
 
-is_begun : (i : Injection) → HasTime i → first_clock ≤ℤ (i.at *ℤ pos NANOSECOND)
-is_begun i h = let low = h.low in omega (arith, ints, low)
+is_begun : (now : ℤ) (i : Injection) → now ≤ℤ pos 0 → HasTime i → now ≤ℤ (i.at *ℤ pos NANOSECOND)
+is_begun now i early h = let low = h.low in omega (arith, ints, low, early)
 
-times_from : (is : List Injection) → All HasTime is → All (λ t. first_clock ≤ℤ t.0) (map time_of is)
-times_from [] h = All-nil _
-times_from (i ∷ is) h =
-    All-cons (λ (t : Ticks). first_clock ≤ℤ t.0) (time_of i) (map time_of is) (is_begun i (All-head HasTime i is h)) (times_from is (All-tail HasTime i is h))
+times_from : (now : ℤ) (is : List Injection) → now ≤ℤ pos 0 → All HasTime is → All (λ t. now ≤ℤ t.0) (map time_of is)
+times_from now [] early h = All-nil _
+times_from now (i ∷ is) early h =
+    All-cons (λ (t : Ticks). now ≤ℤ t.0) (time_of i) (map time_of is) (is_begun now i early (All-head HasTime i is h)) (times_from now is early (All-tail HasTime i is h))
 
-placed_from : (times : List Ticks) (l : Landing) → All (λ t. first_clock ≤ℤ t.0) times → IsPlaced times l → first_clock ≤ℤ l.at.0
-placed_from times l h p = subst (λ (t : Ticks). first_clock ≤ℤ t.0) (get_or_from_slice_get times l.index l.at l.at p.is) (h l.index l.at p.within)
+placed_from : (now : ℤ) (times : List Ticks) (l : Landing) → All (λ t. now ≤ℤ t.0) times → IsPlaced times l → now ≤ℤ l.at.0
+placed_from now times l h p = subst (λ (t : Ticks). now ≤ℤ t.0) (get_or_from_slice_get times l.index l.at l.at p.is) (h l.index l.at p.within)
 
-pub all_from : (times : List Ticks) (q : List Landing) → All (λ t. first_clock ≤ℤ t.0) times → All (IsPlaced times) q → AreFrom first_clock q
-all_from times [] h p = tt
-all_from times (l ∷ q) h p = (placed_from times l h (All-head (IsPlaced times) l q p), all_from times q h (All-tail (IsPlaced times) l q p))
+pub all_from : (now : ℤ) (times : List Ticks) (q : List Landing) → All (λ t. now ≤ℤ t.0) times → All (IsPlaced times) q → AreFrom now q
+all_from now times [] h p = tt
+all_from now times (l ∷ q) h p = (placed_from now times l h (All-head (IsPlaced times) l q p), all_from now times q h (All-tail (IsPlaced times) l q p))
 
-pub listed_from : (times : List Ticks) (lent : List (Bor Injection)) (q : List Landing) → times ≡ map time_of (injections_in lent) → All HasTime (injections_in lent) → All (IsPlaced times) q
-    → AreFrom first_clock q
-listed_from times lent q are in_time placed = all_from times q (subst (All (λ (t : Ticks). first_clock ≤ℤ t.0)) (sym are) (times_from (injections_in lent) in_time)) placed
+pub listed_from : (now : ℤ) (times : List Ticks) (lent : List (Bor Injection)) (q : List Landing) → now ≤ℤ pos 0 → times ≡ map time_of (injections_in lent) → All HasTime (injections_in lent)
+    → All (IsPlaced times) q → AreFrom now q
+listed_from now times lent q early are in_time placed =
+    all_from now times q (subst (All (λ (t : Ticks). now ≤ℤ t.0)) (sym are) (times_from now (injections_in lent) early in_time)) placed
 
 -- ---- a frame of a document is short
 

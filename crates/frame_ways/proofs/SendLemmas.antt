@@ -1,217 +1,240 @@
 -- A way after a call.
-use Rattle.std.proofs.Common.{◌≡◌, ℕ, ℤ, pos, ◌+◌, ◌<◌, ◌^◌, ◌+ℤ◌, ◌*ℤ◌, ◌≤ℤ◌, ◌<ℤ◌, ◌≢◌, List, [], ◌∷◌, ◌++◌, length, All, Some, sym, ap, ap₂, ◌∙◌, subst, append_assoc}
+use Rattle.std.proofs.Common.{◌≡◌, ℕ, ℤ, pos, ◌+◌, ◌<◌, ◌^◌, ◌+ℤ◌, ◌*ℤ◌, ◌≤ℤ◌, ◌<ℤ◌, ◌≢◌, List, [], ◌∷◌, ◌++◌, length, All, Some, sym, ap, ap₂, ◌∙◌, subst, append_assoc, append-nil}
 use Rattle.std.specs.Prelude.{map, slice_get}
 use Rattle.std.proofs.lemmas.List.Elements.{All-head, All-nil, All-tail}
 use Rattle.std.specs.Borrow.{Bor}
+use Rattle.std.specs.Int.Signed.{≤ℤ_refl}
 use Rattle.air_source.specs.declared.events.Side.{Side}
-use Rattle.measured_traffic.specs.document_traffic.specs.Landing.{copies_among, copies_in, injected_to}
-use Rattle.measured_traffic.specs.document_traffic.specs.Sending.{Leaving, SentCounts, counted, delayed, delayed_behind, none_sent}
-use Rattle.measured_traffic.specs.fh_document.specs.Proper.{IsDocument}
-use Rattle.measured_traffic.specs.fh_document.specs.declared.document.Document.{Document}
-use Rattle.measured_traffic.specs.fh_document.specs.declared.document.Injection.{Injection}
+use Rattle.frame_deliveries.specs.Landing.{arrival_at, copies_among, copies_in, injected_to, landing_at}
+use Rattle.frame_deliveries.specs.Leaving.{Delayed, Leaving, SentCounts, counted, delayed, none_sent}
+use Rattle.frame_deliveries.specs.fh_document.specs.Proper.{IsDocument}
+use Rattle.frame_deliveries.specs.fh_document.specs.declared.document.Document.{Document}
+use Rattle.frame_deliveries.specs.fh_document.specs.declared.document.Injection.{Injection}
 use Rattle.fh_time.specs.declared.values.Ticks.{Ticks}
 use Rattle.frame_network.specs.Network.{IsInOrder}
 use Rattle.frame_network.specs.Queues.{AreRising, IsPlaced, at_time, enumerated, first_time, landing_of}
 use Rattle.frame_network.specs.declared.arrivals.Arrival.{Arrival as Flying}
-use Rattle.measured_traffic.specs.Replayed.{all_leaving, landings_for}
-use Rattle.measured_traffic.specs.replay_events.specs.Moments.{landing_at}
-use Rattle.ru_buffers.specs.unit_model.specs.Meetings.{Arrival}
-use Rattle.ru_buffers.specs.unit_model.specs.Radiated.{first_clock}
-use Rattle.ru_buffers.specs.history_laws.proofs.TickLemmas.{same_tick}
+use Rattle.unit_model.specs.Meetings.{Arrival}
 use Rattle.frame_ways.specs.declared.copies.Departure.{Departure}
+use Rattle.frame_ways.specs.declared.landed.Landed.{Landed}
 use Rattle.frame_ways.specs.declared.landed.Landed.TheVariants.{Sent, Listed}
 use Rattle.frame_ways.specs.declared.way.Way.{Way}
 use Rattle.frame_ways.specs.Counts.{IsTally}
 use Rattle.frame_ways.specs.Flying.{AreFlyingFrom, IsSentBefore, flying_at, flying_copies, put_all}
+use Rattle.frame_ways.specs.Landed.{bytes_of}
 use Rattle.frame_ways.specs.Listed.{AreFrom, frame_at, injected_frame, injections_in, injections_to, landings_left, time_of}
-use Rattle.frame_ways.specs.Ways.{ComesFrom, IsLanded, IsTickOver, Waits, way_sent_at}
+use Rattle.frame_ways.specs.Ways.{HasLanded, Keeps, Lands, LandsFrom, LandsNext, OnWay, StandsFor, coming_at, copies_on, counts_on, having_sent, landings_on, nothing_sent}
+use Rattle.frame_ways.proofs.ComingLemmas.{all_come}
 use Rattle.frame_ways.proofs.FlightLemmas.{are_put, copies_from, landing-append, put_later}
 use Rattle.frame_ways.proofs.LandLemmas.{flying_here, flying_later, flying_none, later_from, left_first, left_later, left_none, refused_from, taken_all}
 use Rattle.frame_ways.proofs.ListLemmas.{left_listed, lent_at, listed_from, short_at, times_to}
-use Rattle.ru_buffers.specs.unit_memory.specs.Memory.{arrival_at}
+use Rattle.frame_ways.proofs.MoreLemmas.{copies_more, counted_one, none_behind}
+use Rattle.frame_ways.proofs.Ticks.{next_is_later, same_tick}
+use Rattle.fh_time.proofs.Orders.{at_most}
 use Rattle.fh_time.specs.declared.nanoseconds.TheConstants.{NANOSECOND}
 
 -- all but what is on its way, and how many were sent, is as it was
-pub record IsSameBut (w v : Way) : Type 0 where
-  pub unit : v.side ≡ w.side
-  pub deliveries : v.deliveries ≡ w.deliveries
-  pub injections : v.injections ≡ w.injections
+pub record IsSameBut (w x : Way) : Type 0 where
+  pub unit : x.side ≡ w.side
+  pub deliveries : x.deliveries ≡ w.deliveries
+  pub injections : x.injections ≡ w.injections
 
 -- ---- nothing was sent
 
-all_come : (d : Document) (side : Side) (t : ℤ) (listed : List Arrival) → listed ≡ landing_at (injected_to side d) t
-    → ([] ++ (way_sent_at d side t none_sent (all_leaving side d) ++ listed)) ≡ landing_at (landings_for side d) t
-all_come d side t listed is =
-    let all = all_leaving side d in
-    ap (λ (xs : List Arrival). way_sent_at d side t none_sent all ++ xs) is ∙ sym (landing-append (copies_among (delayed_behind d side none_sent all)) (injected_to side d) t)
-
 pub starts : (d : Document) (side : Side) (times : List Ticks) (w : Way) → IsDocument d → w.deliveries ≡ d → w.side ≡ side → injections_in w.injections.items ≡ injections_to side d
     → times ≡ map time_of (injections_in w.injections.items) → ((t : ℤ) → at_time t w.listed ≡ at_time t (enumerated times)) → All (IsPlaced times) w.listed → w.in_flight ≡ []
-    → IsTally none_sent w.tally → Waits d side first_clock first_clock none_sent (all_leaving side d) w
-starts d side times w doc deliveries unit injections are same placed empty tally = record {
+    → IsTally none_sent w.tally → (now : ℤ) → now ≤ℤ pos 0 → StandsFor (nothing_sent d side) now w
+starts d side times w doc deliveries unit injections are same placed empty tally now early = record {
   read = doc;
   document = deliveries;
   unit = unit;
   injections = injections;
   tally = tally;
-  lands = λ t low.
-      ap (λ (fs : List Flying). flying_at t fs ++ (way_sent_at d side t none_sent (all_leaving side d) ++ landings_left d side t w.listed)) empty
-      ∙ all_come d side t (landings_left d side t w.listed) (left_listed d side times w.injections.items w.listed are injections same t);
-  list = listed_from times w.injections.items w.listed are (times_to d side w.injections.items doc injections) placed;
-  flying = subst (AreFlyingFrom first_clock) (sym empty) (All-nil _);
+  flies = λ t low. ap (flying_at t) empty ∙ sym (ap (λ (xs : List Delayed). landing_at (copies_among xs) t) (none_behind d side none_sent));
+  waits = λ t low. left_listed d side times w.injections.items w.listed are injections same t;
+  list = listed_from now times w.injections.items w.listed early are (times_to d side w.injections.items doc injections) placed;
+  flying = subst (AreFlyingFrom now) (sym empty) (All-nil _);
   order = subst IsInOrder (sym empty) tt;
   sent = subst (All (IsSentBefore side w.place 0)) (sym empty) (All-nil _);
 }
 
 -- ---- a frame is sent
 
-first_lands : (d : Document) (side : Side) (t : ℤ) (n : SentCounts) (f : Leaving) (left : List Leaving)
-    → way_sent_at d side t n (f ∷ left) ≡ landing_at (copies_in (delayed d side (counted f.class n) f)) t ++ way_sent_at d side t (counted f.class n) left
-unfolding delayed_behind
-first_lands d side t n f left =
-    let m = counted f.class n in landing-append (copies_in (delayed d side m f)) (copies_among (delayed_behind d side m left)) t
-
-moved : (a b e f : List Arrival) → (a ++ b) ++ (e ++ f) ≡ a ++ ((b ++ e) ++ f)
-moved a b e f = append_assoc a b (e ++ f) ∙ ap (λ (xs : List Arrival). a ++ xs) (sym (append_assoc b e f))
-
 -- what left, as it was put in flight
-pub record HasLeft (d : Document) (side : Side) (m : SentCounts) (f : Leaving) (w v : Way) : Type 0 where
+pub record HasLeft (d : Document) (side : Side) (m : SentCounts) (f : Leaving) (w x : Way) : Type 0 where
   pub departure : Departure
-  pub frame : List ℕ
   pub delays : List ℤ
   pub unit : departure.side ≡ w.side
   pub at : departure.at.0 ≡ f.at
   pub place : departure.place ≡ w.place
-  pub bytes : frame ≡ f.frame
-  pub short : length frame < 2 ^ 32
+  pub short : length f.frame < 2 ^ 32
   pub times : delays ≡ (delayed d side m f).delays
-  pub put : v.in_flight ≡ put_all (flying_copies departure frame 0 delays) w.in_flight
-  pub same : IsSameBut w v
-  pub listed : v.listed ≡ w.listed
-  pub tally : IsTally m v.tally
-  pub next : v.place ≡ w.place + 1
+  pub put : x.in_flight ≡ put_all (flying_copies departure f.frame 0 delays) w.in_flight
+  pub same : IsSameBut w x
+  pub listed : x.listed ≡ w.listed
+  pub tally : IsTally m x.tally
+  pub next : x.place ≡ w.place + 1
 
-copies_same : (d : Document) (side : Side) (m : SentCounts) (f : Leaving) (w v : Way) (g : HasLeft d side m f w v) → copies_from g.departure g.frame g.delays ≡ copies_in (delayed d side m f)
-copies_same d side m f w v g =
-    ap₂ (λ (at : ℤ) (bytes : List ℕ). map (λ (ns : ℤ). arrival_at (at +ℤ (ns *ℤ pos NANOSECOND)) bytes) g.delays) g.at g.bytes
+copies_same : (d : Document) (side : Side) (m : SentCounts) (f : Leaving) (w x : Way) (g : HasLeft d side m f w x) → copies_from g.departure f.frame g.delays ≡ copies_in (delayed d side m f)
+copies_same d side m f w x g =
+    ap (λ (at : ℤ). map (λ (ns : ℤ). arrival_at (at +ℤ (ns *ℤ pos NANOSECOND)) f.frame) g.delays) g.at
     ∙ ap (λ (ns : List ℤ). map (λ (n : ℤ). arrival_at (f.at +ℤ (n *ℤ pos NANOSECOND)) f.frame) ns) g.times
 
-pub goes_out : (d : Document) (side : Side) (now from : ℤ) (n : SentCounts) (f : Leaving) (rest : List Leaving) (w v : Way) → ComesFrom d side now n f → Waits d side now from n (f ∷ rest) w
-    → HasLeft d side (counted f.class n) f w v → Waits d side now from (counted f.class n) rest v
-goes_out d side now from n f rest w v come h g =
-    let m = counted f.class n in
-    let x = g.departure in
-    let unit : side ≡ x.side = sym (g.unit ∙ h.unit) in
-    let sent : All (IsSentBefore x.side x.place 0) w.in_flight
-    = subst (λ (s : Side). All (IsSentBefore s x.place 0) w.in_flight) unit (subst (λ (p : ℕ). All (IsSentBefore side p 0) w.in_flight) (sym g.place) h.sent) in
-    let after = put_all (flying_copies x g.frame 0 g.delays) w.in_flight in
-    let puts = are_put x g.frame 0 g.delays w.in_flight g.short h.order sent in
-    let later : All (λ (a : Arrival). now ≤ℤ a.at) (copies_from x g.frame g.delays) = subst (All (λ (a : Arrival). now ≤ℤ a.at)) (sym (copies_same d side m f w v g)) come in
-    let place : v.place ≡ x.place + 1 = g.next ∙ ap (λ (p : ℕ). p + 1) (sym g.place) in
+pub goes_out : (v : OnWay) (now : ℤ) (f : Leaving) (w x : Way) → LandsFrom now f.at f.class → StandsFor v now w
+    → HasLeft v.document v.side (counted f.class (counts_on v)) f w x → StandsFor (having_sent v f) now x
+goes_out v now f w x lands h g =
+    let d = v.document in
+    let m = counted f.class (counts_on v) in
+    let y = g.departure in
+    let come = all_come d v.side now (counts_on v) f h.read lands in
+    let unit : v.side ≡ y.side = sym (g.unit ∙ h.unit) in
+    let sent : All (IsSentBefore y.side y.place 0) w.in_flight
+    = subst (λ (s : Side). All (IsSentBefore s y.place 0) w.in_flight) unit (subst (λ (p : ℕ). All (IsSentBefore v.side p 0) w.in_flight) (sym g.place) h.sent) in
+    let after = put_all (flying_copies y f.frame 0 g.delays) w.in_flight in
+    let puts = are_put y f.frame 0 g.delays w.in_flight g.short h.order sent in
+    let same = copies_same d v.side m f w x g in
+    let later : All (λ (a : Arrival). now ≤ℤ a.at) (copies_from y f.frame g.delays) = subst (All (λ (a : Arrival). now ≤ℤ a.at)) (sym same) come in
+    let place : x.place ≡ y.place + 1 = g.next ∙ ap (λ (p : ℕ). p + 1) (sym g.place) in
     record {
       read = h.read;
       document = g.same.deliveries ∙ h.document;
       unit = g.same.unit ∙ h.unit;
       injections = ap (λ v. injections_in v.items) g.same.injections ∙ h.injections;
-      tally = g.tally;
-      lands = λ t low.
-          ap₂ (λ (fs : List Flying) q. flying_at t fs ++ (way_sent_at d side t m rest ++ landings_left d side t q)) g.put g.listed
-          ∙ ap (λ (xs : List Arrival). xs ++ (way_sent_at d side t m rest ++ landings_left d side t w.listed)) (puts.flying t)
-          ∙ ap (λ (xs : List Arrival). (flying_at t w.in_flight ++ landing_at xs t) ++ (way_sent_at d side t m rest ++ landings_left d side t w.listed)) (copies_same d side m f w v g)
-          ∙ moved (flying_at t w.in_flight) (landing_at (copies_in (delayed d side m f)) t) (way_sent_at d side t m rest) (landings_left d side t w.listed)
-          ∙ ap (λ (xs : List Arrival). flying_at t w.in_flight ++ (xs ++ landings_left d side t w.listed)) (sym (first_lands d side t n f rest))
-          ∙ h.lands t low;
+      tally = subst (λ (n : SentCounts). IsTally n x.tally) (sym (counted_one v f)) g.tally;
+      flies = λ t low.
+          ap (flying_at t) g.put
+          ∙ puts.flying t
+          ∙ ap₂ (λ (xs ys : List Arrival). xs ++ landing_at ys t) (h.flies t low) same
+          ∙ sym (copies_more v f t);
+      waits = λ t low. ap (landings_left d v.side t) g.listed ∙ h.waits t low;
       list = subst (AreFrom now) (sym g.listed) h.list;
-      flying = subst (AreFlyingFrom now) (sym g.put) (put_later now x g.frame 0 g.delays w.in_flight later h.flying);
+      flying = subst (AreFlyingFrom now) (sym g.put) (put_later now y f.frame 0 g.delays w.in_flight later h.flying);
       order = subst IsInOrder (sym g.put) puts.order;
-      sent = subst (λ (fs : List Flying). All (IsSentBefore side v.place 0) fs) (sym g.put)
-          (subst (λ (s : Side). All (IsSentBefore s v.place 0) after) (sym unit) (subst (λ (p : ℕ). All (IsSentBefore x.side p 0) after) (sym place) puts.sent));
+      sent = subst (λ (fs : List Flying). All (IsSentBefore v.side x.place 0) fs) (sym g.put)
+          (subst (λ (s : Side). All (IsSentBefore s x.place 0) after) (sym unit) (subst (λ (p : ℕ). All (IsSentBefore y.side p 0) after) (sym place) puts.sent));
     }
+
+-- ---- a tick begins
+
+-- what lands at a tick
+landing_is : (v : OnWay) (t : ℤ) → landing_at (landings_on v) t ≡ landing_at (copies_on v) t ++ landing_at (injected_to v.side v.document) t
+landing_is v t = landing-append (copies_on v) (injected_to v.side v.document) t
+
+-- is on its way
+pub comes_at : (v : OnWay) (now from t : ℤ) (w : Way) → Keeps v now from w → from ≤ℤ t → landing_at (landings_on v) t ≡ coming_at v t w
+comes_at v now from t w h low = landing_is v t ∙ sym (ap₂ (λ (xs ys : List Arrival). xs ++ ys) (h.flies t low) (h.waits t low))
+
+keeps_from : (v : OnWay) (now from later : ℤ) (w : Way) → from ≤ℤ later → Keeps v now from w → Keeps v now later w
+keeps_from v now from later w order h = record {
+  read = h.read;
+  document = h.document;
+  unit = h.unit;
+  injections = h.injections;
+  tally = h.tally;
+  flies = λ t low. h.flies t (at_most from later t order low);
+  waits = λ t low. h.waits t (at_most from later t order low);
+  list = h.list;
+  flying = h.flying;
+  order = h.order;
+  sent = h.sent;
+}
+
+-- so none of it has landed
+pub none_landed : (v : OnWay) (tick : ℤ) (w : Way) → StandsFor v tick w → Lands v tick [] w
+none_landed v tick w h = record {
+  keeps = keeps_from v tick tick (tick +ℤ pos 1) w (next_is_later tick) h;
+  parts = comes_at v tick tick tick w h (≤ℤ_refl tick);
+}
 
 -- ---- the next frame of a tick lands
 
--- one that was sent
-pub sent_lands : (d : Document) (side : Side) (tick : Ticks) (n : SentCounts) (left : List Leaving) (a : Flying) (w v : Way) → IsSameBut w v → v.tally ≡ w.tally → v.place ≡ w.place → v.listed ≡ w.listed
-    → w.in_flight ≡ a ∷ v.in_flight → a.at.0 ≤ℤ tick.0 → Waits d side tick.0 (tick.0 +ℤ pos 1) n left w → IsLanded d side tick.0 n left (Sent a.frame) w v
-sent_lands d side tick n left a w v same tally place listed is due h =
-    let flying : AreFlyingFrom tick.0 (a ∷ v.in_flight) = subst (AreFlyingFrom tick.0) is h.flying in
-    let sent : All (IsSentBefore side w.place 0) (a ∷ v.in_flight) = subst (All (IsSentBefore side w.place 0)) is h.sent in
-    let at : a.at.0 ≡ tick.0 = same_tick a.at.0 tick.0 (All-head (λ (x : Flying). tick.0 ≤ℤ x.at.0) a v.in_flight flying) due in
+lands_next : (v : OnWay) (tick : ℤ) (gone : List Arrival) (f : Landed) (w x : Way) → Lands v tick gone w → coming_at v tick w ≡ arrival_at tick (bytes_of f) ∷ coming_at v tick x
+    → length (bytes_of f) < 2 ^ 32 → Keeps v tick (tick +ℤ pos 1) x → LandsNext v tick gone f x
+lands_next v tick gone f w x h first short keeps =
+    let a = arrival_at tick (bytes_of f) in
+    let all = h.parts ∙ ap (λ (xs : List Arrival). gone ++ xs) first in
     record {
-      first =
-          ap (λ (fs : List Flying). flying_at tick.0 fs ++ landings_left d w.side tick.0 w.listed) is
-          ∙ ap (λ (xs : List Arrival). xs ++ landings_left d w.side tick.0 w.listed) (flying_here tick.0 a v.in_flight at)
-          ∙ ap₂ (λ (s : Side) q. arrival_at tick.0 a.frame ∷ (flying_at tick.0 v.in_flight ++ landings_left d s tick.0 q)) (sym same.unit) (sym listed);
-      short = (All-head (IsSentBefore side w.place 0) a v.in_flight sent).short;
-      waits = record {
-        read = h.read;
-        document = same.deliveries ∙ h.document;
-        unit = same.unit ∙ h.unit;
-        injections = ap (λ v. injections_in v.items) same.injections ∙ h.injections;
-        tally = subst (IsTally n) (sym tally) h.tally;
-        lands = λ t low.
-            ap (λ q. flying_at t v.in_flight ++ (way_sent_at d side t n left ++ landings_left d side t q)) listed
-            ∙ ap (λ (xs : List Arrival). xs ++ (way_sent_at d side t n left ++ landings_left d side t w.listed)) (sym (ap (flying_at t) is ∙ flying_later tick.0 t a v.in_flight at low))
-            ∙ h.lands t low;
-        list = subst (AreFrom tick.0) (sym listed) h.list;
-        flying = All-tail (λ (x : Flying). tick.0 ≤ℤ x.at.0) a v.in_flight flying;
-        order = (subst IsInOrder is h.order).1;
-        sent = subst (λ (p : ℕ). All (IsSentBefore side p 0) v.in_flight) (sym place) (All-tail (IsSentBefore side w.place 0) a v.in_flight sent);
-      };
+      short = short;
+      comes = coming_at v tick x;
+      there = all;
+      lands = record { keeps = keeps; parts = all ∙ sym (append_assoc gone (a ∷ []) (coming_at v tick x)) };
     }
+
+-- one that was sent
+pub sent_lands : (v : OnWay) (tick : Ticks) (gone : List Arrival) (a : Flying) (w x : Way) → IsSameBut w x → x.tally ≡ w.tally → x.place ≡ w.place → x.listed ≡ w.listed
+    → w.in_flight ≡ a ∷ x.in_flight → a.at.0 ≤ℤ tick.0 → Lands v tick.0 gone w → LandsNext v tick.0 gone (Sent a.frame) x
+sent_lands v tick gone a w x same tally place listed is due l =
+    let h = l.keeps in
+    let d = v.document in
+    let flying : AreFlyingFrom tick.0 (a ∷ x.in_flight) = subst (AreFlyingFrom tick.0) is h.flying in
+    let sent : All (IsSentBefore v.side w.place 0) (a ∷ x.in_flight) = subst (All (IsSentBefore v.side w.place 0)) is h.sent in
+    let at : a.at.0 ≡ tick.0 = same_tick a.at.0 tick.0 (All-head (λ (y : Flying). tick.0 ≤ℤ y.at.0) a x.in_flight flying) due in
+    lands_next v tick.0 gone (Sent a.frame) w x l
+    (ap₂ (λ (xs ys : List Arrival). xs ++ ys) (ap (flying_at tick.0) is ∙ flying_here tick.0 a x.in_flight at) (ap (landings_left d v.side tick.0) (sym listed)))
+    (All-head (IsSentBefore v.side w.place 0) a x.in_flight sent).short
+    (record {
+      read = h.read;
+      document = same.deliveries ∙ h.document;
+      unit = same.unit ∙ h.unit;
+      injections = ap (λ v. injections_in v.items) same.injections ∙ h.injections;
+      tally = subst (IsTally (counts_on v)) (sym tally) h.tally;
+      flies = λ t low. sym (ap (flying_at t) is ∙ flying_later tick.0 t a x.in_flight at low) ∙ h.flies t low;
+      waits = λ t low. ap (landings_left d v.side t) listed ∙ h.waits t low;
+      list = subst (AreFrom tick.0) (sym listed) h.list;
+      flying = All-tail (λ (y : Flying). tick.0 ≤ℤ y.at.0) a x.in_flight flying;
+      order = (subst IsInOrder is h.order).1;
+      sent = subst (λ (p : ℕ). All (IsSentBefore v.side p 0) x.in_flight) (sym place) (All-tail (IsSentBefore v.side w.place 0) a x.in_flight sent);
+    })
 
 -- none in flight is of the tick, and one of the document lands
-pub listed_lands : (d : Document) (side : Side) (tick : Ticks) (n : SentCounts) (left : List Leaving) (index : ℕ) (r : Bor Injection) (bytes : Bor (List ℕ)) (w v : Way) → IsSameBut w v → v.tally ≡ w.tally
-    → v.place ≡ w.place → v.in_flight ≡ w.in_flight → All (λ (a : Flying). tick.0 <ℤ a.at.0) w.in_flight → w.listed ≡ landing_of tick index ∷ v.listed → slice_get w.injections.items index ≡ Some r
-    → bytes.now ≡ r.now.frame → Waits d side tick.0 (tick.0 +ℤ pos 1) n left w → IsLanded d side tick.0 n left (Listed bytes) w v
-listed_lands d side tick n left index r bytes w v same tally place flying later is found lent h =
-    let here = lent_at d side w.injections.items index r h.injections found in
-    let frame : frame_at d w.side index ≡ bytes.now = ap (λ (s : Side). frame_at d s index) h.unit ∙ ap injected_frame here ∙ sym lent in
+pub listed_lands : (v : OnWay) (tick : Ticks) (gone : List Arrival) (index : ℕ) (r : Bor Injection) (bytes : Bor (List ℕ)) (w x : Way) → IsSameBut w x → x.tally ≡ w.tally
+    → x.place ≡ w.place → x.in_flight ≡ w.in_flight → All (λ (a : Flying). tick.0 <ℤ a.at.0) w.in_flight → w.listed ≡ landing_of tick index ∷ x.listed → slice_get w.injections.items index ≡ Some r
+    → bytes.now ≡ r.now.frame → Lands v tick.0 gone w → LandsNext v tick.0 gone (Listed bytes) x
+listed_lands v tick gone index r bytes w x same tally place flying later is found lent l =
+    let h = l.keeps in
+    let d = v.document in
+    let here = lent_at d v.side w.injections.items index r h.injections found in
+    let frame : frame_at d v.side index ≡ bytes.now = ap injected_frame here ∙ sym lent in
     let none : flying_at tick.0 w.in_flight ≡ [] = flying_none tick.0 w.in_flight (later_from tick.0 w.in_flight later) in
-    record {
-      first =
-          ap (λ (xs : List Arrival). xs ++ landings_left d w.side tick.0 w.listed) none
-          ∙ left_first d w.side tick index w.listed v.listed is
-          ∙ ap (λ (xs : List ℕ). arrival_at tick.0 xs ∷ landings_left d w.side tick.0 v.listed) frame
-          ∙ ap (λ (xs : List Arrival). arrival_at tick.0 bytes.now ∷ (xs ++ landings_left d w.side tick.0 v.listed)) (sym (ap (flying_at tick.0) flying ∙ none))
-          ∙ ap (λ (s : Side). arrival_at tick.0 bytes.now ∷ (flying_at tick.0 v.in_flight ++ landings_left d s tick.0 v.listed)) (sym same.unit);
-      short = subst (λ (xs : List ℕ). length xs < 2 ^ 32) (sym lent) (short_at d side index r.now h.read here);
-      waits = record {
-        read = h.read;
-        document = same.deliveries ∙ h.document;
-        unit = same.unit ∙ h.unit;
-        injections = ap (λ v. injections_in v.items) same.injections ∙ h.injections;
-        tally = subst (IsTally n) (sym tally) h.tally;
-        lands = λ t low.
-            ap (λ (fs : List Flying). flying_at t fs ++ (way_sent_at d side t n left ++ landings_left d side t v.listed)) flying
-            ∙ ap (λ (xs : List Arrival). flying_at t w.in_flight ++ (way_sent_at d side t n left ++ xs)) (sym (left_later d side t tick index w.listed v.listed is low))
-            ∙ h.lands t low;
-        list = taken_all (λ l. tick.0 ≤ℤ l.at.0) (landing_of tick index) w.listed v.listed is h.list;
-        flying = subst (AreFlyingFrom tick.0) (sym flying) h.flying;
-        order = subst IsInOrder (sym flying) h.order;
-        sent = subst (λ (p : ℕ). All (IsSentBefore side p 0) v.in_flight) (sym place) (subst (All (IsSentBefore side w.place 0)) (sym flying) h.sent);
-      };
-    }
+    lands_next v tick.0 gone (Listed bytes) w x l
+    (ap₂ (λ (xs ys : List Arrival). xs ++ ys) none (left_first d v.side tick index w.listed x.listed is ∙ ap (λ (xs : List ℕ). arrival_at tick.0 xs ∷ landings_left d v.side tick.0 x.listed) frame)
+    ∙ ap (λ (xs : List Arrival). arrival_at tick.0 bytes.now ∷ (xs ++ landings_left d v.side tick.0 x.listed)) (sym (ap (flying_at tick.0) flying ∙ none)))
+    (subst (λ (xs : List ℕ). length xs < 2 ^ 32) (sym lent) (short_at d v.side index r.now h.read here))
+    (record {
+      read = h.read;
+      document = same.deliveries ∙ h.document;
+      unit = same.unit ∙ h.unit;
+      injections = ap (λ v. injections_in v.items) same.injections ∙ h.injections;
+      tally = subst (IsTally (counts_on v)) (sym tally) h.tally;
+      flies = λ t low. ap (flying_at t) flying ∙ h.flies t low;
+      waits = λ t low. sym (left_later d v.side t tick index w.listed x.listed is low) ∙ h.waits t low;
+      list = taken_all (λ l. tick.0 ≤ℤ l.at.0) (landing_of tick index) w.listed x.listed is h.list;
+      flying = subst (AreFlyingFrom tick.0) (sym flying) h.flying;
+      order = subst IsInOrder (sym flying) h.order;
+      sent = subst (λ (p : ℕ). All (IsSentBefore v.side p 0) x.in_flight) (sym place) (subst (All (IsSentBefore v.side w.place 0)) (sym flying) h.sent);
+    })
 
 -- none is left
-pub none_lands : (d : Document) (side : Side) (tick : Ticks) (n : SentCounts) (left : List Leaving) (w v : Way) → IsSameBut w v → v.tally ≡ w.tally → v.place ≡ w.place → v.in_flight ≡ w.in_flight
-    → All (λ (a : Flying). tick.0 <ℤ a.at.0) w.in_flight → v.listed ≡ w.listed → AreRising v.listed → first_time w.listed ≢ Some tick → Waits d side tick.0 (tick.0 +ℤ pos 1) n left w
-    → IsTickOver d side tick.0 n left w v
-none_lands d side tick n left w v same tally place flying later listed up other h =
+pub none_lands : (v : OnWay) (tick : Ticks) (gone : List Arrival) (w x : Way) → IsSameBut w x → x.tally ≡ w.tally → x.place ≡ w.place → x.in_flight ≡ w.in_flight
+    → All (λ (a : Flying). tick.0 <ℤ a.at.0) w.in_flight → x.listed ≡ w.listed → AreRising x.listed → first_time w.listed ≢ Some tick → Lands v tick.0 gone w → HasLanded v tick.0 gone x
+none_lands v tick gone w x same tally place flying later listed up other l =
+    let h = l.keeps in
+    let d = v.document in
     let empty : AreFlyingFrom (tick.0 +ℤ pos 1) w.in_flight = later_from tick.0 w.in_flight later in
     let wait : AreFrom (tick.0 +ℤ pos 1) w.listed = refused_from tick w.listed h.list (subst AreRising listed up) other in
     record {
-      none = ap₂ (λ (xs ys : List Arrival). xs ++ ys) (flying_none tick.0 w.in_flight empty) (left_none d w.side tick.0 w.listed wait);
-      waits = record {
+      all = l.parts ∙ ap₂ (λ (xs ys : List Arrival). gone ++ (xs ++ ys)) (flying_none tick.0 w.in_flight empty) (left_none d v.side tick.0 w.listed wait) ∙ append-nil gone;
+      stands = record {
         read = h.read;
         document = same.deliveries ∙ h.document;
         unit = same.unit ∙ h.unit;
         injections = ap (λ v. injections_in v.items) same.injections ∙ h.injections;
-        tally = subst (IsTally n) (sym tally) h.tally;
-        lands = λ t low. ap₂ (λ (fs : List Flying) q. flying_at t fs ++ (way_sent_at d side t n left ++ landings_left d side t q)) flying listed ∙ h.lands t low;
+        tally = subst (IsTally (counts_on v)) (sym tally) h.tally;
+        flies = λ t low. ap (flying_at t) flying ∙ h.flies t low;
+        waits = λ t low. ap (landings_left d v.side t) listed ∙ h.waits t low;
         list = subst (AreFrom (tick.0 +ℤ pos 1)) (sym listed) wait;
         flying = subst (AreFlyingFrom (tick.0 +ℤ pos 1)) (sym flying) empty;
         order = subst IsInOrder (sym flying) h.order;
-        sent = subst (λ (p : ℕ). All (IsSentBefore side p 0) v.in_flight) (sym place) (subst (All (IsSentBefore side w.place 0)) (sym flying) h.sent);
+        sent = subst (λ (p : ℕ). All (IsSentBefore v.side p 0) x.in_flight) (sym place) (subst (All (IsSentBefore v.side w.place 0)) (sym flying) h.sent);
       };
     }

@@ -17,8 +17,8 @@ use std::alloc::Global;
 
 /// One direction of the fronthaul: what is on its way to a unit.
 ///
-/// Its contracts say of each document, and of each list of frames that are still to be sent, how the way stands to them (`Waits` of
-/// `specs/Ways.antt`), and how it stands after a call.
+/// Its contracts say of each list of frames that were sent, for which it stands, for which it stands after a call (`StandsFor` of
+/// `specs/Ways.antt`): what lands of them, and of what the document injects, is `landings_on`.
 #[derive(Drop)]
 pub struct Way<'a> {
     side: Side,
@@ -35,16 +35,13 @@ pub struct Way<'a> {
 }
 
 impl<'a> Way<'a> {
-    ghost use Rattle.std.specs.Prelude.{◌≡◌, ◌≤ℤ◌, ◌+ℤ◌, ◌^◌, ℤ, List, ◌∷◌, pos, IfOk, IfSome, OnOk, MatchOption};
-    ghost use Rattle.measured_traffic.specs.Replayed.{all_leaving};
-    ghost use Rattle.measured_traffic.specs.document_traffic.specs.Sending.{Leaving, SentCounts, counted, none_sent};
-    ghost use Rattle.measured_traffic.specs.fh_document.specs.Proper.{IsDocument};
-    ghost use Rattle.measured_traffic.specs.fh_document.specs.declared.document.Document.{Document as SpecDocument};
-    ghost use Rattle.air_source.specs.declared.events.Side.{Side as SpecSide};
-    ghost use Rattle.measured_traffic.specs.replay_events.specs.Moments.{end_of_time};
+    ghost use Rattle.std.specs.Prelude.{◌≡◌, ◌≤ℤ◌, ◌^◌, ℤ, List, pos, IfOk, IfSome, OnOk, MatchOption};
+    ghost use Rattle.frame_deliveries.specs.fh_document.specs.Proper.{IsDocument};
+    ghost use Rattle.unit_model.specs.Meetings.{Arrival};
+    ghost use Rattle.unit_model.specs.Radiated.{first_clock};
+    ghost use Rattle.unit_model.specs.Times.{end_of_time};
     ghost use Rattle.fh_time.specs.Least.{IsLeastOf};
-    ghost use Rattle.ru_buffers.specs.unit_model.specs.Radiated.{first_clock};
-    ghost use Rattle.frame_ways.specs.Ways.{ComesFrom, IsEmptyTo, IsLanded, IsTickOver, Waits, document_of, frames_on_way};
+    ghost use Rattle.frame_ways.specs.Ways.{HasLanded, IsCalmTo, Lands, LandsFrom, LandsNext, OnWay, StandsFor, document_of, frames_on_way, having_sent, landings_on, leaving_as, nothing_sent};
 
     /// The way to a unit: nothing was sent, and all frames that the document injects to the unit wait for their times.
     ///
@@ -53,7 +50,7 @@ impl<'a> Way<'a> {
     /// [`NoMemory`] where memory runs out.
     pub fn make(alloc: Global, doc: &'a Document, side: Side) -> Result<Way<'a>, NoMemory>
         requires { IsDocument doc.now }
-        ensures { IfOk result (λ w. Waits doc.now side first_clock first_clock none_sent (all_leaving side doc.now) w) }
+        ensures { IfOk result (λ w. (now : ℤ) → now ≤ℤ pos 0 → StandsFor (nothing_sent doc.now side) now w) }
     {
         let deliveries = FrameDeliveries::make(alloc, doc)?;
         let times = times_to(alloc, doc, side)?;
@@ -93,9 +90,8 @@ impl<'a> Way<'a> {
         requires ended { at.0 ≤ℤ end_of_time }
         requires short { length frame.now < 2 ^ 32 }
         requires document { IsDocument (document_of self.old) }
-        ensures sent { (d : SpecDocument) (side : SpecSide) (now from : ℤ) (n : SentCounts) (f : Leaving) (rest : List Leaving)
-            → now ≤ℤ from → ComesFrom d side now n f → at.0 ≡ f.at → class ≡ f.class → frame.now ≡ f.frame
-            → Waits d side now from n (f ∷ rest) self.old → OnOk result (Waits d side now from (counted f.class n) rest self.new) }
+        ensures sent { (v : OnWay) (now : ℤ) → LandsFrom now at.0 class → StandsFor v now self.old
+            → OnOk result (StandsFor (having_sent v (leaving_as at.0 class frame.now)) now self.new) }
         ensures document { document_of self.new ≡ document_of self.old }
     {
         let copy = pool.copy_of(frame)?;
@@ -118,9 +114,8 @@ impl<'a> Way<'a> {
         requires ended { at.0 ≤ℤ end_of_time }
         requires short { length frame < 2 ^ 32 }
         requires document { IsDocument (document_of self.old) }
-        ensures sent { (d : SpecDocument) (side : SpecSide) (now from : ℤ) (n : SentCounts) (f : Leaving) (rest : List Leaving)
-            → now ≤ℤ from → ComesFrom d side now n f → at.0 ≡ f.at → class ≡ f.class → frame ≡ f.frame
-            → Waits d side now from n (f ∷ rest) self.old → OnOk result (Waits d side now from (counted f.class n) rest self.new) }
+        ensures sent { (v : OnWay) (now : ℤ) → LandsFrom now at.0 class → StandsFor v now self.old
+            → OnOk result (StandsFor (having_sent v (leaving_as at.0 class frame)) now self.new) }
         ensures document { document_of self.new ≡ document_of self.old }
     {
         let Some(next) = self.place.checked_add(1) else {
@@ -140,7 +135,7 @@ impl<'a> Way<'a> {
 
     /// The next time at which a frame lands, in ticks. None where none is on its way.
     pub fn next_time(&self) -> Option<Ticks>
-        ensures { IsLeastOf (IsEmptyTo self.now) result }
+        ensures { (v : OnWay) (now : ℤ) → StandsFor v now self.now → IsLeastOf (IsCalmTo (landings_on v) now) result }
     {
         earlier_of(self.listed.next_time(), self.in_flight.next_time())
     }
@@ -148,8 +143,8 @@ impl<'a> Way<'a> {
     /// The next frame that lands at a tick: first those that were sent, in the order in which they were sent and then by copy, then the
     /// document's, in its order. None where none is left.
     pub fn next_at(&mut self, tick: Ticks) -> Option<Landed<'a>>
-        ensures next { (d : SpecDocument) (side : SpecSide) (n : SentCounts) (left : List Leaving) → Waits d side tick.0 (tick.0 +ℤ pos 1) n left self.old
-            → MatchOption result (IsTickOver d side tick.0 n left self.old self.new) (λ f. IsLanded d side tick.0 n left f self.old self.new) }
+        ensures next { (v : OnWay) (gone : List Arrival) → Lands v tick.0 gone self.old
+            → MatchOption result (HasLanded v tick.0 gone self.new) (λ f. LandsNext v tick.0 gone f self.new) }
         ensures document { document_of self.new ≡ document_of self.old }
         ensures fewer { IfSome result (λ f. frames_on_way self.new < frames_on_way self.old) }
     {

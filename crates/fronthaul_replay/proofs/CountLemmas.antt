@@ -1,5 +1,5 @@
 -- The counters at the end.
-use Rattle.std.proofs.Common.{◌≡◌, ℕ, ℤ, pos, ◌+ℤ◌, ◌-ℤ◌, ◌≤ℤ◌, ◌==◌, ◌<◌, ◌≤◌, ◌+◌, suc, Bool, true, false, List, [], ◌∷◌, ◌++◌, take, take-suc, drop, length, get_or, refl, sym, ap, ap₂, ◌∙◌, subst, arith, append_assoc, append-nil}
+use Rattle.std.proofs.Common.{◌≡◌, ℕ, ℤ, pos, ◌+ℤ◌, ◌-ℤ◌, ◌==◌, ◌<◌, ◌≤◌, ◌+◌, suc, Bool, true, false, List, [], ◌∷◌, ◌++◌, take, take-suc, drop, length, get_or, refl, sym, ap, ap₂, ◌∙◌, subst, arith, append_assoc, append-nil}
 use Rattle.std.specs.Prelude.{cond, if◌then◌else◌}
 use Rattle.std.specs.List.{flat_map, AllByRecursion}
 use Rattle.std.proofs.lemmas.Bool.Decides.{nat_tests}
@@ -11,35 +11,35 @@ use Rattle.capture_air.specs.air_source.specs.declared.events.Event.TheVariants.
 use Rattle.capture_air.specs.air_source.specs.declared.events.Side.{Side}
 use Rattle.capture_air.specs.air_source.specs.declared.events.Side.TheVariants.{Ru as AtRu, Du as AtDu}
 use Rattle.capture_air.specs.air_source.proofs.Stops.{parted, stops_early, stops_later}
-use Rattle.intake_moments.specs.du_intake.specs.Units.{intake_due_of as intake_due}
-use Rattle.intake_moments.specs.du_intake.specs.declared.unit.Intake.{Intake}
+use Rattle.du_intake.specs.Units.{intake_due_of as intake_due}
+use Rattle.du_intake.specs.declared.unit.Intake.{Intake}
 use Rattle.fault_counters.specs.Counts.{capped, count_of, times}
 use Rattle.fault_counters.specs.Names.{all_counters}
 use Rattle.fault_counters.specs.declared.kinds.Counter.{Counter}
-use Rattle.intake_moments.specs.fh_document.specs.declared.document.Document.{Document}
-use Rattle.intake_moments.specs.Turns.{AtIntakeTurn, planned_for}
-use Rattle.intake_moments.proofs.NextLemmas.{intake_over}
-use Rattle.intake_moments.specs.measured_traffic.specs.Replayed.{doings_at, landings_for, traffic_of}
-use Rattle.intake_moments.specs.measured_traffic.specs.Doings.{Doings}
-use Rattle.intake_moments.specs.document_traffic.specs.Landing.{jobs_for}
-use Rattle.intake_moments.specs.document_traffic.specs.Laws.{IsReplayable}
-use Rattle.intake_moments.specs.measured_traffic.proofs.OverLemmas.{documents_are_over}
-use Rattle.intake_moments.specs.measured_traffic.proofs.SentLemmas.{messages_are_owed}
-use Rattle.intake_moments.specs.radio_moments.specs.Turns.{AtRadioTurn, events_before}
-use Rattle.intake_moments.specs.replay_events.specs.Events.{all_counted, count_event, count_events, is_measured, number_of}
-use Rattle.intake_moments.specs.replay_events.specs.Heard.{arrivals_heard, cells_heard}
-use Rattle.intake_moments.specs.replay_events.specs.Moments.{all_arrivals, end_of_time}
-use Rattle.intake_moments.specs.replay_events.specs.Traffic.{landings_at, reported_at}
-use Rattle.intake_moments.specs.replay_events.proofs.HeardLemmas.{arrivals-append, cells-append}
-use Rattle.intake_moments.specs.ru_buffers.specs.Calls.{IsQuietTo}
-use Rattle.intake_moments.specs.ru_buffers.specs.declared.unit.Ru.{Ru}
-use Rattle.intake_moments.specs.unit_model.specs.Counts.{StandAt, cells_counted}
-use Rattle.intake_moments.specs.unit_model.specs.Meetings.{Arrival as Landing}
-use Rattle.intake_moments.specs.unit_model.specs.Reports.{accepted_of, arrivals_counted, du_known, du_reported, ru_known, ru_reported}
-use Rattle.intake_moments.specs.unit_model.specs.Standing.{History, due, still_given}
-use Rattle.intake_moments.specs.unit_model.specs.declared.jobs.UplinkJob.{UplinkJob}
-use Rattle.intake_moments.specs.du_intake.specs.history_laws.proofs.TickLemmas.{last_of_next}
-use Rattle.intake_moments.specs.uplink_turns.specs.Turns.{jobs_until}
+use Rattle.measured_traffic.specs.fh_document.specs.declared.document.Document.{Document}
+use Rattle.replay_turns.specs.IntakeTurns.{AtIntakeTurn, planned_for}
+use Rattle.replay_turns.proofs.NextLemmas.{intake_over}
+use Rattle.measured_traffic.specs.Replayed.{doings_at, landings_for, traffic_of}
+use Rattle.measured_traffic.specs.Doings.{Doings}
+use Rattle.measured_traffic.specs.document_traffic.specs.Landing.{jobs_for}
+use Rattle.measured_traffic.specs.document_traffic.specs.Laws.{IsReplayable}
+use Rattle.measured_traffic.proofs.OverLemmas.{documents_are_over}
+use Rattle.measured_traffic.proofs.SentLemmas.{messages_are_owed}
+use Rattle.replay_turns.specs.Turns.{AtRadioTurn, events_before}
+use Rattle.measured_traffic.specs.replay_events.specs.Events.{all_counted, count_event, count_events, is_measured, number_of}
+use Rattle.measured_traffic.specs.replay_events.specs.Heard.{arrivals_heard, cells_heard}
+use Rattle.measured_traffic.specs.replay_events.specs.Moments.{all_arrivals, end_of_time}
+use Rattle.measured_traffic.specs.replay_events.specs.Traffic.{landings_at, reported_at}
+use Rattle.measured_traffic.specs.replay_events.proofs.HeardLemmas.{arrivals-append, cells-append}
+use Rattle.ru_buffers.specs.Calls.{IsQuietTo}
+use Rattle.ru_buffers.specs.declared.unit.Ru.{Ru}
+use Rattle.measured_traffic.specs.unit_model.specs.Counts.{StandAt, cells_counted}
+use Rattle.measured_traffic.specs.unit_model.specs.Meetings.{Arrival as Landing}
+use Rattle.measured_traffic.specs.unit_model.specs.Reports.{accepted_of, arrivals_counted, du_known, du_reported, ru_known, ru_reported}
+use Rattle.measured_traffic.specs.unit_model.specs.Standing.{History, due, still_given}
+use Rattle.measured_traffic.specs.unit_model.specs.declared.jobs.UplinkJob.{UplinkJob}
+use Rattle.du_intake.specs.history_laws.proofs.TickLemmas.{last_of_next}
+use Rattle.measured_traffic.specs.uplink_turns.specs.Turns.{jobs_until}
 use Rattle.fronthaul_replay.specs.Counting.{told_counts, told_number}
 use Rattle.fronthaul_replay.specs.Replaying.{IsDone, IsInStep, IsIntakeDone, IsRadioDone, StopsInStep, events_of}
 use Rattle.fronthaul_replay.specs.Turns.{AtTurn}
@@ -47,7 +47,7 @@ use Rattle.sum_air.proofs.Whole.{IsCount}
 use Rattle.fronthaul_replay.proofs.Counted.{one_count}
 use Rattle.fronthaul_replay.proofs.StepLemmas.{turn_in_step}
 use Rattle.fronthaul_replay.proofs.StopLemmas.{all_events}
-use Rattle.intake_moments.specs.plan_model.proofs.ListLemmas.{all_join}
+use Rattle.measured_traffic.specs.plan_model.proofs.ListLemmas.{all_join}
 
 -- ---- their events, one after the other
 

@@ -9,20 +9,20 @@ use Rattle.capture_air.specs.air_source.specs.declared.events.Side.{Side}
 use Rattle.capture_air.specs.air_source.specs.declared.events.Side.TheVariants.{Ru, Du}
 use Rattle.fault_counters.specs.Names.{all_counters}
 use Rattle.fault_counters.specs.declared.kinds.Counter.{Counter}
-use Rattle.intake_moments.specs.window_config.specs.declared.config.Config.{Config}
-use Rattle.intake_moments.specs.unit_model.specs.Lists.{each_tick}
-use Rattle.intake_moments.specs.unit_model.specs.Meetings.{Arrival}
-use Rattle.intake_moments.specs.unit_model.specs.Radiated.{first_clock}
-use Rattle.intake_moments.specs.replay_events.proofs.ToldLemmas.{Results, told_kept}
-use Rattle.intake_moments.specs.replay_events.specs.Traffic.{Traffic}
-use Rattle.intake_moments.specs.replay_events.specs.declared.results.DelayResult.{DelayResult}
-use Rattle.intake_moments.specs.replay_events.specs.Moments.{end_of_time, landing_at}
-use Rattle.intake_moments.specs.replay_events.specs.Events.{arrivals_at, arrivals_told, cells_reported_at, events_at, events_between, number_of, count_event, count_events, events, result_event}
-use Rattle.intake_moments.specs.fh_document.specs.declared.document.Document.{Document}
-use Rattle.intake_moments.specs.measured_traffic.specs.Replayed.{traffic_of}
+use Rattle.du_scheduler.specs.window_config.specs.declared.config.Config.{Config}
+use Rattle.measured_traffic.specs.unit_model.specs.Lists.{each_tick}
+use Rattle.measured_traffic.specs.unit_model.specs.Meetings.{Arrival}
+use Rattle.measured_traffic.specs.unit_model.specs.Radiated.{first_clock}
+use Rattle.measured_traffic.specs.replay_events.proofs.ToldLemmas.{Results, told_kept}
+use Rattle.measured_traffic.specs.replay_events.specs.Traffic.{Traffic}
+use Rattle.measured_traffic.specs.replay_events.specs.declared.results.DelayResult.{DelayResult}
+use Rattle.measured_traffic.specs.replay_events.specs.Moments.{end_of_time, landing_at}
+use Rattle.measured_traffic.specs.replay_events.specs.Events.{arrivals_at, arrivals_told, cells_reported_at, events_at, events_between, number_of, count_event, count_events, events, result_event}
+use Rattle.measured_traffic.specs.fh_document.specs.declared.document.Document.{Document}
+use Rattle.measured_traffic.specs.Replayed.{traffic_of}
 use Rattle.fronthaul_replay.specs.Replaying.{events_of}
 use Rattle.sum_air.proofs.Whole.{IsEarlier, IsCount, CountsLast, cells_earlier}
-use Rattle.intake_moments.specs.plan_model.proofs.ListLemmas.{all_join}
+use Rattle.measured_traffic.specs.plan_model.proofs.ListLemmas.{all_join}
 
 results_earlier : (side : Side) (at : ℤ) (results : List DelayResult) → AllByRecursion IsEarlier (map (result_event side at) results)
 results_earlier side at [] = tt

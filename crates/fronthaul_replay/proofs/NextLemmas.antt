@@ -10,38 +10,42 @@ use Rattle.capture_air.specs.air_source.specs.declared.events.Side.TheVariants.{
 use Rattle.capture_air.specs.air_source.specs.declared.places.RePlace.{RePlace}
 use Rattle.bfp_codec.specs.declared.samples.Wide.{Wide}
 use Rattle.sum_air.specs.delay_measure.specs.declared.edge.Edge.{Edge}
-use Rattle.intake_moments.specs.document_traffic.specs.Laws.{IsReplayable}
-use Rattle.intake_moments.specs.du_intake.specs.Calls.{IsIntakeDue}
-use Rattle.intake_moments.specs.du_intake.specs.Units.{intake_due_of as intake_due}
-use Rattle.intake_moments.specs.du_intake.specs.declared.unit.Intake.{Intake}
-use Rattle.intake_moments.specs.fh_document.specs.declared.document.Document.{Document}
+use Rattle.measured_traffic.specs.document_traffic.specs.Laws.{IsReplayable}
+use Rattle.du_intake.specs.Calls.{IsIntakeDue}
+use Rattle.du_intake.specs.Units.{intake_due_of as intake_due}
+use Rattle.du_intake.specs.declared.unit.Intake.{Intake}
+use Rattle.measured_traffic.specs.fh_document.specs.declared.document.Document.{Document}
 use Rattle.fh_time.specs.declared.values.Ticks.{Ticks}
-use Rattle.intake_moments.specs.frame_ways.proofs.TimeLemmas.{earlier_of_both}
-use Rattle.intake_moments.specs.Answers.{AreSilentTo}
-use Rattle.intake_moments.specs.Turns.{planned_for}
-use Rattle.intake_moments.proofs.NextLemmas.{IsStill as AreBothStill, intake_idle, none_due_before, silent_before, still_at_intake, still_between, waits_idle}
-use Rattle.intake_moments.specs.measured_moments.specs.Begins.{BeginNoneTo, MeasuresWait}
-use Rattle.intake_moments.specs.measured_moments.specs.declared.meters.Meters.{Meters}
-use Rattle.intake_moments.specs.measured_moments.proofs.WaitLemmas.{begin_before, measures_wait, none_begins}
-use Rattle.intake_moments.specs.measured_traffic.specs.Replayed.{traffic_of}
-use Rattle.intake_moments.specs.measured_traffic.specs.Turns.{IsQuietBetween}
-use Rattle.intake_moments.specs.radio_moments.specs.Downlink.{IsCalmTo}
-use Rattle.intake_moments.specs.radio_moments.specs.Turns.{events_before}
-use Rattle.intake_moments.specs.radio_moments.proofs.DownLemmas.{calm_before, waits_at}
-use Rattle.intake_moments.specs.radio_moments.proofs.MomentLemmas as radio
-use Rattle.intake_moments.specs.replay_events.specs.Events.{events_at}
-use Rattle.intake_moments.specs.replay_events.specs.Moments.{end_of_time}
-use Rattle.intake_moments.specs.replay_events.specs.Passing.{IsNextMoment, IsUnitMoment}
-use Rattle.intake_moments.specs.replay_events.proofs.EventLemmas.{events_go_on, events_wait}
-use Rattle.intake_moments.specs.ru_buffers.specs.Calls.{IsDue, IsQuietTo}
+use Rattle.frame_ways.proofs.TimeLemmas.{earlier_of_both}
+use Rattle.replay_turns.specs.Up.{NoneComesUp}
+use Rattle.replay_turns.specs.IntakeTurns.{planned_for}
+use Rattle.replay_turns.proofs.NextLemmas.{IsStill as AreBothStill, down_idle, intake_idle, none_due_before, silent_before, still_at_intake, still_between, waits_idle}
+use Rattle.replay_turns.specs.Measuring.{MeasuresWait, begins_for}
+use Rattle.unit_meters.specs.Begins.{NoneBeginsTo}
+use Rattle.unit_meters.specs.declared.meters.Meters.{Meters}
+use Rattle.replay_turns.proofs.MeasureLemmas.{measures_wait, none_begins}
+use Rattle.measured_traffic.specs.Replayed.{traffic_of}
+use Rattle.measured_traffic.specs.Turns.{IsQuietBetween}
+use Rattle.replay_turns.specs.Down.{NoneComesDown}
+use Rattle.replay_turns.specs.Turns.{events_before}
+use Rattle.replay_turns.proofs.OrderLemmas.{sent_less}
+use Rattle.du_scheduler.specs.plan_model.specs.Sent.{SentFrame}
+use Rattle.capture_air.specs.air_source.specs.declared.links.LinkFrame.{LinkFrame}
+use Rattle.measured_traffic.specs.frame_deliveries.specs.Leaving.{Leaving}
+use Rattle.replay_turns.proofs.MomentLemmas as radio
+use Rattle.measured_traffic.specs.replay_events.specs.Events.{events_at}
+use Rattle.measured_traffic.specs.replay_events.specs.Moments.{end_of_time}
+use Rattle.measured_traffic.specs.replay_events.specs.Passing.{IsNextMoment, IsUnitMoment}
+use Rattle.measured_traffic.specs.replay_events.proofs.EventLemmas.{events_go_on, events_wait}
+use Rattle.ru_buffers.specs.Calls.{IsDue, IsQuietTo}
 use Rattle.fh_time.specs.Least.{IsLeast, IsLeastOf, earlier_time}
-use Rattle.intake_moments.specs.ru_buffers.specs.declared.unit.Ru.{Ru}
-use Rattle.intake_moments.specs.unit_model.proofs.SweepLaws.{gap_is}
-use Rattle.intake_moments.specs.unit_model.specs.Radiated.{first_clock}
-use Rattle.intake_moments.specs.unit_model.specs.Standing.{History}
-use Rattle.intake_moments.specs.du_intake.specs.history_laws.proofs.TickLemmas.{before_next}
+use Rattle.ru_buffers.specs.declared.unit.Ru.{Ru}
+use Rattle.measured_traffic.specs.unit_model.proofs.SweepLaws.{gap_is}
+use Rattle.measured_traffic.specs.unit_model.specs.Radiated.{first_clock}
+use Rattle.measured_traffic.specs.unit_model.specs.Standing.{History}
+use Rattle.du_intake.specs.history_laws.proofs.TickLemmas.{before_next, next_after}
 use Rattle.fronthaul_replay.specs.declared.coming.Coming.{Coming}
-use Rattle.fronthaul_replay.specs.Turns.{AtMoment, HaveMeasured, IsMoment, IsNextTick, IsStill, within_end}
+use Rattle.fronthaul_replay.specs.Turns.{AtMoment, HaveMeasured, IsNextTick, IsStill, within_end}
 use Rattle.fh_time.proofs.Orders.{under, not_under, next_later as next_most, before_it}
 
 -- ---- the next moment
@@ -55,23 +59,26 @@ intake_least : (d : Document) (k : History) (due : Option Ticks) → IsIntakeDue
 intake_least d k None due = due
 intake_least d k (Some t) due = record { before = due.before; at = due.at }
 
-module _ {G C D : Type 0} (d : Document) (h k : History) (w : Coming G) (m : Meters C D) where
+module _ (d : Document) (now : ℤ) (h k : History) (left : List SentFrame) (down : List Leaving) (queue : List LinkFrame) (up : List Leaving) where
   abbrev AreQuiet : ℤ → Type 0
   AreQuiet to = IsQuietTo d.config h to × (intake_due d.config (planned_for d) k to ≡ [])
 
   abbrev NoneComes : ℤ → Type 0
-  NoneComes to = IsCalmTo w.downlink to × AreSilentTo w.answers to
+  NoneComes to = NoneComesDown d now left down to × NoneComesUp d now queue up to
 
   abbrev NoneMoves : ℤ → Type 0
   NoneMoves to = AreQuiet to × NoneComes to
 
-  abbrev AreStill : ℤ → Type 0
-  AreStill to = NoneMoves to × BeginNoneTo m to
+  abbrev NoneBegins : ℤ → Type 0
+  NoneBegins to = NoneBeginsTo (begins_for d) now to
 
-  still : (to : ℤ) → AreStill to → IsStill d h k w m to
+  abbrev AreStill : ℤ → Type 0
+  AreStill to = NoneMoves to × NoneBegins to
+
+  still : (to : ℤ) → AreStill to → IsStill d now h k left down queue up to
   still to all = record { quiet = all.0.0.0; taken = all.0.0.1; calm = all.0.1.0; silent = all.0.1.1; begins = all.1 }
 
-  ended_at : (t : Ticks) (b : Bool) → int_lt end_of_time t.0 ≡ b → IsLeast AreStill t.0 → IsNextTick d h k w m (if b then None else Some t)
+  ended_at : (t : Ticks) (b : Bool) → int_lt end_of_time t.0 ≡ b → IsLeast AreStill t.0 → IsNextTick d now h k left down queue up (if b then None else Some t)
   ended_at t true e least = λ to order. still to (least.before to (before_it to order))
     where
       before_it : (to : ℤ) → to ≤ℤ end_of_time → to <ℤ t.0
@@ -82,24 +89,20 @@ module _ {G C D : Type 0} (d : Document) (h k : History) (w : Coming G) (m : Met
     ended = not_under end_of_time t.0 e;
   }
 
-  next_by : (time : Option Ticks) → IsLeastOf AreStill time → IsNextTick d h k w m (within_end time)
+  next_by : (time : Option Ticks) → IsLeastOf AreStill time → IsNextTick d now h k left down queue up (within_end time)
   next_by None least = λ to order. still to (least to)
   next_by (Some t) least = ended_at t (int_lt end_of_time t.0) refl least
 
   pub is_next : (radio_due taken_due sent answered begins : Option Ticks) → IsDue d.config h radio_due → IsIntakeDue d.config (planned_for d) k taken_due
-      → IsLeastOf (IsCalmTo w.downlink) sent → IsLeastOf (AreSilentTo w.answers) answered → IsLeastOf (BeginNoneTo m) begins
-      → IsNextTick d h k w m (within_end (earlier_time (earlier_time (earlier_time radio_due taken_due) (earlier_time sent answered)) begins))
+      → IsLeastOf (NoneComesDown d now left down) sent → IsLeastOf (NoneComesUp d now queue up) answered → IsLeastOf NoneBegins begins
+      → IsNextTick d now h k left down queue up (within_end (earlier_time (earlier_time (earlier_time radio_due taken_due) (earlier_time sent answered)) begins))
   is_next radio_due taken_due sent answered begins radio_is taken_is calm silent none =
       let units = earlier_time radio_due taken_due in
       let frames = earlier_time sent answered in
       let quiet = earlier_of_both (IsQuietTo d.config h) (λ to. intake_due d.config (planned_for d) k to ≡ []) radio_due taken_due (radio_least d h radio_due radio_is) (intake_least d k taken_due taken_is) in
-      let comes = earlier_of_both (IsCalmTo w.downlink) (AreSilentTo w.answers) sent answered calm silent in
+      let comes = earlier_of_both (NoneComesDown d now left down) (NoneComesUp d now queue up) sent answered calm silent in
       next_by (earlier_time (earlier_time units frames) begins)
-      (earlier_of_both NoneMoves (BeginNoneTo m) (earlier_time units frames) begins (earlier_of_both AreQuiet NoneComes units frames quiet comes) none)
-
--- all is still before a tick
-abbrev pub IsIdle : {G C D : Type 0} → Document → History → History → Coming G → Meters C D → ℤ → Type 0
-IsIdle d h k w m tick = (to : ℤ) → to <ℤ tick → IsStill d h k w m to
+      (earlier_of_both NoneMoves NoneBegins (earlier_time units frames) begins (earlier_of_both AreQuiet NoneComes units frames quiet comes) none)
 
 -- ---- from a tick to the next moment
 
@@ -123,32 +126,38 @@ module _ {G C D : Type 0} {pre : G → RePlace → Type 0} {post : G → RePlace
   abbrev begun : first_clock ≤ℤ now
   begun = at.turn.radio.turn.begun
 
-  module _ (tick : ℤ) (order : now ≤ℤ tick) (ended : tick ≤ℤ (end_of_time +ℤ pos 1)) (idle : IsIdle d radio_history intake_history w m tick) where
-    abbrev last : IsStill d radio_history intake_history w m (tick -ℤ pos 1)
+  -- nothing happens up to a time
+  abbrev pub StillTo : ℤ → Type 0
+  StillTo to = IsStill d now radio_history intake_history at.waits.down.left at.waits.down.way.sent w.answers.queue at.waits.up.frames.on_way.sent to
+
+  module _ (tick : ℤ) (order : now ≤ℤ tick) (ended : tick ≤ℤ (end_of_time +ℤ pos 1)) (idle : (to : ℤ) → to <ℤ tick → StillTo to) where
+    abbrev last : StillTo (tick -ℤ pos 1)
     last = idle (tick -ℤ pos 1) (before_it tick)
 
-    both_still : AreBothStill pre post d now tick u i w.downlink w.answers
+    both_still : AreBothStill pre post d now tick u i w.downlink.plan w.downlink.way w.answers.uplink w.answers.outbox.frames w.answers.queue w.answers.way
     both_still = record {
       replayable = doc;
       order = order;
       ended = ended;
-      none_begins = none_begins d now tick m at.measures.waits last.begins;
+      none_begins = none_begins d now tick last.begins;
       radio = at.turn.radio;
       quiet = last.quiet;
       down = at.waits.down;
-      calm = last.calm;
+      sends = last.calm.0;
+      calm = last.calm.1;
       intake = at.turn.intake;
       none_due = last.taken;
       waits = at.waits.up;
-      silent = last.silent;
+      silent = last.silent.0;
+      calm_up = last.silent.1;
     }
 
     quiet : IsQuietBetween d now tick
-    quiet = still_between pre post d now tick u i w.downlink w.answers both_still
+    quiet = still_between pre post d now tick u i w.downlink.plan w.downlink.way w.answers.uplink w.answers.outbox.frames w.answers.queue w.answers.way both_still
 
     each_unit : (side : Side) → IsUnitMoment side d.config (traffic_of d) now tick
     each_unit AtRu = radio.is_unit_moment d now tick u doc at.turn.radio last.quiet (quiet.calm AtRu)
-    each_unit AtDu = still_at_intake pre post d now tick u i w.downlink w.answers both_still
+    each_unit AtDu = still_at_intake pre post d now tick u i w.downlink.plan w.downlink.way w.answers.uplink w.answers.outbox.frames w.answers.queue w.answers.way both_still
 
     next_moment : IsNextMoment d.config (traffic_of d) now tick
     next_moment = record { config = doc.document.config; begun = begun; order = order; ended = ended; units = each_unit }
@@ -159,34 +168,43 @@ module _ {G C D : Type 0} {pre : G → RePlace → Type 0} {post : G → RePlace
       moment = record {
         turn = record {
           radio = radio.turn_at d now tick u doc at.turn.radio next_moment last.quiet;
-          intake = intake_idle pre post d now tick u i w.downlink w.answers both_still next_moment;
+          intake = intake_idle pre post d now tick u i w.downlink.plan w.downlink.way w.answers.uplink w.answers.outbox.frames w.answers.queue w.answers.way both_still next_moment;
         };
         waits = record {
-          down = waits_at d now tick w.downlink doc at.waits.down begun order ended last.calm quiet;
-          up = waits_idle pre post d now tick u i w.downlink w.answers both_still;
+          down = down_idle pre post d now tick u i w.downlink.plan w.downlink.way w.answers.uplink w.answers.outbox.frames w.answers.queue w.answers.way both_still;
+          up = waits_idle pre post d now tick u i w.downlink.plan w.downlink.way w.answers.uplink w.answers.outbox.frames w.answers.queue w.answers.way both_still;
         };
-        measures = measures_wait cp cq dp dq d now tick m at.measures begun order last.begins quiet;
+        measures = measures_wait cp cq dp dq d m now tick at.measures begun order last.begins quiet;
       };
     }
 
   -- before a tick all is still
-  still_before : (to : ℤ) → to <ℤ now → IsStill d radio_history intake_history w m to
-  still_before to early = record {
-    quiet = radio.quiet_before d now to u at.turn.radio early;
-    taken = none_due_before d now to i at.turn.intake early;
-    calm = calm_before d now to w.downlink at.waits.down early;
-    silent = silent_before pre post d now to w.answers at.waits.up early;
-    begins = begin_before d now to m at.measures.waits early;
-  }
+  none_before : (t to : ℤ) → now ≤ℤ t → t ≤ℤ to → to <ℤ now → ⊥
+  none_before t to low high early = omega (arith, ints, low, high, early)
 
-  not_before : (tick : ℤ) → IsMoment d radio_history intake_history w m tick → now ≤ℤ tick
-  not_before tick n = by_lt_z tick now (λ early. absurd (n.at (still_before tick early))) (λ under. under)
+  still_before : (to : ℤ) → to <ℤ now → StillTo to
+  still_before to early =
+      let next = next_after to now early in
+      record {
+        quiet = radio.quiet_before d now to u at.turn.radio early;
+        taken = none_due_before d now to i at.turn.intake early;
+        calm = (sent_less (to +ℤ pos 1) now at.waits.down.left next at.waits.down.later, λ t low high. absurd (none_before t to low high early));
+        silent = (silent_before now to w.answers.queue at.waits.up.frames.waiting.from early, λ t low high. absurd (none_before t to low high early));
+        begins = λ t low high. absurd (none_before t to low high early);
+      }
 
-  pub moment_comes : (tick : ℤ) → IsMoment d radio_history intake_history w m tick → ComesTo pre post cp cq dp dq d now tick u i w m
-  moment_comes tick n = comes_to tick (not_before tick n) (next_most tick end_of_time n.ended) n.before
+  not_before : (tick : ℤ) → (StillTo tick → ⊥) → now ≤ℤ tick
+  not_before tick otherwise = by_lt_z tick now (λ early. absurd (otherwise (still_before tick early))) (λ under. under)
+
+  -- what is otherwise at a time, and was still before
+  abbrev pub NextIs : Option Ticks → Type 0
+  NextIs t = IsNextTick d now radio_history intake_history at.waits.down.left at.waits.down.way.sent w.answers.queue at.waits.up.frames.on_way.sent t
+
+  pub moment_comes : (tick : Ticks) → NextIs (Some tick) → ComesTo pre post cp cq dp dq d now tick.0 u i w m
+  moment_comes tick n = comes_to tick.0 (not_before tick.0 n.at) (next_most tick.0 end_of_time n.ended) n.before
 
   -- or to the end
-  pub end_comes : IsNextTick d radio_history intake_history w m None → ComesTo pre post cp cq dp dq d now (end_of_time +ℤ pos 1) u i w m
+  pub end_comes : NextIs None → ComesTo pre post cp cq dp dq d now (end_of_time +ℤ pos 1) u i w m
   end_comes none = comes_to (end_of_time +ℤ pos 1) at.turn.radio.turn.ended (≤ℤ_refl (end_of_time +ℤ pos 1)) (λ to lt. none to (before_next to end_of_time lt))
 
 -- then both meters have measured all of it

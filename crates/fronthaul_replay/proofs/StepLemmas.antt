@@ -2,13 +2,13 @@
 use Rattle.std.proofs.Common.{◌≡◌, ℤ, List, ◌++◌, subst}
 use Rattle.capture_air.specs.air_source.specs.declared.events.Event.{Event}
 use Rattle.capture_air.specs.air_source.specs.declared.events.Side.TheVariants.{Du as AtDu}
-use Rattle.intake_moments.specs.du_intake.specs.declared.unit.Intake.{Intake}
-use Rattle.intake_moments.specs.fh_document.specs.declared.document.Document.{Document}
-use Rattle.intake_moments.specs.Turns.{AtIntakeTurn, IsIntakeInStep}
-use Rattle.intake_moments.proofs.NextLemmas.{intake_front_stays, intake_turn_step}
-use Rattle.intake_moments.specs.radio_moments.specs.Turns.{IsRadioInStep, events_before, intake_events, radio_events}
-use Rattle.intake_moments.specs.radio_moments.proofs.StepLemmas.{AreEventsOf, events_front, intake_own, step_stays, turn_step}
-use Rattle.intake_moments.specs.ru_buffers.specs.declared.unit.Ru.{Ru}
+use Rattle.du_intake.specs.declared.unit.Intake.{Intake}
+use Rattle.measured_traffic.specs.fh_document.specs.declared.document.Document.{Document}
+use Rattle.replay_turns.specs.IntakeTurns.{AtIntakeTurn, IsIntakeInStep}
+use Rattle.replay_turns.proofs.NextLemmas.{intake_front_stays, intake_turn_step}
+use Rattle.replay_turns.specs.Turns.{IsRadioInStep, events_before, intake_events, radio_events}
+use Rattle.replay_turns.proofs.StepLemmas.{AreEventsOf, events_front, intake_own, step_stays, turn_step}
+use Rattle.ru_buffers.specs.declared.unit.Ru.{Ru}
 use Rattle.fronthaul_replay.specs.Replaying.{IsInStep}
 use Rattle.fronthaul_replay.specs.Turns.{AtTurn}
 

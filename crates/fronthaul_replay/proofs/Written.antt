@@ -7,7 +7,7 @@ use Rattle.fh_base.specs.Told.{WritesFront, WritesPart}
 use Rattle.capture_air.specs.air_source.specs.declared.airs.AirFault.{AirFault}
 use Rattle.capture_air.specs.air_source.specs.declared.airs.AirFault.TheVariants.{Failed, NoMemory as WantsMemory}
 use Rattle.capture_air.specs.air_source.specs.declared.events.Event.{Event}
-use Rattle.intake_moments.specs.fh_document.specs.declared.document.Document.{Document}
+use Rattle.measured_traffic.specs.fh_document.specs.declared.document.Document.{Document}
 use Rattle.capture_air.specs.owed_bytes.specs.Owed.{Carried}
 use Rattle.capture_air.specs.owed_bytes.proofs.Parts.{front_part, part_behind}
 use Rattle.capture_air.specs.air_sinks.specs.Stopping.{Halted}

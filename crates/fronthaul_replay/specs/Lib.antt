@@ -1,6 +1,6 @@
-pub use Rattle.intake_moments.specs.du_scheduler
-pub use Rattle.intake_moments.specs.plan_model
-pub use Rattle.intake_moments.specs.plan_tests
+pub use Rattle.du_scheduler
+pub use Rattle.du_scheduler.specs.plan_model
+pub use Rattle.du_scheduler.specs.plan_tests
 pub mod Counting
 pub mod Replaying
 pub mod Turns

@@ -1,25 +1,31 @@
--- How both units stand at the start of a tick, and when the next moment is (this project's profile).
-use Rattle.std.specs.Prelude.{◌≡◌, ℤ, ◌<ℤ◌, ◌≤ℤ◌, pos, ◌+ℤ◌, [], Option, Some, None, if◌then◌else◌, int_lt}
+-- How both units, their meters and what is to come stand to a document at the start of a tick, and when the next moment is (this project's
+-- profile).
+use Rattle.std.specs.Prelude.{◌≡◌, ℤ, ◌<ℤ◌, ◌≤ℤ◌, pos, ◌+ℤ◌, List, [], Option, Some, None, if◌then◌else◌, int_lt}
 use Rattle.capture_air.specs.air_source.specs.declared.events.Side.TheVariants.{Ru, Du}
+use Rattle.capture_air.specs.air_source.specs.declared.links.LinkFrame.{LinkFrame}
 use Rattle.capture_air.specs.air_source.specs.declared.places.RePlace.{RePlace}
 use Rattle.bfp_codec.specs.declared.samples.Wide.{Wide}
 use Rattle.sum_air.specs.delay_measure.specs.declared.edge.Edge.{Edge}
-use Rattle.intake_moments.specs.du_intake.specs.Units.{intake_due_of as intake_due}
-use Rattle.intake_moments.specs.du_intake.specs.declared.unit.Intake.{Intake}
-use Rattle.intake_moments.specs.fh_document.specs.declared.document.Document.{Document}
+use Rattle.du_intake.specs.Units.{intake_due_of as intake_due}
+use Rattle.du_intake.specs.declared.unit.Intake.{Intake}
+use Rattle.du_scheduler.specs.plan_model.specs.Sent.{SentFrame}
+use Rattle.measured_traffic.specs.fh_document.specs.declared.document.Document.{Document}
+use Rattle.measured_traffic.specs.frame_deliveries.specs.Leaving.{Leaving}
+use Rattle.measured_traffic.specs.document_delays.specs.Settings.{compensation_of}
 use Rattle.fh_time.specs.declared.values.Ticks.{Ticks}
-use Rattle.intake_moments.specs.Answers.{AreSilentTo, HasLandedUp, WaitsUp}
-use Rattle.intake_moments.specs.Turns.{AtIntakeTurn, planned_for}
-use Rattle.intake_moments.specs.delay_exchange.specs.Meters.{HasDoings}
-use Rattle.intake_moments.specs.measured_moments.specs.Begins.{AwaitBegins, BeginNoneTo, HaveBegun, MeasuresWait}
-use Rattle.intake_moments.specs.measured_moments.specs.declared.meters.Meters.{Meters}
-use Rattle.intake_moments.specs.measured_traffic.specs.Replayed.{doings_at, made_at}
-use Rattle.intake_moments.specs.radio_moments.specs.Downlink.{HasLandedDown, IsCalmTo, WaitsDown}
-use Rattle.intake_moments.specs.radio_moments.specs.Turns.{AtRadioTurn}
-use Rattle.intake_moments.specs.replay_events.specs.Moments.{end_of_time}
-use Rattle.intake_moments.specs.ru_buffers.specs.Calls.{IsQuietTo}
-use Rattle.intake_moments.specs.ru_buffers.specs.declared.unit.Ru.{Ru as Unit}
-use Rattle.intake_moments.specs.unit_model.specs.Standing.{History}
+use Rattle.replay_turns.specs.Down.{HasLandedDown, NoneComesDown, WaitsDown}
+use Rattle.replay_turns.specs.IntakeTurns.{AtIntakeTurn, planned_for}
+use Rattle.replay_turns.specs.Measuring.{HaveBegun, MeasuresWait, begins_for}
+use Rattle.replay_turns.specs.Turns.{AtRadioTurn}
+use Rattle.replay_turns.specs.Up.{HasLandedUp, NoneComesUp, WaitsUp}
+use Rattle.unit_meters.specs.Begins.{Awaits, NoneBeginsTo}
+use Rattle.unit_meters.specs.declared.meters.Meters.{Meters}
+use Rattle.unit_moments.specs.delay_exchange.specs.Meters.{HasDoings}
+use Rattle.measured_traffic.specs.Replayed.{doings_at, made_at}
+use Rattle.measured_traffic.specs.replay_events.specs.Moments.{end_of_time}
+use Rattle.ru_buffers.specs.Calls.{IsQuietTo}
+use Rattle.ru_buffers.specs.declared.unit.Ru.{Ru as Unit}
+use Rattle.measured_traffic.specs.unit_model.specs.Standing.{History}
 use Rattle.fronthaul_replay.specs.declared.coming.Coming.{Coming}
 
 -- both units at the start of a tick
@@ -27,12 +33,12 @@ pub record AtTurn (d : Document) (now : ℤ) (u : Unit) (i : Intake) : Type 0 wh
   pub radio : AtRadioTurn d now u
   pub intake : AtIntakeTurn d now i
 
--- what is to come to both
+-- what is to come to both: what has left stands on the ways, and what leaves later is with the plan and the radio unit's queue
 pub record WaitsInTurn {G : Type 0} (pre : G → RePlace → Type 0) (post : G → RePlace → Wide → Type 0) (d : Document) (now : ℤ) (w : Coming G) : Type 0 where
-  pub down : WaitsDown d now w.downlink
-  pub up : WaitsUp pre post d now w.answers
+  pub down : WaitsDown d now w.downlink.plan w.downlink.way
+  pub up : WaitsUp pre post d now w.answers.uplink w.answers.outbox.frames w.answers.queue w.answers.way
 
--- both units' meters too, at the start of a tick
+-- the loop's invariant: both units' meters too, at the start of a tick
 pub record AtMoment {G C D : Type 0} (pre : G → RePlace → Type 0) (post : G → RePlace → Wide → Type 0)
     (ru_pre : C → Edge → Type 0) (ru_post : C → Edge → ℤ → Type 0) (du_pre : D → Edge → Type 0) (du_post : D → Edge → ℤ → Type 0)
     (d : Document) (now : ℤ) (u : Unit) (i : Intake) (w : Coming G) (m : Meters C D) : Type 0 where
@@ -52,37 +58,38 @@ pub record TurnHasBegun {G C D : Type 0} (pre : G → RePlace → Type 0) (post 
 pub record TurnHasLanded {G C D : Type 0} (pre : G → RePlace → Type 0) (post : G → RePlace → Wide → Type 0)
     (ru_pre : C → Edge → Type 0) (ru_post : C → Edge → ℤ → Type 0) (du_pre : D → Edge → Type 0) (du_post : D → Edge → ℤ → Type 0)
     (d : Document) (tick : ℤ) (w : Coming G) (m : Meters C D) : Type 0 where
-  pub down : HasLandedDown d tick w.downlink
-  pub up : HasLandedUp pre post d tick w.answers
-  pub begins : AwaitBegins d (tick +ℤ pos 1) m
-  pub ru : HasDoings ru_pre ru_post d Ru (made_at d Ru tick) m.ru
-  pub du : HasDoings du_pre du_post d Du (made_at d Du tick) m.du
+  pub down : HasLandedDown d tick w.downlink.plan w.downlink.way
+  pub up : HasLandedUp pre post d tick w.answers.uplink w.answers.outbox.frames w.answers.queue w.answers.way
+  pub begins : Awaits (begins_for d) (tick +ℤ pos 1) m
+  pub ru : HasDoings ru_pre ru_post (compensation_of d Ru) (made_at d Ru tick) m.ru
+  pub du : HasDoings du_pre du_post (compensation_of d Du) (made_at d Du tick) m.du
 
 -- both meters have measured all of a document's time
 pub record HaveMeasured {C D : Type 0} (ru_pre : C → Edge → Type 0) (ru_post : C → Edge → ℤ → Type 0) (du_pre : D → Edge → Type 0) (du_post : D → Edge → ℤ → Type 0)
     (d : Document) (m : Meters C D) : Type 0 where
-  pub ru : HasDoings ru_pre ru_post d Ru (doings_at d Ru (end_of_time +ℤ pos 1)) m.ru
-  pub du : HasDoings du_pre du_post d Du (doings_at d Du (end_of_time +ℤ pos 1)) m.du
+  pub ru : HasDoings ru_pre ru_post (compensation_of d Ru) (doings_at d Ru (end_of_time +ℤ pos 1)) m.ru
+  pub du : HasDoings du_pre du_post (compensation_of d Du) (doings_at d Du (end_of_time +ℤ pos 1)) m.du
 
 -- ---- the next moment
 
--- nothing is due at either unit, no frame leaves and none lands, and no measurement begins up to a time
-pub record IsStill {G C D : Type 0} (d : Document) (h k : History) (w : Coming G) (m : Meters C D) (to : ℤ) : Type 0 where
+-- From a tick on and up to a time nothing is due at either unit, which stand for these histories; of the frames that the plan and the radio
+-- unit have still to send none leaves, and of those that were sent down and up none lands; and no measurement begins.
+pub record IsStill (d : Document) (now : ℤ) (h k : History) (left : List SentFrame) (down : List Leaving) (queue : List LinkFrame) (up : List Leaving) (to : ℤ) : Type 0 where
   pub quiet : IsQuietTo d.config h to
   pub taken : intake_due d.config (planned_for d) k to ≡ []
-  pub calm : IsCalmTo w.downlink to
-  pub silent : AreSilentTo w.answers to
-  pub begins : BeginNoneTo m to
+  pub calm : NoneComesDown d now left down to
+  pub silent : NoneComesUp d now queue up to
+  pub begins : NoneBeginsTo (begins_for d) now to
 
 -- the least time at which it is otherwise
-pub record IsMoment {G C D : Type 0} (d : Document) (h k : History) (w : Coming G) (m : Meters C D) (tick : ℤ) : Type 0 where
-  pub before : (to : ℤ) → to <ℤ tick → IsStill d h k w m to
-  pub at : IsStill d h k w m tick → ⊥
+pub record IsMoment (d : Document) (now : ℤ) (h k : History) (left : List SentFrame) (down : List Leaving) (queue : List LinkFrame) (up : List Leaving) (tick : ℤ) : Type 0 where
+  pub before : (to : ℤ) → to <ℤ tick → IsStill d now h k left down queue up to
+  pub at : IsStill d now h k left down queue up tick → ⊥
   pub ended : tick ≤ℤ end_of_time
 
-abbrev pub IsNextTick : {G C D : Type 0} → Document → History → History → Coming G → Meters C D → Option Ticks → Type 0
-IsNextTick d h k w m None = (to : ℤ) → to ≤ℤ end_of_time → IsStill d h k w m to
-IsNextTick d h k w m (Some t) = IsMoment d h k w m t.0
+abbrev pub IsNextTick : Document → ℤ → History → History → List SentFrame → List Leaving → List LinkFrame → List Leaving → Option Ticks → Type 0
+IsNextTick d now h k left down queue up None = (to : ℤ) → to ≤ℤ end_of_time → IsStill d now h k left down queue up to
+IsNextTick d now h k left down queue up (Some t) = IsMoment d now h k left down queue up t.0
 
 -- a time, if it is not after the end
 abbrev pub within_end : Option Ticks → Option Ticks

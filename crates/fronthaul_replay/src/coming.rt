@@ -2,20 +2,20 @@
 ghost use Rattle.std.specs.Prelude.{IfOk};
 ghost use Rattle.capture_air.specs.air_source.specs.Answers.{AnswersBy};
 ghost use Rattle.capture_air.specs.air_source.specs.Kept.{IsKept, closure_of};
-ghost use Rattle.intake_moments.specs.document_traffic.specs.Landing.{antenna_for};
-ghost use Rattle.intake_moments.specs.document_traffic.specs.Laws.{IsReplayable};
-ghost use Rattle.intake_moments.specs.document_traffic.specs.Sending.{sent_for};
-ghost use Rattle.intake_moments.specs.du_scheduler.specs.Plans.{HasToSend};
-ghost use Rattle.intake_moments.specs.unit_model.specs.Radiated.{first_clock};
+ghost use Rattle.measured_traffic.specs.document_traffic.specs.Landing.{antenna_for};
+ghost use Rattle.measured_traffic.specs.document_traffic.specs.Laws.{IsReplayable};
+ghost use Rattle.measured_traffic.specs.document_traffic.specs.Sending.{sent_for};
+ghost use Rattle.du_scheduler.specs.Plans.{HasToSend};
+ghost use Rattle.measured_traffic.specs.unit_model.specs.Radiated.{first_clock};
 ghost use Rattle.fronthaul_replay.specs.Turns.{WaitsInTurn};
 
+use crate::answers::Answers;
+use crate::downlink::Downlink;
 use air_source::{RePlace, Samples};
 use bfp_codec::Wide;
 use du_scheduler::Plan;
 use fh_base::NoMemory;
 use fh_document::Document;
-use intake_moments::Answers;
-use radio_moments::Downlink;
 use std::alloc::Global;
 
 /// What is to come: to the radio unit, and from it to the distributed unit.

@@ -2,16 +2,22 @@
 //! written as a report, a summary or a capture.
 //!
 //! The events are defined over complete lists of arrivals (`replay_events`); [`replay`] lets the radio unit of `ru_buffers` and the
-//! intake of `du_intake` come to them moment by moment (`radio_moments`, `intake_moments`), and keeps no list of what arrived.
+//! intake of `du_intake` come to them moment by moment (`unit_moments`), and keeps no list of what arrived. What a document has to do with
+//! the ways, the queues and the meters is said here alone, by one invariant of the loop over moments (`AtMoment`).
 //! [`report_document`], [`count_document`], [`summarize_document`] and [`capture_document`] make the units, and an air writes as the events come. So the
 //! memory is that of the units, of the frames on their way and of the document, whatever the units make of the frames.
 #![tactic(auto)]
 
+mod answers;
 mod capture;
 mod coming;
 mod counting;
+mod downlink;
+mod intake;
+mod measuring;
 mod moments;
 mod planning;
+mod radio;
 mod replaying;
 mod replays;
 mod report;

@@ -1,28 +1,26 @@
 // The moments of a replay, one after the other.
-ghost use Rattle.std.specs.Prelude.{pos, ◌+ℤ◌, ◌≤ℤ◌, [], IsErrOf, OnOk, List};
+ghost use Rattle.std.specs.Prelude.{ℤ, pos, ◌+ℤ◌, ◌≤ℤ◌, [], IsErrOf, OnOk, List};
 ghost use Rattle.capture_air.specs.air_source.specs.Answers.{AnswersBy};
 ghost use Rattle.capture_air.specs.air_source.specs.Causes.{HasAirCause};
 ghost use Rattle.capture_air.specs.air_source.specs.Kept.{IsKept, closure_of};
 ghost use Rattle.capture_air.specs.air_source.specs.declared.airs.AirFault.TheVariants.{Failed, NoMemory as WantsMemory};
-ghost use Rattle.intake_moments.specs.document_traffic.specs.Laws.{IsReplayable};
-ghost use Rattle.intake_moments.specs.du_intake.specs.Calls.{IntakeStandsFor};
-ghost use Rattle.intake_moments.specs.du_scheduler.specs.Plans.{IsPlan};
-ghost use Rattle.intake_moments.specs.fh_document.specs.declared.document.Document.{Document as SpecDocument};
-ghost use Rattle.intake_moments.specs.Turns.{planned_for};
-ghost use Rattle.intake_moments.specs.measured_moments.specs.Begins.{MeasuresWait};
-ghost use Rattle.intake_moments.specs.measured_traffic.specs.Replayed.{traffic_of};
-ghost use Rattle.intake_moments.specs.radio_moments.specs.Stops.{HaltsBehind, StopsBehind};
-ghost use Rattle.intake_moments.specs.radio_moments.specs.Turns.{events_before};
-ghost use Rattle.intake_moments.specs.replay_events.specs.Events.{events_at};
-ghost use Rattle.intake_moments.specs.replay_events.specs.Moments.{end_of_time};
-ghost use Rattle.intake_moments.specs.ru_buffers.specs.Calls.{StandsFor};
-ghost use Rattle.intake_moments.specs.tone_source.specs.Tones.{tone_of};
-ghost use Rattle.intake_moments.specs.unit_model.specs.Radiated.{first_clock};
-ghost use Rattle.intake_moments.specs.unit_model.specs.Standing.{History};
+ghost use Rattle.measured_traffic.specs.document_traffic.specs.Laws.{IsReplayable};
+ghost use Rattle.du_scheduler.specs.Plans.{IsPlan};
+ghost use Rattle.measured_traffic.specs.fh_document.specs.declared.document.Document.{Document as SpecDocument};
+ghost use Rattle.replay_turns.specs.Measuring.{MeasuresWait};
+ghost use Rattle.measured_traffic.specs.Replayed.{traffic_of};
+ghost use Rattle.unit_moments.specs.Stops.{HaltsBehind, StopsBehind};
+ghost use Rattle.replay_turns.specs.Turns.{events_before};
+ghost use Rattle.measured_traffic.specs.replay_events.specs.Events.{events_at};
+ghost use Rattle.measured_traffic.specs.replay_events.specs.Moments.{end_of_time};
+ghost use Rattle.measured_traffic.specs.tone_source.specs.Tones.{tone_of};
+ghost use Rattle.measured_traffic.specs.unit_model.specs.Radiated.{first_clock};
 ghost use Rattle.fronthaul_replay.specs.Replaying.{IsInStep};
 ghost use Rattle.fronthaul_replay.specs.Turns.{AtMoment, AtTurn, TurnHasBegun, TurnHasLanded, HaveMeasured, IsNextTick, WaitsInTurn};
 
 use crate::coming::Coming;
+use crate::intake::intake_moment;
+use crate::radio::radio_moment;
 use crate::times::{is_up_to, tick_after, up_to_end};
 use air_source::{Air, AirFault, RePlace, Samples};
 use bfp_codec::Wide;
@@ -31,10 +29,10 @@ use du_intake::Intake;
 use fh_base::NoMemory;
 use fh_document::Document;
 use fh_time::{FIRST_CLOCK, Ticks};
-use intake_moments::intake_moment;
-use measured_moments::Meters;
-use radio_moments::{earlier_of, radio_moment};
+use frame_ways::earlier_of;
 use ru_buffers::Ru;
+use unit_meters::Meters;
+use unit_moments::send_made;
 
 /// The next time at which a cell or a message is due at a unit, a frame leaves or lands, or a measurement begins. None where there is none
 /// up to the end.
@@ -45,7 +43,8 @@ fn next_moment<G: Fn(RePlace) -> Wide, C: Fn(Edge) -> i64, D: Fn(Edge) -> i64>(
     meters: &Meters<'_, C, D>,
 ) -> Option<Ticks>
     requires { IsPlan coming.now.downlink.plan }
-    ensures { (d : SpecDocument) (h k : History) → StandsFor d.config ru.now h → IntakeStandsFor d.config (planned_for d) intake.now k → IsNextTick d h k coming.now meters.now result }
+    ensures { (d : SpecDocument) (now : ℤ) (at : AtMoment G.pre G.post C.pre C.post D.pre D.post d now ru.now intake.now coming.now meters.now)
+        → IsNextTick d now at.turn.radio.history at.turn.intake.history at.waits.down.left at.waits.down.way.sent coming.now.answers.queue at.waits.up.frames.on_way.sent result }
 {
     let units = earlier_of(ru.due(), intake.due());
     let frames = earlier_of(coming.downlink.next_time(), coming.answers.next_time());
@@ -53,7 +52,7 @@ fn next_moment<G: Fn(RePlace) -> Wide, C: Fn(Edge) -> i64, D: Fn(Edge) -> i64>(
 }
 
 /// The frames of delay measurement that both units made at a time leave.
-fn send_made<G: Fn(RePlace) -> Wide, C: Fn(Edge) -> i64, D: Fn(Edge) -> i64>(
+fn send_both<G: Fn(RePlace) -> Wide, C: Fn(Edge) -> i64, D: Fn(Edge) -> i64>(
     tick: Ticks,
     coming: &mut Coming<'_, G>,
     meters: &mut Meters<'_, C, D>,
@@ -64,12 +63,14 @@ fn send_made<G: Fn(RePlace) -> Wide, C: Fn(Edge) -> i64, D: Fn(Edge) -> i64>(
     ensures { (d : SpecDocument) → IsReplayable d → TurnHasLanded G.pre G.post C.pre C.post D.pre D.post d tick.0 coming.old meters.old
         → OnOk result (WaitsInTurn G.pre G.post d (tick.0 +ℤ pos 1) coming.new × MeasuresWait C.pre C.post D.pre D.post d (tick.0 +ℤ pos 1) meters.new) }
 {
-    coming.downlink.send_made(tick, &mut meters.du)?;
-    coming.answers.send_made(tick, &mut meters.ru)
+    let downlink = &mut coming.downlink;
+    send_made(tick, &mut meters.du, &mut downlink.pool, &mut downlink.way)?;
+    let answers = &mut coming.answers;
+    send_made(tick, &mut meters.ru, &mut answers.pool, &mut answers.way)
 }
 
-/// What comes to both units at one time, once its measurements have begun: the radio unit's cells and the frames that land at it, also those
-/// that leave then; its answers; then the frames that land at the distributed unit, and that unit's cells.
+/// What comes to both units at one time, once its measurements have begun: the plan's frames that leave then; the radio unit's cells and the
+/// frames that land at it; its answers; then the frames that land at the distributed unit, and that unit's cells.
 fn land<
     A: Air,
     F: Fn(RePlace) -> Wide,
@@ -143,7 +144,7 @@ fn moment<
 {
     meters.begin(tick)?;
     land(doc, tick, du, ru, intake, coming, meters, out)?;
-    send_made(tick, coming, meters)?;
+    send_both(tick, coming, meters)?;
     Ok(())
 }
 

@@ -4,18 +4,18 @@ ghost use Rattle.capture_air.specs.air_source.specs.Answers.{AnswersBy};
 ghost use Rattle.capture_air.specs.air_source.specs.Causes.{HasAirCause};
 ghost use Rattle.capture_air.specs.air_source.specs.Kept.{IsKept, closure_of};
 ghost use Rattle.capture_air.specs.air_source.specs.declared.airs.AirFault.TheVariants.{Failed, NoMemory as AirWantsMemory};
-ghost use Rattle.intake_moments.specs.document_traffic.specs.Landing.{antenna_for};
-ghost use Rattle.intake_moments.specs.document_traffic.specs.Sending.{sent_for};
+ghost use Rattle.measured_traffic.specs.document_traffic.specs.Landing.{antenna_for};
+ghost use Rattle.measured_traffic.specs.document_traffic.specs.Sending.{sent_for};
 ghost use Rattle.sum_air.specs.delay_measure.specs.Kept.{answer_at};
-ghost use Rattle.intake_moments.specs.measured_moments.specs.Begins.{MeasuresWait};
-ghost use Rattle.intake_moments.specs.du_intake.specs.Calls.{IntakeStandsFor};
-ghost use Rattle.intake_moments.specs.du_scheduler.specs.Plans.{HasToSend};
-ghost use Rattle.intake_moments.specs.fh_document.specs.Proper.{IsDocument};
-ghost use Rattle.intake_moments.specs.Turns.{planned_for};
-ghost use Rattle.intake_moments.specs.ru_buffers.specs.Calls.{StandsFor};
-ghost use Rattle.intake_moments.specs.tone_source.specs.Tones.{tone_of};
-ghost use Rattle.intake_moments.specs.unit_model.specs.Radiated.{first_clock};
-ghost use Rattle.intake_moments.specs.unit_model.specs.Standing.{nothing_yet};
+ghost use Rattle.replay_turns.specs.Measuring.{MeasuresWait};
+ghost use Rattle.du_intake.specs.Calls.{IntakeStandsFor};
+ghost use Rattle.du_scheduler.specs.Plans.{HasToSend};
+ghost use Rattle.measured_traffic.specs.fh_document.specs.Proper.{IsDocument};
+ghost use Rattle.replay_turns.specs.IntakeTurns.{planned_for};
+ghost use Rattle.ru_buffers.specs.Calls.{StandsFor};
+ghost use Rattle.measured_traffic.specs.tone_source.specs.Tones.{tone_of};
+ghost use Rattle.measured_traffic.specs.unit_model.specs.Radiated.{first_clock};
+ghost use Rattle.measured_traffic.specs.unit_model.specs.Standing.{nothing_yet};
 ghost use Rattle.fronthaul_replay.specs.Faults.{replay_fault};
 ghost use Rattle.fronthaul_replay.specs.Laws.{IsSound};
 ghost use Rattle.fronthaul_replay.specs.Replay.{HasReplayCause};
@@ -25,6 +25,7 @@ ghost use Rattle.fronthaul_replay.specs.declared.replays.ReplayFault.TheVariants
 
 use crate::coming::{Coming, coming_of};
 use crate::counting::tell_counts;
+use crate::measuring::meters_of;
 use crate::moments::pass;
 use air_source::{Air, AirFault, RePlace, Samples, Side};
 use bfp_codec::Wide;
@@ -33,10 +34,10 @@ use du_intake::Intake;
 use du_scheduler::Plan;
 use fh_base::NoMemory;
 use fh_document::Document;
-use measured_moments::Meters;
 use ru_buffers::Ru;
 use std::alloc::Global;
 use thiserror::Error;
+use unit_meters::Meters;
 
 /// Why a replay did not come to its end.
 #[derive(Clone, Copy, Debug, PartialEq, Eq, Error)]
@@ -118,7 +119,7 @@ pub fn replay<A: Air, F: Fn(RePlace) -> Wide, G: Fn(RePlace) -> Wide>(
 {
     let mut coming = coming_of(alloc, doc, plan, antenna)?;
     let comps = doc.comps;
-    let mut meters = Meters::make(
+    let mut meters = meters_of(
         alloc,
         doc,
         |edge: Edge| -> i64

@@ -1,7 +1,7 @@
 // Ways of a small document, worked out by hand.
 ghost use Rattle.std.specs.Prelude.{◌≡◌, IfOk};
-ghost use Rattle.measured_moments.specs.fh_document.specs.Proper.{IsDocument};
-ghost use Rattle.measured_moments.specs.frame_ways.specs.Ways.{document_of};
+ghost use Rattle.fh_document.specs.Proper.{IsDocument};
+ghost use Rattle.frame_ways.specs.Ways.{document_of};
 
 use crate::built::{mark_of, marked};
 use air_source::Side;
@@ -21,7 +21,7 @@ const TEXT: &[u8] = b"fronthaul 1\ntransit dl 40\ntransit ul 60\ntransit m 30\n\
     inject dl 49 a3\ninject ul 60 b1\ninject dl 40 a1\ninject dl 40 a2\n";
 
 /// The way to a unit.
-fn way_to<'a>(alloc: Global, doc: &'a Document, side: Side) -> Result<Way<'a>, NoMemory>
+pub(crate) fn way_to<'a>(alloc: Global, doc: &'a Document, side: Side) -> Result<Way<'a>, NoMemory>
     requires { IsDocument doc.now }
     ensures { IfOk result (λ w. IsDocument (document_of w)) }
 {

@@ -1,11 +1,29 @@
 use Rattle.std.proofs.Common.{rules, ◌≡◌, ◌∙◌, refl}
 use Rattle.capture_air.specs.air_source.specs.declared.airs.AirFault.TheVariants.{NoMemory}
+use Rattle.capture_air.specs.air_source.specs.declared.events.Side.TheVariants.{Du, Ru}
+use Rattle.measured_traffic.specs.Replayed.{doings_at}
+use Rattle.measured_traffic.specs.document_delays.specs.Settings.{compensation_of}
+use Rattle.replay_turns.specs.Measuring.{begins_for}
 use Rattle.fronthaul_replay.proofs.StopLemmas.{rests_after, rests_before}
-use Rattle.intake_moments.specs.measured_moments.proofs.CauseLemmas.{cause_passed, cause_wanted}
+use Rattle.replay_turns.proofs.CauseLemmas.{cause_passed, cause_wanted}
 use Rattle.fronthaul_replay.proofs.moments.moment.Goals as goal
 
 pub begin-requires : goal.begin-requires
-begin-requires g c = (c.args.doc.now, c.requires.moment.measures)
+begin-requires g c =
+    let d = c.args.doc.now in
+    let tick = c.args.tick.0 in
+    (begins_for d, compensation_of d Ru, compensation_of d Du, doings_at d Ru tick, doings_at d Du tick, c.requires.moment.measures)
+
+pub land-requires-clause-begun : goal.land-requires-clause-begun
+land-requires-clause-begun g c =
+    let d = c.args.doc.now in
+    let tick = c.args.tick.0 in
+    let m = c.requires.moment in
+    record {
+      turn = m.turn;
+      waits = m.waits;
+      begun = c.in_ok-begin.ensures (begins_for d) (compensation_of d Ru) (compensation_of d Du) (doings_at d Ru tick) (doings_at d Du tick) m.measures;
+    }
 
 pub returns-in_err-begin-clause-wants : goal.returns-in_err-begin-clause-wants
 returns-in_err-begin-clause-wants g c wants =
@@ -17,8 +35,8 @@ returns-in_err-land-clause-wants g c wants =
     let same : c.land.result ≡ c.from_residual-in_err-land.result = search rules in
     c.land.ensures.wants (same ∙ wants)
 
-pub returns-in_err-send_made-clause-wants : goal.returns-in_err-send_made-clause-wants
-returns-in_err-send_made-clause-wants g c wants =
+pub returns-in_err-send_both-clause-wants : goal.returns-in_err-send_both-clause-wants
+returns-in_err-send_both-clause-wants g c wants =
     rests_after g.A.Air.grew (g.A.Air.stopped NoMemory) c.args.doc.now c.args.tick.0 c.land.new.ru c.land.new.intake c.args.out.now c.land.new.out
     c.requires.moment.turn.radio.turn.begun c.in_ok-land.ensures.heard c.in_ok-land.ensures.turn
 
@@ -30,5 +48,5 @@ returns-in_err-land-clause-cause g c =
     let same : c.land.result ≡ c.from_residual-in_err-land.result = search rules in
     cause_passed (g.A.Air.faults c.args.out.now) (g.A.Air.faults c.args.out.now) (g.A.Air.faults c.land.new.out) c.land.result c.from_residual-in_err-land.result same refl c.land.ensures.cause
 
-pub returns-in_err-send_made-clause-cause : goal.returns-in_err-send_made-clause-cause
-returns-in_err-send_made-clause-cause g c = cause_wanted (g.A.Air.faults c.args.out.now) (g.A.Air.faults c.land.new.out) c.from_residual-in_err-send_made.result c.from_residual-in_err-send_made.ensures.1 c.in_ok-land.ensures.cause
+pub returns-in_err-send_both-clause-cause : goal.returns-in_err-send_both-clause-cause
+returns-in_err-send_both-clause-cause g c = cause_wanted (g.A.Air.faults c.args.out.now) (g.A.Air.faults c.land.new.out) c.from_residual-in_err-send_both.result c.from_residual-in_err-send_both.ensures.1 c.in_ok-land.ensures.cause

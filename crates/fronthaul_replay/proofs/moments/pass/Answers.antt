@@ -1,15 +1,15 @@
 use Rattle.std.proofs.Common.{rules, ◌≡◌, ℤ, pos, ◌+ℤ◌, List, refl, sym, subst, ◌∙◌}
 use Rattle.capture_air.specs.air_source.specs.declared.airs.AirFault.TheVariants.{Failed, NoMemory}
 use Rattle.capture_air.specs.air_source.specs.declared.events.Event.{Event}
-use Rattle.intake_moments.specs.radio_moments.specs.Turns.{events_before}
-use Rattle.intake_moments.specs.radio_moments.proofs.DownLemmas.{plan_of}
-use Rattle.intake_moments.specs.radio_moments.proofs.TurnLemmas.{events_none}
-use Rattle.intake_moments.specs.replay_events.specs.Moments.{end_of_time}
+use Rattle.replay_turns.specs.Turns.{events_before}
+use Rattle.replay_turns.proofs.DownLemmas.{plan_of}
+use Rattle.replay_turns.proofs.TurnLemmas.{events_none}
+use Rattle.measured_traffic.specs.replay_events.specs.Moments.{end_of_time}
 use Rattle.fronthaul_replay.specs.Turns.{AtMoment}
 use Rattle.fronthaul_replay.proofs.NextLemmas.{all_measured, end_comes, gap_less, heard_next, heard_there, in_order, moment_comes}
 use Rattle.fronthaul_replay.proofs.StepLemmas.{InStep}
 use Rattle.fronthaul_replay.proofs.StopLemmas.{halts_whole, stops_whole}
-use Rattle.intake_moments.specs.measured_moments.proofs.CauseLemmas.{cause_passed}
+use Rattle.replay_turns.proofs.CauseLemmas.{cause_passed}
 use Rattle.fronthaul_replay.proofs.moments.pass.Goals as goal
 
 pub loop-tick-init : goal.loop-tick-init
@@ -21,15 +21,15 @@ loop-tick-init g c = record {
 }
 
 pub next_moment-requires : goal.next_moment-requires
-next_moment-requires g c = plan_of c.args.doc.now c.loop-tick.now.0 c.loop-tick.coming.downlink c.loop-tick.invariant.at.waits.down
+next_moment-requires g c = plan_of c.args.doc.now c.loop-tick.now.0 c.loop-tick.coming.downlink.plan c.loop-tick.coming.downlink.way c.loop-tick.invariant.at.waits.down
 
 pub prove-unreachable-requires : goal.prove-unreachable-requires
 prove-unreachable-requires g c =
     let d = c.args.doc.now in
     let old = c.loop-tick.invariant in
     let tick = c.in-Some.tick in
-    let m = c.in-Some.ensures d old.at.turn.radio.history old.at.turn.intake.history old.at.turn.radio.stands old.at.turn.intake.stands in
-    let n = moment_comes d c.loop-tick.now.0 c.loop-tick.ru c.loop-tick.intake c.loop-tick.coming c.loop-tick.meters c.requires.document old.at tick.0 m in
+    let m = c.in-Some.ensures d c.loop-tick.now.0 old.at in
+    let n = moment_comes d c.loop-tick.now.0 c.loop-tick.ru c.loop-tick.intake c.loop-tick.coming c.loop-tick.meters c.requires.document old.at tick m in
     in_order c.loop-tick.now.0 tick.0 c.is_up_to-in_order.result n.next.order c.is_up_to-in_order.ensures c.if-prove.true
 
 pub tick_after-now-requires : goal.tick_after-now-requires
@@ -37,7 +37,7 @@ tick_after-now-requires g c =
     let d = c.args.doc.now in
     let old = c.loop-tick.invariant in
     let tick = c.in-Some.tick in
-    let m = c.in-Some.ensures d old.at.turn.radio.history old.at.turn.intake.history old.at.turn.radio.stands old.at.turn.intake.stands in
+    let m = c.in-Some.ensures d c.loop-tick.now.0 old.at in
     m.ended
 
 pub moment-requires-clause-moment : goal.moment-requires-clause-moment
@@ -45,8 +45,8 @@ moment-requires-clause-moment g c =
     let d = c.args.doc.now in
     let old = c.loop-tick.invariant in
     let tick = c.in-Some.tick in
-    let m = c.in-Some.ensures d old.at.turn.radio.history old.at.turn.intake.history old.at.turn.radio.stands old.at.turn.intake.stands in
-    let n = moment_comes d c.loop-tick.now.0 c.loop-tick.ru c.loop-tick.intake c.loop-tick.coming c.loop-tick.meters c.requires.document old.at tick.0 m in
+    let m = c.in-Some.ensures d c.loop-tick.now.0 old.at in
+    let n = moment_comes d c.loop-tick.now.0 c.loop-tick.ru c.loop-tick.intake c.loop-tick.coming c.loop-tick.meters c.requires.document old.at tick m in
     n.moment
 
 pub moment-requires-clause-ended : goal.moment-requires-clause-ended
@@ -54,7 +54,7 @@ moment-requires-clause-ended g c =
     let d = c.args.doc.now in
     let old = c.loop-tick.invariant in
     let tick = c.in-Some.tick in
-    let m = c.in-Some.ensures d old.at.turn.radio.history old.at.turn.intake.history old.at.turn.radio.stands old.at.turn.intake.stands in
+    let m = c.in-Some.ensures d c.loop-tick.now.0 old.at in
     m.ended
 
 pub loop-tick-smaller : goal.loop-tick-smaller
@@ -62,8 +62,8 @@ loop-tick-smaller g c =
     let d = c.args.doc.now in
     let old = c.loop-tick.invariant in
     let tick = c.in-Some.tick in
-    let m = c.in-Some.ensures d old.at.turn.radio.history old.at.turn.intake.history old.at.turn.radio.stands old.at.turn.intake.stands in
-    let n = moment_comes d c.loop-tick.now.0 c.loop-tick.ru c.loop-tick.intake c.loop-tick.coming c.loop-tick.meters c.requires.document old.at tick.0 m in
+    let m = c.in-Some.ensures d c.loop-tick.now.0 old.at in
+    let n = moment_comes d c.loop-tick.now.0 c.loop-tick.ru c.loop-tick.intake c.loop-tick.coming c.loop-tick.meters c.requires.document old.at tick m in
     gap_less c.loop-tick.now.0 tick.0 c.tick_after-now.result.0 n.next.order m.ended c.tick_after-now.ensures
 
 pub loop-tick-preserved : goal.loop-tick-preserved
@@ -71,8 +71,8 @@ loop-tick-preserved g c =
     let d = c.args.doc.now in
     let old = c.loop-tick.invariant in
     let tick = c.in-Some.tick in
-    let m = c.in-Some.ensures d old.at.turn.radio.history old.at.turn.intake.history old.at.turn.radio.stands old.at.turn.intake.stands in
-    let n = moment_comes d c.loop-tick.now.0 c.loop-tick.ru c.loop-tick.intake c.loop-tick.coming c.loop-tick.meters c.requires.document old.at tick.0 m in
+    let m = c.in-Some.ensures d c.loop-tick.now.0 old.at in
+    let n = moment_comes d c.loop-tick.now.0 c.loop-tick.ru c.loop-tick.intake c.loop-tick.coming c.loop-tick.meters c.requires.document old.at tick m in
     let told = c.in_ok-moment.ensures in
     let next = sym c.tick_after-now.ensures in
     let there = heard_there g.A.Air.grew d c.loop-tick.now.0 tick.0 c.args.out.now c.loop-tick.out n.next old.heard in
@@ -91,8 +91,8 @@ returns-in_err-moment-clause-stop g c failed =
     let d = c.args.doc.now in
     let old = c.loop-tick.invariant in
     let tick = c.in-Some.tick in
-    let m = c.in-Some.ensures d old.at.turn.radio.history old.at.turn.intake.history old.at.turn.radio.stands old.at.turn.intake.stands in
-    let n = moment_comes d c.loop-tick.now.0 c.loop-tick.ru c.loop-tick.intake c.loop-tick.coming c.loop-tick.meters c.requires.document old.at tick.0 m in
+    let m = c.in-Some.ensures d c.loop-tick.now.0 old.at in
+    let n = moment_comes d c.loop-tick.now.0 c.loop-tick.ru c.loop-tick.intake c.loop-tick.coming c.loop-tick.meters c.requires.document old.at tick m in
     stops_whole g.A.Air.grew (g.A.Air.stopped Failed) g.met.A.Air.grew_more (InStep d c.moment.new.ru c.moment.new.intake) d tick.0 c.args.out.now c.loop-tick.out c.moment.new.out
     n.moment.turn.radio.turn.begun m.ended (heard_there g.A.Air.grew d c.loop-tick.now.0 tick.0 c.args.out.now c.loop-tick.out n.next old.heard) (c.moment.ensures.stop (same ∙ failed))
 
@@ -102,8 +102,8 @@ returns-in_err-moment-clause-wants g c wants =
     let d = c.args.doc.now in
     let old = c.loop-tick.invariant in
     let tick = c.in-Some.tick in
-    let m = c.in-Some.ensures d old.at.turn.radio.history old.at.turn.intake.history old.at.turn.radio.stands old.at.turn.intake.stands in
-    let n = moment_comes d c.loop-tick.now.0 c.loop-tick.ru c.loop-tick.intake c.loop-tick.coming c.loop-tick.meters c.requires.document old.at tick.0 m in
+    let m = c.in-Some.ensures d c.loop-tick.now.0 old.at in
+    let n = moment_comes d c.loop-tick.now.0 c.loop-tick.ru c.loop-tick.intake c.loop-tick.coming c.loop-tick.meters c.requires.document old.at tick m in
     halts_whole g.A.Air.grew (g.A.Air.stopped NoMemory) g.met.A.Air.grew_more (InStep d c.moment.new.ru c.moment.new.intake) d tick.0 c.args.out.now c.loop-tick.out c.moment.new.out
     n.moment.turn.radio.turn.begun m.ended (heard_there g.A.Air.grew d c.loop-tick.now.0 tick.0 c.args.out.now c.loop-tick.out n.next old.heard) (c.moment.ensures.wants (same ∙ wants))
 
@@ -111,7 +111,7 @@ pub returns-clause-heard : goal.returns-clause-heard
 returns-clause-heard g c =
     let d = c.args.doc.now in
     let old = c.loop-tick.invariant in
-    let still = c.in_default.ensures d old.at.turn.radio.history old.at.turn.intake.history old.at.turn.radio.stands old.at.turn.intake.stands in
+    let still = c.in_default.ensures d c.loop-tick.now.0 old.at in
     let n = end_comes d c.loop-tick.now.0 c.loop-tick.ru c.loop-tick.intake c.loop-tick.coming c.loop-tick.meters c.requires.document old.at still in
     heard_there g.A.Air.grew d c.loop-tick.now.0 (end_of_time +ℤ pos 1) c.args.out.now c.loop-tick.out n.next old.heard
 
@@ -119,7 +119,7 @@ pub returns-clause-over : goal.returns-clause-over
 returns-clause-over g c =
     let d = c.args.doc.now in
     let old = c.loop-tick.invariant in
-    let still = c.in_default.ensures d old.at.turn.radio.history old.at.turn.intake.history old.at.turn.radio.stands old.at.turn.intake.stands in
+    let still = c.in_default.ensures d c.loop-tick.now.0 old.at in
     let n = end_comes d c.loop-tick.now.0 c.loop-tick.ru c.loop-tick.intake c.loop-tick.coming c.loop-tick.meters c.requires.document old.at still in
     n.moment.turn
 
@@ -127,7 +127,7 @@ pub returns-clause-measured : goal.returns-clause-measured
 returns-clause-measured g c =
     let d = c.args.doc.now in
     let old = c.loop-tick.invariant in
-    let still = c.in_default.ensures d old.at.turn.radio.history old.at.turn.intake.history old.at.turn.radio.stands old.at.turn.intake.stands in
+    let still = c.in_default.ensures d c.loop-tick.now.0 old.at in
     let n = end_comes d c.loop-tick.now.0 c.loop-tick.ru c.loop-tick.intake c.loop-tick.coming c.loop-tick.meters c.requires.document old.at still in
     all_measured n.moment.measures
 

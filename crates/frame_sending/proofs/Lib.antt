@@ -1,0 +1,4 @@
+pub mod ReleaseLemmas
+pub mod MeasureLemmas
+pub mod OrderLemmas
+pub mod DueLemmas

@@ -1,0 +1,7 @@
+use Rattle.replay_turns.proofs.DownLemmas.{down_begins}
+use Rattle.replay_turns.proofs.WayLemmas.{starts}
+use Rattle.capture_air.specs.air_source.specs.declared.events.Side.TheVariants.{Ru}
+use Rattle.fronthaul_replay.proofs.downlink.Downlink.make.Goals as goal
+
+pub returns : goal.returns
+returns c = let d = c.args.doc.now in down_begins d c.args.plan _ c.requires.plan (starts d Ru _ c.in_ok-way.ensures)

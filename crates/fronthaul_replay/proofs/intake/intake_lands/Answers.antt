@@ -1,0 +1,160 @@
+use Rattle.std.proofs.Common.{rules, ◌≡◌, inl, ◌∙◌}
+use Rattle.std.proofs.lemmas.Result.{IfErr-at_err, on_ok_weaker}
+use Rattle.capture_air.specs.air_source.specs.declared.airs.AirFault.TheVariants.{Failed, NoMemory}
+use Rattle.capture_air.specs.air_source.specs.declared.events.Side.TheVariants.{Du as AtDu}
+use Rattle.measured_traffic.specs.document_delays.specs.Settings.{compensation_of}
+use Rattle.du_intake.specs.Calls.{IntakeMayTake}
+use Rattle.replay_turns.specs.Waiting.{begun_at, on_way}
+use Rattle.replay_turns.proofs.LandLemmas.{events_heard, here, may_land, meter_has, same, told_is, unit_stands, waits_on}
+use Rattle.replay_turns.specs.IntakeTurns.{planned_for}
+use Rattle.replay_turns.proofs.IntakeMomentLemmas.{has_landed, heard_all, landed_then, turn_then}
+use Rattle.replay_turns.proofs.IntakeStopLemmas.{halts_landing, stops_closing, stops_landing}
+use Rattle.replay_turns.proofs.ReadyLemmas.{intake_may_take, low_enough, stands_some}
+use Rattle.fronthaul_replay.proofs.intake.intake_lands.Given.{Over}
+use Rattle.fronthaul_replay.proofs.intake.intake_lands.Goals as goal
+use Rattle.fronthaul_replay.proofs.intake.intake_lands.Goals.{In_ok-land}
+
+-- all has landed, and the intake has taken it
+taken : (g : Over) (c : In_ok-land g) → IntakeMayTake c.land.new.unit c.args.doc.now.config (planned_for c.args.doc.now) c.args.tick.0 (landed_then c.args.doc.now c.args.tick.0 c.requires.turn.history)
+taken g c =
+    let d = c.args.doc.now in
+    let tick = c.args.tick.0 in
+    let a = c.requires.turn in
+    let w = c.requires.waits in
+    let may = may_land d AtDu tick w.0 c.requires.document w.1 c.args.way.now w.2 _ _ c.args.meter.now c.requires.begun c.requires.late (low_enough tick c.requires.ended) in
+    unit_stands d AtDu tick w.0 c.requires.document w.1 c.args.way.now w.2 (IntakeMayTake c.land.new.unit d.config (planned_for d) tick) a.history
+    (c.in_ok-land.ensures.took (on_way d AtDu w.2.sent) (compensation_of d AtDu) (begun_at d AtDu tick) d.config (planned_for d) a.history may
+    (intake_may_take d tick c.args.intake.now a c.requires.ended))
+
+pub land-requires-clause-unit : goal.land-requires-clause-unit
+land-requires-clause-unit g c =
+    let d = c.args.doc.now in
+    let a = c.requires.turn in
+    (d.config, planned_for d, a.history, intake_may_take d c.args.tick.0 c.args.intake.now a c.requires.ended)
+
+pub land-requires-clause-some : goal.land-requires-clause-some
+land-requires-clause-some g c =
+    let d = c.args.doc.now in
+    let tick = c.args.tick.0 in
+    let w = c.requires.waits in (
+      on_way d AtDu w.2.sent,
+      compensation_of d AtDu,
+      begun_at d AtDu tick,
+      may_land d AtDu tick w.0 c.requires.document w.1 c.args.way.now w.2 (goal.C-pre g) (goal.C-post g) c.args.meter.now c.requires.begun c.requires.late (low_enough tick c.requires.ended),
+    )
+
+pub returns-in_err-land-clause-stop : goal.returns-in_err-land-clause-stop
+returns-in_err-land-clause-stop g c failed =
+    let same_result : c.land.result ≡ c.from_residual.result = search rules in
+    let d = c.args.doc.now in
+    let tick = c.args.tick.0 in
+    let a = c.requires.turn in
+    let w = c.requires.waits in
+    let may = may_land d AtDu tick w.0 c.requires.document w.1 c.args.way.now w.2 (goal.C-pre g) (goal.C-post g) c.args.meter.now c.requires.begun c.requires.late (low_enough tick c.requires.ended) in
+    let xs = here d AtDu tick w.0 c.requires.document w.1 c.args.way.now w.2 in
+    stops_landing g.A.Air.grew (g.A.Air.stopped Failed) d tick (begun_at d AtDu tick) c.args.intake.now c.land.new.unit xs c.args.out.now c.land.new.out a
+    (told_is AtDu d tick xs (same d AtDu tick w.0 c.requires.document w.1 c.args.way.now w.2))
+    (c.land.ensures.stop (on_way d AtDu w.2.sent) (compensation_of d AtDu) (begun_at d AtDu tick) d.config (planned_for d) a.history may
+    (intake_may_take d tick c.args.intake.now a c.requires.ended) (same_result ∙ failed))
+
+pub returns-in_err-land-clause-wants : goal.returns-in_err-land-clause-wants
+returns-in_err-land-clause-wants g c wants =
+    let same_result : c.land.result ≡ c.from_residual.result = search rules in
+    let d = c.args.doc.now in
+    let tick = c.args.tick.0 in
+    let a = c.requires.turn in
+    let w = c.requires.waits in
+    let may = may_land d AtDu tick w.0 c.requires.document w.1 c.args.way.now w.2 (goal.C-pre g) (goal.C-post g) c.args.meter.now c.requires.begun c.requires.late (low_enough tick c.requires.ended) in
+    let xs = here d AtDu tick w.0 c.requires.document w.1 c.args.way.now w.2 in
+    halts_landing g.A.Air.grew (g.A.Air.stopped NoMemory) d tick (begun_at d AtDu tick) c.args.intake.now c.land.new.unit xs c.args.out.now c.land.new.out a
+    (told_is AtDu d tick xs (same d AtDu tick w.0 c.requires.document w.1 c.args.way.now w.2))
+    (c.land.ensures.wants (on_way d AtDu w.2.sent) (compensation_of d AtDu) (begun_at d AtDu tick) d.config (planned_for d) a.history may
+    (intake_may_take d tick c.args.intake.now a c.requires.ended) (same_result ∙ wants))
+
+pub close_until-requires-clause-unit : goal.close_until-requires-clause-unit
+close_until-requires-clause-unit g c =
+    let all = taken g (goal.at.close_until-requires-clause-unit g c).In_ok-land in
+    stands_some c.land.new.unit c.args.doc.now.config (planned_for c.args.doc.now) _ all.stands
+
+pub close_until-requires-clause-order : goal.close_until-requires-clause-order
+close_until-requires-clause-order g c = (taken g (goal.at.close_until-requires-clause-order g c).In_ok-land).order
+
+pub returns-clause-heard : goal.returns-clause-heard
+returns-clause-heard g c =
+    let d = c.args.doc.now in
+    let tick = c.args.tick.0 in
+    let a = c.requires.turn in
+    let w = c.requires.waits in
+    let all = taken g (goal.at.returns-clause-heard g c).In_ok-land in
+    let may = may_land d AtDu tick w.0 c.requires.document w.1 c.args.way.now w.2 (goal.C-pre g) (goal.C-post g) c.args.meter.now c.requires.begun c.requires.late (low_enough tick c.requires.ended) in
+    let l = c.in_ok-land.ensures.landed (on_way d AtDu w.2.sent) (compensation_of d AtDu) (begun_at d AtDu tick) may in
+    on_ok_weaker c.close_until.result
+    (λ second. heard_all g.A.Air.grew g.met.A.Air.grew_more d tick a.history (landed_then d tick a.history) c.args.out.now c.land.new.out c.close_until.new.air
+    (has_landed d tick c.args.intake.now c.requires.document a c.requires.ended)
+    (events_heard d AtDu tick w.0 c.requires.document w.1 c.args.way.now w.2 g.A.Air.grew (goal.C-pre g) (goal.C-post g) c.land.new.meter c.land.new.way c.args.out.now c.land.new.out l) second)
+    (c.close_until.ensures.heard d.config (planned_for d) (landed_then d tick a.history) all.stands)
+
+pub returns-clause-turn : goal.returns-clause-turn
+returns-clause-turn g c =
+    let d = c.args.doc.now in
+    let tick = c.args.tick.0 in
+    let a = c.requires.turn in
+    let all = taken g (goal.at.returns-clause-turn g c).In_ok-land in
+    on_ok_weaker c.close_until.result
+    (λ stands. turn_then d tick a.history (landed_then d tick a.history) c.close_until.new.self (has_landed d tick c.args.intake.now c.requires.document a c.requires.ended) stands)
+    (c.close_until.ensures.stands d.config (planned_for d) (landed_then d tick a.history) all.stands)
+
+pub returns-clause-waits : goal.returns-clause-waits
+returns-clause-waits g c left later waits =
+    let d = c.args.doc.now in
+    let tick = c.args.tick.0 in
+    let may = may_land d AtDu tick left c.requires.document later c.args.way.now waits (goal.C-pre g) (goal.C-post g) c.args.meter.now c.requires.begun c.requires.late (low_enough tick c.requires.ended) in
+    let l = c.in_ok-land.ensures.landed (on_way d AtDu waits.sent) (compensation_of d AtDu) (begun_at d AtDu tick) may in
+    on_ok_weaker c.close_until.result
+    (λ clock. waits_on d AtDu tick left c.requires.document later c.args.way.now waits g.A.Air.grew (goal.C-pre g) (goal.C-post g) c.land.new.meter c.land.new.way c.args.out.now c.land.new.out l)
+    c.close_until.ensures.clock
+
+pub returns-clause-made : goal.returns-clause-made
+returns-clause-made g c =
+    let d = c.args.doc.now in
+    let tick = c.args.tick.0 in
+    let w = c.requires.waits in
+    let may = may_land d AtDu tick w.0 c.requires.document w.1 c.args.way.now w.2 (goal.C-pre g) (goal.C-post g) c.args.meter.now c.requires.begun c.requires.late (low_enough tick c.requires.ended) in
+    let l = c.in_ok-land.ensures.landed (on_way d AtDu w.2.sent) (compensation_of d AtDu) (begun_at d AtDu tick) may in
+    on_ok_weaker c.close_until.result
+    (λ clock. meter_has d AtDu tick w.0 c.requires.document w.1 c.args.way.now w.2 g.A.Air.grew (goal.C-pre g) (goal.C-post g) c.land.new.meter c.land.new.way c.args.out.now c.land.new.out l)
+    c.close_until.ensures.clock
+
+pub returns-clause-stop : goal.returns-clause-stop
+returns-clause-stop g c failed =
+    let d = c.args.doc.now in
+    let tick = c.args.tick.0 in
+    let a = c.requires.turn in
+    let w = c.requires.waits in
+    let all = taken g (goal.at.returns-clause-stop g c).In_ok-land in
+    let may = may_land d AtDu tick w.0 c.requires.document w.1 c.args.way.now w.2 (goal.C-pre g) (goal.C-post g) c.args.meter.now c.requires.begun c.requires.late (low_enough tick c.requires.ended) in
+    let l = c.in_ok-land.ensures.landed (on_way d AtDu w.2.sent) (compensation_of d AtDu) (begun_at d AtDu tick) may in
+    stops_closing g.A.Air.grew (g.A.Air.stopped Failed) g.met.A.Air.grew_more d tick a.history (landed_then d tick a.history) c.close_until.new.self c.args.out.now c.land.new.out c.close_until.new.air
+    (has_landed d tick c.args.intake.now c.requires.document a c.requires.ended)
+    (events_heard d AtDu tick w.0 c.requires.document w.1 c.args.way.now w.2 g.A.Air.grew (goal.C-pre g) (goal.C-post g) c.land.new.meter c.land.new.way c.args.out.now c.land.new.out l)
+    (IfErr-at_err _ failed (c.close_until.ensures.stop d.config (planned_for d) (landed_then d tick a.history) all.stands))
+
+pub returns-clause-wants : goal.returns-clause-wants
+returns-clause-wants g c wants =
+    let d = c.args.doc.now in
+    let tick = c.args.tick.0 in
+    let a = c.requires.turn in
+    let w = c.requires.waits in
+    let all = taken g (goal.at.returns-clause-wants g c).In_ok-land in
+    let may = may_land d AtDu tick w.0 c.requires.document w.1 c.args.way.now w.2 (goal.C-pre g) (goal.C-post g) c.args.meter.now c.requires.begun c.requires.late (low_enough tick c.requires.ended) in
+    let l = c.in_ok-land.ensures.landed (on_way d AtDu w.2.sent) (compensation_of d AtDu) (begun_at d AtDu tick) may in
+    inl (stops_closing g.A.Air.grew (g.A.Air.stopped NoMemory) g.met.A.Air.grew_more d tick a.history (landed_then d tick a.history) c.close_until.new.self c.args.out.now c.land.new.out c.close_until.new.air
+    (has_landed d tick c.args.intake.now c.requires.document a c.requires.ended)
+    (events_heard d AtDu tick w.0 c.requires.document w.1 c.args.way.now w.2 g.A.Air.grew (goal.C-pre g) (goal.C-post g) c.land.new.meter c.land.new.way c.args.out.now c.land.new.out l)
+    (IfErr-at_err _ wants (c.close_until.ensures.stop d.config (planned_for d) (landed_then d tick a.history) all.stands)))
+
+pub returns-clause-same : goal.returns-clause-same
+returns-clause-same g c = g.met.A.Air.same_more c.args.out.now c.land.new.out c.close_until.new.air c.land.ensures.same c.close_until.ensures.same
+
+pub close_until-requires-clause-time : goal.close_until-requires-clause-time
+close_until-requires-clause-time g c = (taken g (goal.at.close_until-requires-clause-time g c).In_ok-land).time

@@ -1,0 +1,124 @@
+// The distributed unit's part of a moment.
+ghost use Rattle.std.specs.Prelude.{◌≡◌, ℤ, pos, ◌+ℤ◌, ◌≤ℤ◌, List, ◌∷◌, All, IsErrOf, OnErr, OnOk};
+ghost use Rattle.capture_air.specs.air_source.specs.Causes.{HasAirCause};
+ghost use Rattle.capture_air.specs.air_source.specs.declared.airs.AirFault.TheVariants.{Failed, NoMemory as WantsMemory};
+ghost use Rattle.capture_air.specs.air_source.specs.declared.events.Side.TheVariants.{Du as AtDu};
+ghost use Rattle.measured_traffic.specs.frame_deliveries.specs.Landing.{landing_at};
+ghost use Rattle.measured_traffic.specs.frame_deliveries.specs.Leaving.{Leaving};
+ghost use Rattle.measured_traffic.specs.Replayed.{landings_for, made_at};
+ghost use Rattle.measured_traffic.specs.document_delays.specs.Settings.{compensation_of};
+ghost use Rattle.measured_traffic.specs.document_traffic.specs.Laws.{IsReplayable};
+ghost use Rattle.measured_traffic.specs.replay_events.specs.Moments.{end_of_time};
+ghost use Rattle.measured_traffic.specs.unit_model.specs.Meetings.{Arrival};
+ghost use Rattle.measured_traffic.specs.fh_document.specs.declared.document.Document.{Document as SpecDocument};
+ghost use Rattle.replay_turns.specs.Answering.{Answered, IsDueAt, MayAnswer};
+ghost use Rattle.replay_turns.specs.Turns.{AtRadioTurn, HasRadioLanded, IsRadioInStep, intake_events};
+ghost use Rattle.replay_turns.specs.Up.{HasLandedUp, WaitsUp};
+ghost use Rattle.replay_turns.specs.IntakeTurns.{AtIntakeTurn, IsIntakeInStep, heard_before};
+ghost use Rattle.replay_turns.specs.Waiting.{LandsAfter, Waits, begun_at};
+ghost use Rattle.unit_moments.specs.Stops.{HaltsBehind, StopsBehind};
+ghost use Rattle.unit_moments.specs.delay_exchange.specs.Meters.{HasDoings};
+
+use crate::answers::Answers;
+use air_source::{Air, AirFault, RePlace, Side};
+use bfp_codec::Wide;
+use delay_exchange::UnitMeter;
+use delay_measure::Edge;
+use du_intake::Intake;
+use fh_base::NoMemory;
+use fh_document::Document;
+use fh_time::Ticks;
+use frame_network::FramePool;
+use frame_sending::release_all;
+use frame_ways::Way;
+use ru_buffers::Ru;
+use unit_moments::land;
+
+/// Takes all messages that are due from the unit; their frames wait for the times at which they leave.
+fn answer<G: Fn(RePlace) -> Wide>(ru: &mut Ru, answers: &mut Answers<'_, G>) -> Result<(), NoMemory>
+    requires { MayAnswer G.pre G.post ru.old answers.old.uplink answers.old.outbox.frames answers.old.queue answers.old.way }
+    ensures done { (d : SpecDocument) (tick : ℤ) → IsDueAt d tick → HasRadioLanded d tick ru.old → WaitsUp G.pre G.post d tick answers.old.uplink answers.old.outbox.frames answers.old.queue answers.old.way
+        → OnOk result (Answered G.pre G.post d tick ru.new answers.new.uplink answers.new.outbox.frames answers.new.queue answers.new.way) }
+    ensures stays { (d : SpecDocument) (tick : ℤ) → IsDueAt d tick → HasRadioLanded d tick ru.old → WaitsUp G.pre G.post d tick answers.old.uplink answers.old.outbox.frames answers.old.queue answers.old.way
+        → IsRadioInStep d (heard_before d tick) ru.new }
+{
+    answers.outbox.swap_pool(&mut answers.pool);
+    answers.uplink.emit(ru, &mut answers.outbox)?;
+    answers.outbox.swap_pool(&mut answers.pool);
+    answers.queue.fill(&mut answers.outbox)
+}
+
+/// All that lands at the distributed unit at a moment is told, and then its cells, where the radio unit's frames of the moment have left.
+fn intake_lands<A: Air, C: Fn(Edge) -> i64>(
+    doc: &Document,
+    tick: Ticks,
+    intake: &mut Intake,
+    meter: &mut UnitMeter<C>,
+    way: &mut Way<'_>,
+    pool: &mut FramePool,
+    out: &mut A,
+) -> Result<(), AirFault>
+    requires document { IsReplayable doc.now }
+    requires turn { AtIntakeTurn doc.now tick.0 intake.old }
+    requires waits { (left : List Leaving) × All (LandsAfter tick.0) left × Waits doc.now AtDu tick.0 left way.old }
+    requires begun { HasDoings C.pre C.post (compensation_of doc.now AtDu) (begun_at doc.now AtDu tick.0) meter.old }
+    requires late { (a : Arrival) (more : List Arrival) → landing_at (landings_for AtDu doc.now) tick.0 ≡ a ∷ more → pos 0 ≤ℤ tick.0 }
+    requires ended { tick.0 ≤ℤ end_of_time }
+    ensures heard { OnOk result (A.grew out.old (intake_events doc.now tick.0) out.new) }
+    ensures turn { OnOk result (AtIntakeTurn doc.now (tick.0 +ℤ pos 1) intake.new) }
+    ensures waits { (left : List Leaving) → All (LandsAfter tick.0) left → Waits doc.now AtDu tick.0 left way.old → OnOk result (Waits doc.now AtDu (tick.0 +ℤ pos 1) left way.new) }
+    ensures made { OnOk result (HasDoings C.pre C.post (compensation_of doc.now AtDu) (made_at doc.now AtDu tick.0) meter.new) }
+    ensures stop { IsErrOf result Failed → StopsBehind A.grew (A.stopped Failed) (λ told. IsIntakeInStep doc.now told intake.new) (heard_before doc.now tick.0) (intake_events doc.now tick.0) out.old out.new }
+    ensures wants { IsErrOf result WantsMemory → HaltsBehind A.grew (A.stopped WantsMemory) (λ told. IsIntakeInStep doc.now told intake.new) (heard_before doc.now tick.0) (intake_events doc.now tick.0) out.old out.new }
+    ensures same { A.same out.old out.new }
+    ensures cause { HasAirCause (A.faults out.old) (A.faults out.new) result }
+{
+    land(Side::Du, tick, intake, meter, way, pool, out)?;
+    intake.close_until(tick, out)
+}
+
+/// What comes behind the radio unit's part of a moment: its messages of this time are handed over, the frames that leave then are in
+/// flight, all that lands at the distributed unit is delivered, and this unit's cells are told.
+pub(crate) fn intake_moment<A: Air, G: Fn(RePlace) -> Wide, C: Fn(Edge) -> i64>(
+    doc: &Document,
+    tick: Ticks,
+    ru: &mut Ru,
+    answers: &mut Answers<'_, G>,
+    intake: &mut Intake,
+    meter: &mut UnitMeter<C>,
+    out: &mut A,
+) -> Result<(), AirFault>
+    requires document { IsReplayable doc.now }
+    requires landed { HasRadioLanded doc.now tick.0 ru.old }
+    requires waits { WaitsUp G.pre G.post doc.now tick.0 answers.old.uplink answers.old.outbox.frames answers.old.queue answers.old.way }
+    requires turn { AtIntakeTurn doc.now tick.0 intake.old }
+    requires begun { HasDoings C.pre C.post (compensation_of doc.now AtDu) (begun_at doc.now AtDu tick.0) meter.old }
+    requires ended { tick.0 ≤ℤ end_of_time }
+    ensures heard { OnOk result (A.grew out.old (intake_events doc.now tick.0) out.new) }
+    ensures radio { OnOk result (AtRadioTurn doc.now (tick.0 +ℤ pos 1) ru.new) }
+    ensures waits { OnOk result (HasLandedUp G.pre G.post doc.now tick.0 answers.new.uplink answers.new.outbox.frames answers.new.queue answers.new.way) }
+    ensures made { OnOk result (HasDoings C.pre C.post (compensation_of doc.now AtDu) (made_at doc.now AtDu tick.0) meter.new) }
+    ensures turn { OnOk result (AtIntakeTurn doc.now (tick.0 +ℤ pos 1) intake.new) }
+    ensures stays { OnErr result (IsRadioInStep doc.now (heard_before doc.now tick.0) ru.new) }
+    ensures stop { IsErrOf result Failed → StopsBehind A.grew (A.stopped Failed) (λ told. IsIntakeInStep doc.now told intake.new) (heard_before doc.now tick.0) (intake_events doc.now tick.0) out.old out.new }
+    ensures wants { IsErrOf result WantsMemory → HaltsBehind A.grew (A.stopped WantsMemory) (λ told. IsIntakeInStep doc.now told intake.new) (heard_before doc.now tick.0) (intake_events doc.now tick.0) out.old out.new }
+    ensures same { A.same out.old out.new }
+    ensures cause { HasAirCause (A.faults out.old) (A.faults out.new) result }
+{
+    answer(ru, answers)?;
+    release_all(
+        tick,
+        &mut answers.queue,
+        &mut answers.pool,
+        &mut answers.way,
+    )?;
+    intake_lands(
+        doc,
+        tick,
+        intake,
+        meter,
+        &mut answers.way,
+        &mut answers.pool,
+        out,
+    )
+}

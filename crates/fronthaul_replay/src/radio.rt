@@ -1,0 +1,107 @@
+// The radio unit's part of a moment.
+ghost use Rattle.std.specs.Prelude.{◌≡◌, pos, ◌+ℤ◌, ◌≤ℤ◌, List, ◌∷◌, All, IsErrOf, OnOk};
+ghost use Rattle.capture_air.specs.air_source.specs.Answers.{AnswersBy};
+ghost use Rattle.capture_air.specs.air_source.specs.Causes.{HasAirCause};
+ghost use Rattle.capture_air.specs.air_source.specs.Kept.{IsKept, closure_of};
+ghost use Rattle.capture_air.specs.air_source.specs.declared.airs.AirFault.TheVariants.{Failed, NoMemory as WantsMemory};
+ghost use Rattle.capture_air.specs.air_source.specs.declared.events.Side.TheVariants.{Ru as AtRu};
+ghost use Rattle.measured_traffic.specs.frame_deliveries.specs.Landing.{landing_at};
+ghost use Rattle.measured_traffic.specs.frame_deliveries.specs.Leaving.{Leaving};
+ghost use Rattle.measured_traffic.specs.Replayed.{landings_for, made_at};
+ghost use Rattle.measured_traffic.specs.document_delays.specs.Settings.{compensation_of};
+ghost use Rattle.measured_traffic.specs.document_traffic.specs.Laws.{IsReplayable};
+ghost use Rattle.measured_traffic.specs.replay_events.specs.Moments.{end_of_time};
+ghost use Rattle.measured_traffic.specs.tone_source.specs.Tones.{tone_of};
+ghost use Rattle.measured_traffic.specs.unit_model.specs.Meetings.{Arrival};
+ghost use Rattle.replay_turns.specs.Down.{HasLandedDown, WaitsDown};
+ghost use Rattle.replay_turns.specs.Turns.{AtRadioTurn, HasRadioLanded, IsRadioInStep, events_before, radio_events};
+ghost use Rattle.replay_turns.specs.Waiting.{LandsAfter, Waits, begun_at};
+ghost use Rattle.unit_moments.specs.Stops.{HaltsBehind, StopsBehind};
+ghost use Rattle.unit_moments.specs.delay_exchange.specs.Meters.{HasDoings};
+
+use crate::downlink::Downlink;
+use air_source::{Air, AirFault, RePlace, Samples, Side};
+use bfp_codec::Wide;
+use delay_exchange::UnitMeter;
+use delay_measure::Edge;
+use fh_document::Document;
+use fh_time::Ticks;
+use frame_network::FramePool;
+use frame_sending::send_due;
+use frame_ways::Way;
+use ru_buffers::Ru;
+use unit_moments::land;
+
+/// The radio unit's cells of a moment are told, and all that lands at it then, where the plan's frames of the moment have left.
+fn radio_lands<A: Air, C: Fn(Edge) -> i64>(
+    doc: &Document,
+    tick: Ticks,
+    ru: &mut Ru,
+    meter: &mut UnitMeter<C>,
+    way: &mut Way<'_>,
+    pool: &mut FramePool,
+    out: &mut A,
+) -> Result<(), AirFault>
+    requires document { IsReplayable doc.now }
+    requires turn { AtRadioTurn doc.now tick.0 ru.old }
+    requires waits { (left : List Leaving) × All (LandsAfter tick.0) left × Waits doc.now AtRu tick.0 left way.old }
+    requires begun { HasDoings C.pre C.post (compensation_of doc.now AtRu) (begun_at doc.now AtRu tick.0) meter.old }
+    requires late { (a : Arrival) (more : List Arrival) → landing_at (landings_for AtRu doc.now) tick.0 ≡ a ∷ more → pos 0 ≤ℤ tick.0 }
+    requires ended { tick.0 ≤ℤ end_of_time }
+    ensures heard { OnOk result (A.grew out.old (radio_events doc.now tick.0) out.new) }
+    ensures landed { OnOk result (HasRadioLanded doc.now tick.0 ru.new) }
+    ensures waits { (left : List Leaving) → All (LandsAfter tick.0) left → Waits doc.now AtRu tick.0 left way.old → OnOk result (Waits doc.now AtRu (tick.0 +ℤ pos 1) left way.new) }
+    ensures made { OnOk result (HasDoings C.pre C.post (compensation_of doc.now AtRu) (made_at doc.now AtRu tick.0) meter.new) }
+    ensures stop { IsErrOf result Failed → StopsBehind A.grew (A.stopped Failed) (λ told. IsRadioInStep doc.now told ru.new) (events_before doc.now tick.0) (radio_events doc.now tick.0) out.old out.new }
+    ensures wants { IsErrOf result WantsMemory → HaltsBehind A.grew (A.stopped WantsMemory) (λ told. IsRadioInStep doc.now told ru.new) (events_before doc.now tick.0) (radio_events doc.now tick.0) out.old out.new }
+    ensures same { A.same out.old out.new }
+    ensures cause { HasAirCause (A.faults out.old) (A.faults out.new) result }
+{
+    ru.advance(tick, out)?;
+    land(Side::Ru, tick, ru, meter, way, pool, out)
+}
+
+/// What comes at the radio unit at one time, once its measurements of the time have begun: the plan's frames that leave then go on their
+/// way, its cells are told, and the frames that land, each with the delays that it makes known.
+pub(crate) fn radio_moment<A: Air, F: Fn(RePlace) -> Wide, C: Fn(Edge) -> i64>(
+    doc: &Document,
+    tick: Ticks,
+    du: &Samples<F>,
+    ru: &mut Ru,
+    meter: &mut UnitMeter<C>,
+    downlink: &mut Downlink<'_>,
+    out: &mut A,
+) -> Result<(), AirFault>
+    requires kept { IsKept F.pre F.post du.now }
+    requires tone { AnswersBy (F.post (closure_of du.now)) (tone_of doc.now.source) }
+    requires document { IsReplayable doc.now }
+    requires turn { AtRadioTurn doc.now tick.0 ru.old }
+    requires waits { WaitsDown doc.now tick.0 downlink.old.plan downlink.old.way }
+    requires begun { HasDoings C.pre C.post (compensation_of doc.now AtRu) (begun_at doc.now AtRu tick.0) meter.old }
+    requires ended { tick.0 ≤ℤ end_of_time }
+    ensures heard { OnOk result (A.grew out.old (radio_events doc.now tick.0) out.new) }
+    ensures landed { OnOk result (HasRadioLanded doc.now tick.0 ru.new) }
+    ensures waits { OnOk result (HasLandedDown doc.now tick.0 downlink.new.plan downlink.new.way) }
+    ensures made { OnOk result (HasDoings C.pre C.post (compensation_of doc.now AtRu) (made_at doc.now AtRu tick.0) meter.new) }
+    ensures stop { IsErrOf result Failed → StopsBehind A.grew (A.stopped Failed) (λ told. IsRadioInStep doc.now told ru.new) (events_before doc.now tick.0) (radio_events doc.now tick.0) out.old out.new }
+    ensures wants { IsErrOf result WantsMemory → HaltsBehind A.grew (A.stopped WantsMemory) (λ told. IsRadioInStep doc.now told ru.new) (events_before doc.now tick.0) (radio_events doc.now tick.0) out.old out.new }
+    ensures same { A.same out.old out.new }
+    ensures cause { HasAirCause (A.faults out.old) (A.faults out.new) result }
+{
+    send_due(
+        tick,
+        du,
+        &mut downlink.plan,
+        &mut downlink.pool,
+        &mut downlink.way,
+    )?;
+    radio_lands(
+        doc,
+        tick,
+        ru,
+        meter,
+        &mut downlink.way,
+        &mut downlink.pool,
+        out,
+    )
+}

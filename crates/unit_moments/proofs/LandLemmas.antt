@@ -1,0 +1,178 @@
+-- Frames that land at a unit one after the other.
+use Rattle.std.proofs.Common.{◌≡◌, ℕ, ℤ, pos, ◌≤ℤ◌, List, [], ◌∷◌, ◌++◌, refl, sym, ap, ◌∙◌, subst, append_assoc}
+use Rattle.air_source.specs.declared.events.Event.{Event}
+use Rattle.air_source.specs.declared.events.Side.{Side}
+use Rattle.delay_exchange.specs.Meters.{HasDoings}
+use Rattle.delay_exchange.specs.declared.unit.UnitMeter.{UnitMeter}
+use Rattle.delay_exchange.specs.delay_laws.specs.Nodes.{Compensation}
+use Rattle.delay_exchange.specs.delay_model.specs.Doings.{Doings, results_of, with_frame, with_frames}
+use Rattle.delay_exchange.specs.replay_events.proofs.HeardLemmas.{arrivals-append, arrivals-own}
+use Rattle.delay_exchange.specs.replay_events.proofs.ToldLemmas.{none_told, told_next, told_one}
+use Rattle.delay_exchange.specs.replay_events.specs.Events.{arrival_told}
+use Rattle.delay_exchange.specs.replay_events.specs.Heard.{arrivals_heard}
+use Rattle.delay_measure.specs.declared.edge.Edge.{Edge}
+use Rattle.frame_deliveries.specs.Landing.{arrival_at, landing_at}
+use Rattle.frame_ways.specs.Landed.{bytes_of}
+use Rattle.frame_ways.specs.Ways.{HasLanded, Lands, LandsNext, OnWay, landings_on}
+use Rattle.frame_ways.specs.declared.landed.Landed.{Landed}
+use Rattle.frame_ways.specs.declared.way.Way.{Way}
+use Rattle.frame_ways.proofs.SendLemmas.{none_landed}
+use Rattle.unit_model.proofs.OntoLemmas.{onto-append, onto_none}
+use Rattle.unit_model.specs.Lists.{onto}
+use Rattle.unit_model.specs.Meetings.{Arrival}
+use Rattle.unit_model.specs.Standing.{History, arrived, at_clock}
+use Rattle.unit_model.specs.declared.allocations.Allocation.{Allocation}
+use Rattle.unit_model.specs.window_config.specs.declared.config.Config.{Config}
+use Rattle.unit_moments.specs.Landing.{HasTaken, HaveLanded, MayLand, clock_behind, landed, told_of_frame, told_of_frames}
+use Rattle.unit_moments.specs.Stops.{HaltsBehind, StopsBehind}
+use Rattle.unit_moments.proofs.StopLemmas.{halts_ahead, halts_behind, halts_moved, stops_ahead, stops_behind, stops_moved}
+
+-- ---- what a meter has of them, and what is told
+
+pub with_frames-append : (c : Compensation) (t : ℤ) (x : Doings) (xs ys : List Arrival) → with_frames c t x (xs ++ ys) ≡ with_frames c t (with_frames c t x xs) ys
+with_frames-append c t x [] ys = refl
+with_frames-append c t x (a ∷ xs) ys = with_frames-append c t (with_frame c t x a.frame) xs ys
+
+pub told-append : (side : Side) (c : Compensation) (tick : ℤ) (x : Doings) (xs ys : List Arrival)
+    → told_of_frames side c tick x (xs ++ ys) ≡ told_of_frames side c tick x xs ++ told_of_frames side c tick (with_frames c tick x xs) ys
+told-append side c tick x [] ys = sym (ap (λ (es : List Event). es ++ told_of_frames side c tick x ys) (none_told side []))
+told-append side c tick x (a ∷ xs) ys =
+    let more = with_frame c tick x a.frame in
+    let one = arrival_told side a more.results in
+    let rest = told_of_frames side c tick (with_frames c tick more xs) ys in
+    told_next side more.results (results_of c tick more (xs ++ ys)) a (xs ++ ys)
+    ∙ ap (λ (es : List Event). one ++ es) (told-append side c tick more xs ys)
+    ∙ sym (append_assoc one (told_of_frames side c tick more xs) rest)
+    ∙ ap (λ (es : List Event). es ++ rest) (sym (told_next side more.results (results_of c tick more xs) a xs))
+
+-- ---- what the unit stands for
+
+-- a history with these arrivals at a clock
+abbrev with_arrivals : ℤ → History → List Arrival → History
+with_arrivals clock h xs = record { clock = clock; arrivals = xs; reported = h.reported; given = h.given }
+
+landed_none : (tick : ℤ) (h : History) → h ≡ landed tick h []
+landed_none tick h = sym (ap (with_arrivals h.clock h) (onto_none h.arrivals))
+
+clock_then : (tick clock : ℤ) (xs : List Arrival) (a : Arrival) → tick ≡ clock_behind tick clock (xs ++ a ∷ [])
+clock_then tick clock [] a = refl
+clock_then tick clock (x ∷ xs) a = refl
+
+landed_next : (tick : ℤ) (h : History) (xs : List Arrival) (frame : List ℕ) → arrived (at_clock (landed tick h xs) tick) frame ≡ landed tick h (xs ++ arrival_at tick frame ∷ [])
+unfolding onto
+landed_next tick h xs frame =
+    let all = onto h.arrivals (xs ++ arrival_at tick frame ∷ []) in
+    ap (with_arrivals tick h) (sym (onto-append h.arrivals xs (arrival_at tick frame ∷ [])))
+    ∙ ap (λ (t : ℤ). with_arrivals t h all) (clock_then tick h.clock xs (arrival_at tick frame))
+
+-- ---- the frames so far
+
+-- some of those that come to a unit at a tick were told, each with its delays, the unit took them, its meter was told them, and the rest is on its way
+pub record AreTold {A C : Type 0} (grew : A → List Event → A → Type 0) (pre : C → Edge → Type 0) (post : C → Edge → ℤ → Type 0) (side : Side) (v : OnWay) (tick : ℤ) (c : Compensation)
+    (x : Doings) (takes_old takes_now : Config → List Allocation → History → Type 0) (m : UnitMeter C) (now : Way) (before after : A) : Type 0 where
+  pub gone : List Arrival
+  pub lands : Lands v tick gone now
+  pub heard : grew before (told_of_frames side c tick x gone) after
+  pub made : HasDoings pre post c (with_frames c tick x gone) m
+  pub takes : (k : Config) (planned : List Allocation) (h : History) → takes_old k planned h → takes_now k planned (landed tick h gone)
+
+module _ {A C : Type 0} (grew : A → List Event → A → Type 0) (pre : C → Edge → Type 0) (post : C → Edge → ℤ → Type 0) (side : Side) (v : OnWay) (tick : ℤ) (c : Compensation) (x : Doings) where
+  pub none_are_told : (takes_old : Config → List Allocation → History → Type 0) (m : UnitMeter C) (w : Way) (a : A) → MayLand pre post v tick c x w m → grew a [] a → AreTold grew pre post side v tick c x takes_old takes_old m w a a
+  none_are_told takes_old m w a may none = record {
+    gone = [];
+    lands = none_landed v tick w may.waits;
+    heard = subst (λ (es : List Event). grew a es a) (sym (none_told side [])) none;
+    made = may.doings;
+    takes = λ k planned h stands. subst (takes_old k planned) (landed_none tick h) stands;
+  }
+
+  module _ (more : (a b d : A) (first second : List Event) → grew a first b → grew b second d → grew a (first ++ second) d) (f : Landed) (takes_old takes_now : Config → List Allocation → History → Type 0) (m : UnitMeter C)
+      (before now : Way) (a b : A) (so_far : AreTold grew pre post side v tick c x takes_old takes_now m before a b) (next : LandsNext v tick so_far.gone f now) where
+    abbrev all : List Arrival
+    all = landing_at (landings_on v) tick
+
+    abbrev one : Arrival
+    one = arrival_at tick (bytes_of f)
+
+    abbrev first : List Event
+    first = told_of_frames side c tick x so_far.gone
+
+    abbrev has : Doings
+    has = with_frames c tick x so_far.gone
+
+    abbrev has_then : Doings
+    has_then = with_frame c tick has (bytes_of f)
+
+    abbrev here : List Event
+    here = told_of_frame side c tick has (bytes_of f)
+
+    abbrev later : List Event
+    later = told_of_frames side c tick has_then next.comes
+
+    -- there is one
+    pub some_comes : ((y : Arrival) (ys : List Arrival) → all ≡ y ∷ ys → pos 0 ≤ℤ tick) → pos 0 ≤ℤ tick
+    some_comes late = go so_far.gone next.there
+      where
+        go : (gone : List Arrival) → all ≡ gone ++ one ∷ next.comes → pos 0 ≤ℤ tick
+        go [] is = late one next.comes is
+        go (y ∷ ys) is = late y (ys ++ one ∷ next.comes) is
+
+    -- one more was told
+    pub one_more_told : (takes_new : Config → List Allocation → History → Type 0) (n : UnitMeter C) (e : A) → grew b here e → HasDoings pre post c has_then n
+        → ((k : Config) (planned : List Allocation) (h : History) → takes_now k planned h → takes_new k planned (arrived (at_clock h tick) (bytes_of f)))
+        → AreTold grew pre post side v tick c x takes_old takes_new n now a e
+    one_more_told takes_new n e heard made takes =
+        let told = told-append side c tick x so_far.gone (one ∷ []) ∙ ap (λ (es : List Event). first ++ es) (told_one side has_then.results [] one) in
+        record {
+          gone = so_far.gone ++ one ∷ [];
+          lands = next.lands;
+          heard = subst (λ (es : List Event). grew a es e) (sym told) (more a b e first here so_far.heard heard);
+          made = subst (λ (z : Doings). HasDoings pre post c z n) (sym (with_frames-append c tick x so_far.gone (one ∷ []))) made;
+          takes = λ k planned h stands. subst (takes_new k planned) (landed_next tick h so_far.gone (bytes_of f)) (takes k planned (landed tick h so_far.gone) (so_far.takes k planned h stands));
+        }
+
+    all_told : first ++ (here ++ later) ≡ told_of_frames side c tick x all
+    all_told =
+        sym (ap (told_of_frames side c tick x) next.there ∙ told-append side c tick x so_far.gone (one ∷ next.comes)
+        ∙ ap (λ (es : List Event). first ++ es) (told_next side has_then.results (results_of c tick has_then next.comes) one next.comes))
+
+    -- what was taken of this frame was taken behind those before it
+    taken_behind : (stands : History → Type 0) (h : History) (told : List Event) → HasTaken stands side (landed tick h so_far.gone) told → HasTaken stands side h (first ++ told)
+    taken_behind stands h told t = record {
+      history = t.history;
+      stands_is = t.stands_is;
+      arrivals = t.arrivals
+          ∙ ap (λ (earlier : List Arrival). arrivals_heard side earlier told) (sym (arrivals-own side h.arrivals (results_of c tick x so_far.gone) so_far.gone))
+          ∙ sym (arrivals-append side h.arrivals first told);
+      reported = t.reported;
+      given = t.given;
+    }
+
+    -- the air stopped in it, or in a delay of it
+    pub stops_here : (stopped : A → Event → A → Type 0) (stands : History → Type 0) (h : History) (e : A) → StopsBehind grew stopped (HasTaken stands side (landed tick h so_far.gone)) [] here b e
+        → StopsBehind grew stopped (HasTaken stands side h) [] (told_of_frames side c tick x all) a e
+    stops_here stopped stands h e s =
+        subst (λ (es : List Event). StopsBehind grew stopped (HasTaken stands side h) [] es a e) all_told
+        (stops_behind grew stopped more (HasTaken stands side h) [] first (here ++ later) a b e so_far.heard
+        (stops_ahead grew stopped (HasTaken stands side h) first here later b e
+        (stops_moved grew stopped (HasTaken stands side (landed tick h so_far.gone)) (HasTaken stands side h) [] first here b e (λ told rest is t. taken_behind stands h told t) s)))
+
+    pub halts_here : (stopped : A → Event → A → Type 0) (stands : History → Type 0) (h : History) (e : A) → HaltsBehind grew stopped (HasTaken stands side (landed tick h so_far.gone)) [] here b e
+        → HaltsBehind grew stopped (HasTaken stands side h) [] (told_of_frames side c tick x all) a e
+    halts_here stopped stands h e s =
+        subst (λ (es : List Event). HaltsBehind grew stopped (HasTaken stands side h) [] es a e) all_told
+        (halts_behind grew stopped more (HasTaken stands side h) [] first (here ++ later) a b e so_far.heard
+        (halts_ahead grew stopped (HasTaken stands side h) first here later b e
+        (halts_moved grew stopped (HasTaken stands side (landed tick h so_far.gone)) (HasTaken stands side h) [] first here b e (λ told rest is t. taken_behind stands h told t) s)))
+
+  -- none is left
+  module _ (takes_old takes_now : Config → List Allocation → History → Type 0) (m : UnitMeter C) (before now : Way) (a b : A) (so_far : AreTold grew pre post side v tick c x takes_old takes_now m before a b) (over : HasLanded v tick so_far.gone now) where
+    pub all_landed : HaveLanded grew pre post side v tick c x m now a b
+    all_landed = record {
+      heard = subst (λ (xs : List Arrival). grew a (told_of_frames side c tick x xs) b) (sym over.all) so_far.heard;
+      made = subst (λ (xs : List Arrival). HasDoings pre post c (with_frames c tick x xs) m) (sym over.all) so_far.made;
+      waits = over.stands;
+    }
+
+    pub all_taken : (k : Config) (planned : List Allocation) (h : History) → takes_old k planned h → takes_now k planned (landed tick h (landing_at (landings_on v) tick))
+    all_taken k planned h stands = subst (λ (xs : List Arrival). takes_now k planned (landed tick h xs)) (sym over.all) (so_far.takes k planned h stands)

@@ -1,0 +1,5 @@
+pub mod CauseLemmas
+pub mod StopLemmas
+pub mod HearLemmas
+pub mod LandLemmas
+pub mod MadeLemmas
