@@ -4,15 +4,18 @@ use Rattle.air_source.specs.declared.events.Event.{Event}
 use Rattle.air_source.specs.declared.events.Event.TheVariants as event
 use Rattle.air_source.specs.declared.events.Side.{Side}
 use Rattle.explain_air.proofs.Fronts.{text_carried, text_front, text_part, text_stops}
+use Rattle.explain_air.proofs.KeptLemmas.{few_as}
 use Rattle.explain_air.specs.Airs.{IsClosed, IsOpen, text_of}
 use Rattle.explain_air.specs.Heard.{HasHeard}
 use Rattle.explain_air.specs.Outs.{Took, kept_text}
 use Rattle.explain_air.specs.declared.kept.Kept.{Kept}
 use Rattle.explain_growth.proofs.Counts.{no_count_more, some_more}
 use Rattle.explain_growth.proofs.Fronts.{lines_grow}
+use Rattle.explain_growth.proofs.Steps.{count_none}
 use Rattle.explain_growth.specs.Subjects.{StandsBefore, Subject, added, are_counts, counted_lines, ending, is_count, open_lines, reasons_of}
 use Rattle.explain_lines.specs.declared.values.ExplainLine.{ExplainLine}
 use Rattle.explain_lines.specs.declared.values.ExplainLine.TheVariants as line
+use Rattle.explain_model.specs.Stories.{arrival_count}
 use Rattle.explain_model.specs.Text.{explain_of, lines_of}
 use Rattle.fault_counters.specs.declared.kinds.Counter.{Counter}
 use Rattle.fh_base.specs.Told.{WritesFront, WritesPart}
@@ -54,6 +57,7 @@ module _ (s : Subject) (f : Bool) (base : Option (List ℕ)) (events : List Even
           which_is = second.which ∙ same;
           kept_is = refl;
           counted = some_more events side n value;
+          few = few_as _ (arrival_count events) (count_none events x refl) is.heard.few;
           carried = subst (λ (ls : List ExplainLine). Carried base [] (text_of f ls) u q) (sym (lines_grow.first_count s events side n value is.plain)) two;
         }
 
@@ -62,6 +66,7 @@ module _ (s : Subject) (f : Bool) (base : Option (List ℕ)) (events : List Even
       which_is = took.which ∙ is.which_is;
       kept_is = refl;
       counted = some_more events side n value;
+      few = few_as _ (arrival_count events) (count_none events x refl) is.few;
       carried =
           subst (λ (ls : List ExplainLine). Carried base [] (text_of f ls) u q) (sym (lines_grow.next_count s events side n value))
           (text_carried f base (counted_lines s events) own w u o q is.carried

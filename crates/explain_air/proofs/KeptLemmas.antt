@@ -1,5 +1,5 @@
 -- What is kept of one event more.
-use Rattle.std.proofs.Common.{◌≡◌, ℕ, ℤ, suc, true, false, List, [], ◌∷◌, ◌++◌, Option, Some, None, refl, sym, ap, ap₂, subst, ◌∙◌}
+use Rattle.std.proofs.Common.{◌≡◌, ◌<◌, ◌^◌, ℕ, ℤ, suc, true, false, List, [], ◌∷◌, ◌++◌, Option, Some, None, refl, sym, ap, ap₂, subst, ◌∙◌, arith}
 use Rattle.air_source.specs.declared.events.AirCell.{AirCell}
 use Rattle.air_source.specs.declared.events.Event.{Event}
 use Rattle.air_source.specs.declared.events.Event.TheVariants as event
@@ -33,6 +33,10 @@ use Rattle.plan_model.specs.Lines.{planned}
 use Rattle.window_config.specs.Configs.{IsConfig}
 use Rattle.window_config.specs.declared.config.Config.{Config}
 
+-- a number of 32 bits
+pub few_as : (m n : ℕ) → m ≡ n → n < 2 ^ 32 → m < 2 ^ 32
+few_as m n same few = subst (λ (k : ℕ). k < 2 ^ 32) (sym same) few
+
 -- ---- a cell
 
 module _ (s : Subject) (events : List Event) (k : Kept) (h : HasHeard s events k) where
@@ -48,6 +52,7 @@ module _ (s : Subject) (events : List Event) (k : Kept) (h : HasHeard s events k
   after_cell a w r is run noted = record {
     config = h.config;
     number = h.number ∙ sym (count_none events (event.Cell a) refl);
+    few = few_as _ (arrival_count events) (count_none events (event.Cell a) refl) h.few;
     ru = others_leave_it Ru c events (event.Cell a) k.ru tt h.ru;
     du = others_leave_it Du c events (event.Cell a) k.du tt h.du;
     run = run ∙ ap₂ (λ (o : Option CellRun) (x : CellWord). Some (run_with o a x)) h.run is ∙ sym (cell_run c events a);
@@ -73,6 +78,7 @@ module _ (s : Subject) (events : List Event) (k : Kept) (h : HasHeard s events k
       record {
         config = h.config;
         number = h.number ∙ sym (count_none events e refl);
+        few = few_as _ (arrival_count events) (count_none events e refl) h.few;
         ru = others_leave_it Ru c events e k.ru tt h.ru;
         du = others_leave_it Du c events e k.du tt h.du;
         run = run ∙ sym (no_run c events e (line.Delay at side id value ∷ []) refl);
@@ -87,9 +93,12 @@ module _ (s : Subject) (events : List Event) (k : Kept) (h : HasHeard s events k
 
   -- ---- a frame
 
-  module _ (at : Ticks) (frame : List ℕ) (n : ℕ) (number : n ≡ suc (arrival_count events)) (r : RunLines) (run : open_of r ≡ None) where
+  module _ (at : Ticks) (frame : List ℕ) (n : ℕ) (number : n ≡ suc (arrival_count events)) (low : n < 2 ^ 32) (r : RunLines) (run : open_of r ≡ None) where
     abbrev at_unit : Side → Event
     at_unit side = event.Arrival side at frame
+
+    few_more : (side : Side) → arrival_count (events ++ at_unit side ∷ []) < 2 ^ 32
+    few_more side = few_as _ n (count_one events side at frame ∙ sym number) low
 
     pub frame_lines_are : (side : Side) → run_lines (open_of k.runs) ++ frame_lines side c events n at.0 frame ≡ added c events (at_unit side)
     frame_lines_are side =
@@ -108,6 +117,7 @@ module _ (s : Subject) (events : List Event) (k : Kept) (h : HasHeard s events k
     after_radio u x noted unit kept = record {
       config = h.config;
       number = number ∙ sym (count_one events Ru at frame);
+      few = few_more Ru;
       ru = unit;
       du = others_leave_it Du c events (at_unit Ru) k.du refl h.du;
       run = run ∙ sym (no_run c events (at_unit Ru) _ refl);
@@ -123,6 +133,7 @@ module _ (s : Subject) (events : List Event) (k : Kept) (h : HasHeard s events k
     after_distributed u x noted unit kept = record {
       config = h.config;
       number = number ∙ sym (count_one events Du at frame);
+      few = few_more Du;
       ru = others_leave_it Ru c events (at_unit Du) k.ru refl h.ru;
       du = unit;
       run = run ∙ sym (no_run c events (at_unit Du) _ refl);
@@ -140,6 +151,7 @@ pub before_all : (s : Subject) (k : Kept) → IsConfig s.config → k.number ≡
 before_all s k config number ru du run notes records plan numbers = record {
   config = config;
   number = number ∙ sym none_counted;
+  few = few_as _ 0 none_counted (omega arith);
   ru = ru;
   du = du;
   run = run ∙ sym (none_open s.config);
@@ -151,7 +163,7 @@ before_all s k config number ru du run notes records plan numbers = record {
 
 -- ---- a frame, where the run was ended before
 
-module _ (s : Subject) (events : List Event) (k : Kept) (e : HasEnded s events k) (at : Ticks) (frame : List ℕ) (n : ℕ) (number : n ≡ suc k.number) where
+module _ (s : Subject) (events : List Event) (k : Kept) (e : HasEnded s events k) (at : Ticks) (frame : List ℕ) (n : ℕ) (number : n ≡ suc k.number) (low : n < 2 ^ 32) where
   number_is : n ≡ suc (arrival_count events)
   number_is = number ∙ ap suc e.heard.number
 
@@ -162,12 +174,12 @@ module _ (s : Subject) (events : List Event) (k : Kept) (e : HasEnded s events k
   pub ended_radio : (r : RunLines) (u : UnitLines) (x : HeardRecords) → open_of r ≡ None → HasNoted k.runs.notes (frame_lines Ru s.config events n at.0 frame) r.notes
       → IsUnitAfter Ru s.config (events ++ event.Arrival Ru at frame ∷ []) u → HaveHeard s.config (stories s.config (events ++ event.Arrival Ru at frame ∷ [])) x
       → HasHeard s (events ++ event.Arrival Ru at frame ∷ []) (record { number = n; ru = u; du = k.du; runs = r; records = x; plan = k.plan })
-  ended_radio r u x none noted unit kept = after_radio s events (record k { runs = e.before }) e.heard at frame n number_is r none u x (noted_all Ru r noted) unit kept
+  ended_radio r u x none noted unit kept = after_radio s events (record k { runs = e.before }) e.heard at frame n number_is low r none u x (noted_all Ru r noted) unit kept
 
   pub ended_distributed : (r : RunLines) (u : UnitLines) (x : HeardRecords) → open_of r ≡ None → HasNoted k.runs.notes (frame_lines Du s.config events n at.0 frame) r.notes
       → IsUnitAfter Du s.config (events ++ event.Arrival Du at frame ∷ []) u → HaveHeard s.config (stories s.config (events ++ event.Arrival Du at frame ∷ [])) x
       → HasHeard s (events ++ event.Arrival Du at frame ∷ []) (record { number = n; ru = k.ru; du = u; runs = r; records = x; plan = k.plan })
-  ended_distributed r u x none noted unit kept = after_distributed s events (record k { runs = e.before }) e.heard at frame n number_is r none u x (noted_all Du r noted) unit kept
+  ended_distributed r u x none noted unit kept = after_distributed s events (record k { runs = e.before }) e.heard at frame n number_is low r none u x (noted_all Du r noted) unit kept
 
   -- the lines by the number that was given
   pub number_lines : (side : Side) → frame_lines side s.config events n at.0 frame ≡ lines_at s events side at frame

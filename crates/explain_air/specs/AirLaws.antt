@@ -1,9 +1,11 @@
 -- The laws of the air that writes an explanation.
-use Rattle.std.specs.Prelude.{◌≡◌, ℕ, Bool, List, [], ◌++◌, Option}
-use Rattle.std.proofs.Common.{sym, subst, append-nil, append_assoc}
+use Rattle.std.specs.Prelude.{◌≡◌, ◌<◌, ◌^◌, ℕ, Bool, List, [], ◌++◌, Option}
+use Rattle.std.proofs.Common.{inl, inr, sym, subst, append-nil, append_assoc}
 use Rattle.air_source.specs.declared.events.Event.{Event}
 use Rattle.explain_air.specs.Airs.{Grew, IsAfter}
 use Rattle.explain_air.specs.declared.kept.Kept.{Kept}
+use Rattle.explain_growth.specs.Subjects.{Subject}
+use Rattle.explain_model.specs.Stories.{arrival_count}
 
 pub grew_none : (f : Bool) (k : Option Kept) (w : Option (List ℕ)) (o : List ℕ) → Grew f k w o [] f k w o
 grew_none f k w o = record {
@@ -17,3 +19,9 @@ grew_more f g h k l m u v w o p q first second x y = record {
       subst (λ (es : List Event). IsAfter s faults base es h m w q) (append_assoc earlier first second)
       (y.after s faults base (earlier ++ first) (x.after s faults base earlier at));
 }
+
+-- each frame that it heard has a number of 32 bits
+pub few_heard : (s : Subject) (faults : Bool) (base : Option (List ℕ)) (events : List Event) (which : Bool) (kept : Option Kept) (written : Option (List ℕ)) (owed : List ℕ)
+    → IsAfter s faults base events which kept written owed → arrival_count events < 2 ^ 32
+few_heard s faults base events which kept written owed (inl h) = h.heard.few
+few_heard s faults base events which kept written owed (inr h) = h.few

@@ -1,5 +1,5 @@
 -- What a contract sees of the air that writes an explanation (this project's profile).
-use Rattle.std.specs.Prelude.{◌≡◌, ℕ, Bool, true, false, List, [], ◌∷◌, ◌++◌, ◌⊎◌, Option, Some, None}
+use Rattle.std.specs.Prelude.{◌≡◌, ◌<◌, ◌^◌, ℕ, Bool, true, false, List, [], ◌∷◌, ◌++◌, ◌⊎◌, Option, Some, None}
 use Rattle.std.specs.Borrow.{GName}
 use Rattle.air_source.specs.declared.events.Event.{Event}
 use Rattle.explain_air.specs.Heard.{HasHeard}
@@ -10,6 +10,7 @@ use Rattle.explain_growth.specs.Subjects.{Subject, counted_lines, counts_last, e
 use Rattle.explain_lines.specs.Lines.{line_text}
 use Rattle.explain_lines.specs.declared.values.ExplainLine.{ExplainLine}
 use Rattle.explain_lines.specs.declared.values.ExplainLine.TheVariants as line
+use Rattle.explain_model.specs.Stories.{arrival_count}
 use Rattle.explain_model.specs.Text.{explain_of}
 use Rattle.fh_base.specs.Told.{WritesFront, WritesPart}
 use Rattle.owed_bytes.specs.Owed.{Carried}
@@ -44,6 +45,7 @@ pub record IsClosed (s : Subject) (faults : Bool) (base : Option (List ℕ)) (ev
   pub which_is : which ≡ faults
   pub kept_is : kept ≡ None
   pub counted : has_count events ≡ true
+  pub few : arrival_count events < 2 ^ 32
   pub carried : Carried base [] (text_of faults (counted_lines s events)) written owed
 
 abbrev pub IsAfter : Subject → Bool → Option (List ℕ) → List Event → Bool → Option Kept → Option (List ℕ) → List ℕ → Type 0

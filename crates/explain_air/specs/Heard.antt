@@ -1,5 +1,5 @@
 -- What is kept of events until the last of them (this project's profile).
-use Rattle.std.specs.Prelude.{◌≡◌, ℕ, suc, List, None}
+use Rattle.std.specs.Prelude.{◌≡◌, ◌<◌, ◌^◌, ℕ, suc, List, None}
 use Rattle.air_source.specs.declared.events.Event.{Event}
 use Rattle.air_source.specs.declared.events.Side.TheVariants.{Ru, Du}
 use Rattle.air_source.specs.declared.events.Side.{Side}
@@ -21,6 +21,7 @@ use Rattle.window_config.specs.Configs.{IsConfig}
 pub record HasHeard (s : Subject) (events : List Event) (k : Kept) : Type 0 where
   pub config : IsConfig s.config
   pub number : k.number ≡ arrival_count events
+  pub few : arrival_count events < 2 ^ 32
   pub ru : IsUnitAfter Ru s.config events k.ru
   pub du : IsUnitAfter Du s.config events k.du
   pub run : open_of k.runs ≡ open_run s.config events

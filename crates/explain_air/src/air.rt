@@ -1,5 +1,5 @@
 // The air that writes an explanation.
-ghost use Rattle.std.specs.Prelude.{◌≡◌, ℕ, Bool, Option, [], ◌∷◌, ◌++◌, Some, None, refl, List, OnErr, OnOk, IfErr};
+ghost use Rattle.std.specs.Prelude.{◌≡◌, ◌<◌, ◌^◌, ℕ, Bool, Option, [], ◌∷◌, ◌++◌, Some, None, refl, List, OnErr, OnOk, IfErr};
 ghost use Rattle.std.proofs.Common.{◌∙◌};
 ghost use Rattle.std.specs.Io.KnownBytes.{append_known};
 ghost use Rattle.air_source.specs.Causes.{HasAirCause};
@@ -11,6 +11,7 @@ ghost use Rattle.explain_growth.specs.Subjects.{Subject, reasons_of};
 ghost use Rattle.explain_lines.specs.declared.values.ExplainLine.TheVariants as line;
 ghost use Rattle.explain_air.specs.Outs.{Took, kept_text};
 ghost use Rattle.explain_air.specs.declared.kept.Kept.{Kept as SpecKept};
+ghost use Rattle.explain_model.specs.Stories.{arrival_count};
 ghost use Rattle.explain_model.specs.Text.{explain_of, first_lines};
 ghost use Rattle.fh_base.specs.Told.{WritesFront, WritesPart};
 ghost use Rattle.window_config.specs.Configs.{IsConfig};
@@ -155,6 +156,9 @@ impl<'a, K: Sink> ExplainAir<'a, K> {
             → K.written (sink_of self.new) ≡ append_known base (explain_of faults s.config (reasons_of s events) events)) }
         ensures part { OnErr result ((s : Subject) (faults : Bool) (base : Option (List ℕ)) (events : List Event) → IsAfter s faults base events self.old.faults self.old.kept (K.written (sink_of self.old)) (owed_of self.old)
             → WritesPart base (K.written (sink_of self.new)) (explain_of faults s.config (reasons_of s events) events)) }
+        // Each frame that it heard has a number of 32 bits.
+        ensures few { OnOk result ((s : Subject) (faults : Bool) (base : Option (List ℕ)) (events : List Event) → IsAfter s faults base events self.old.faults self.old.kept (K.written (sink_of self.old)) (owed_of self.old)
+            → arrival_count events < 2 ^ 32) }
         ensures cause { HasAirCause (K.faults (sink_of self.old)) (K.faults (sink_of self.new)) result }
     {
         self.close()?;

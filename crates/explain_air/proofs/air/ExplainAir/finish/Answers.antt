@@ -1,6 +1,7 @@
 -- What was kept, the last line, and what is owed.
 use Rattle.std.proofs.lemmas.Result.{on_err_weaker, on_ok_weaker}
 use Rattle.explain_air.proofs.AirSteps.{all_pushed, close_part, end_part, on_any, part_left}
+use Rattle.explain_air.specs.AirLaws.{few_heard}
 use Rattle.explain_air.proofs.air.ExplainAir.finish.Goals as goal
 
 pub returns-in_err-close-clause-part : goal.returns-in_err-close-clause-part
@@ -35,3 +36,9 @@ returns-clause-part g c =
     c.close.new.self.faults (g.K.Sink.written c.close.new.self.sink.now) c.close.new.self.owed c.in_ok-close.ensures.took
     c.say.new.self.faults (g.K.Sink.written c.say.new.self.sink.now) c.say.new.self.owed c.in_ok-say.ensures.took (g.K.Sink.written c.push_out.new.sink) part is)
     c.push_out.ensures.part
+
+pub returns-clause-few : goal.returns-clause-few
+returns-clause-few g c =
+    on_ok_weaker c.push_out.result
+    (λ all s faults base events is. few_heard s faults base events c.args.self.now.faults c.args.self.now.kept (g.K.Sink.written c.args.self.now.sink.now) c.args.self.now.owed is)
+    c.push_out.ensures.all
