@@ -1,5 +1,5 @@
 -- What an air that was told a document's events wrote of its explanation.
-use Rattle.std.proofs.Common.{◌≡◌, ℕ, Bool, true, List, [], ◌∷◌, ◌++◌, inl, inr, Option, Some, Result, Ok, Err, OnErr, OnOk, refl, sym, subst, arith}
+use Rattle.std.proofs.Common.{◌≡◌, ◌<◌, ◌^◌, ℕ, Bool, true, List, [], ◌∷◌, ◌++◌, inl, inr, Option, Some, Result, Ok, Err, OnErr, OnOk, refl, sym, subst, arith}
 use Rattle.std.specs.Io.KnownBytes.{append_known}
 use Rattle.air_source.specs.Stops.{GrewSome, StopsIn}
 use Rattle.air_source.specs.declared.airs.AirFault.{AirFault}
@@ -14,9 +14,10 @@ use Rattle.explain_air.specs.declared.kept.Kept.{Kept}
 use Rattle.explain_growth.proofs.Counts.{behind_some}
 use Rattle.explain_growth.proofs.Fronts.{lines_grow}
 use Rattle.explain_growth.specs.Subjects.{Subject, are_counts, counts_last, is_count, open_lines, reasons_of}
+use Rattle.explain_model.specs.Stories.{arrival_count}
 use Rattle.explain_model.specs.Text.{explain_of}
 use Rattle.explain_text.proofs.EventLemmas.{counts_come_last}
-use Rattle.explain_text.specs.Text.{IsFresh, explanation, subject_of}
+use Rattle.explain_text.specs.Text.{HasFewFrames, IsFresh, explanation, subject_of}
 use Rattle.fh_base.proofs.Progress.{front_none, front_whole}
 use Rattle.fh_base.specs.Told.{WritesFront, WritesPart}
 use Rattle.fh_document.specs.declared.document.Document.{Document}
@@ -129,6 +130,12 @@ module _ {K : Type 0} (of_sink : K → Option (List ℕ)) (d : Document) (f : Bo
   pub finish_whole : (b : A) (now : Option (List ℕ)) → IsAt (events_of d) b → Finishes b now → now ≡ append_known base (explanation f d)
   unfolding explanation
   finish_whole b now at all = all (subject_of d) f base (events_of d) at
+
+  -- the frames of the document are as many as it numbered
+  pub finish_few : (b : A) → IsAt (events_of d) b
+      → ((s : Subject) (faults : Bool) (old : Option (List ℕ)) (events : List Event) → IsAfter s faults old events b.faults b.kept (written b) (owed_of b) → arrival_count events < 2 ^ 32)
+      → HasFewFrames d
+  finish_few b at few = few (subject_of d) f base (events_of d) at
 
   pub finish_part : (b : A) (now : Option (List ℕ)) → IsAt (events_of d) b → FinishesPart b now → WritesPart base now (explanation f d)
   unfolding explanation

@@ -6,7 +6,7 @@ ghost use Rattle.du_scheduler.specs.Plans.{HasToSend};
 ghost use Rattle.explain_air.specs.Airs.{owed_of, sink_name, sink_of};
 ghost use Rattle.explain_air.specs.Heard.{HasHeard};
 ghost use Rattle.explain_text.specs.Explained.{IsExplainedDocument};
-ghost use Rattle.explain_text.specs.Text.{IsFresh, explanation, subject_of};
+ghost use Rattle.explain_text.specs.Text.{HasFewFrames, IsFresh, explanation, subject_of};
 ghost use Rattle.fh_base.specs.Told.{WritesFront, WritesPart};
 ghost use Rattle.fh_document.specs.Proper.{IsDocument};
 ghost use Rattle.fronthaul_replay.specs.Laws.{IsSound};
@@ -29,7 +29,7 @@ use std::alloc::Global;
 /// # Errors
 ///
 /// [`TextFault::WriteFault`] where writing failed, exactly where the sink's count of faults rose. [`TextFault::NoMemory`] where
-/// memory runs out, in the sink too.
+/// memory runs out, in the sink too, and where 2 ^ 32 frames or more arrive.
 pub fn explain<K: Sink>(
     alloc: Global,
     document: &Document,
@@ -45,6 +45,8 @@ pub fn explain<K: Sink>(
     ensures cause { HasWriteCause (K.faults out.old) (K.faults out.new) result }
     ensures sound { OnOk result (IsSound document.now) }
     ensures explained { OnOk result (IsExplainedDocument document.now) }
+    // So each number of a frame in the text has 32 bits.
+    ensures few { OnOk result (HasFewFrames document.now) }
 {
     let kept = kept_for(alloc, document)?;
     let mut air = ExplainAir::over(alloc, kept, faults, out);
@@ -103,6 +105,7 @@ fn tell_all<K: Sink>(
     ensures done { OnOk result (K.written (sink_of air.new) ≡ append_known (K.written (sink_of air.old)) (explanation air.old.faults document.now)) }
     ensures cause { HasWriteCause (K.faults (sink_of air.old)) (K.faults (sink_of air.new)) result }
     ensures sound { OnOk result (IsSound document.now) }
+    ensures few { OnOk result (HasFewFrames document.now) }
 {
     air.begin(&document.config)?;
     replay_to(alloc, document, plan, air)?;

@@ -1,7 +1,7 @@
 use Rattle.std.proofs.Common.{rules}
 use Rattle.std.proofs.lemmas.Result.{on_err_weaker, on_ok_weaker}
 use Rattle.explain_air.specs.Airs.{sink_of}
-use Rattle.explain_text.proofs.TellLemmas.{begin_part, begun, cut_part, finish_part, finish_whole, grown}
+use Rattle.explain_text.proofs.TellLemmas.{begin_part, begun, cut_part, finish_few, finish_part, finish_whole, grown}
 use Rattle.fronthaul_replay.proofs.Written.{at_error, error_passed}
 use Rattle.fronthaul_replay.specs.Replaying.{events_of}
 use Rattle.explain_text.proofs.explaining.tell_all.Goals as goal
@@ -52,3 +52,15 @@ returns-clause-done g c =
     let done = on_ok_weaker c.finish.result
     (λ all. finish_whole w d a.faults (w (sink_of a)) e (w (sink_of c.finish.new.self)) told all) c.finish.ensures.all in
     search (rules, done)
+
+pub returns-clause-few : goal.returns-clause-few
+returns-clause-few g c =
+    let w = g.K.Sink.written in
+    let a = c.args.air.now in
+    let b = c.begin.new.self in
+    let e = c.replay_to.new.air in
+    let d = c.args.document.now in
+    let at = begun w d a.faults (w (sink_of a)) a.kept b c.requires.fresh c.in_ok-begin.ensures.heard in
+    let told = grown w d a.faults (w (sink_of a)) (events_of d) b e at c.in_ok-replay_to.ensures.heard in
+    let few = on_ok_weaker c.finish.result (λ all. finish_few w d a.faults (w (sink_of a)) e told all) c.finish.ensures.few in
+    search (rules, few)
