@@ -13,8 +13,9 @@ use Rattle.measured_traffic.specs.Replayed.{traffic_of}
 use Rattle.measured_traffic.proofs.ReplayedLemmas.{landings_are_replayed}
 use Rattle.fronthaul_replay.specs.Replaying.{events_of}
 use Rattle.explain_growth.specs.Subjects.{reasons_of}
+use Rattle.explain_model.specs.Stories.{arrival_count}
 use Rattle.explain_model.specs.Text.{explain_of, explained}
-use Rattle.explain_text.specs.Text.{explanation, subject_of}
+use Rattle.explain_text.specs.Text.{HasFewFrames, explanation, subject_of}
 use Rattle.drawn_explanations.specs.Drawable.{IsShort}
 use Rattle.drawn_explanations.proofs.Drawn.{drawable_are_drawn}
 use Rattle.drawable_laws.specs.Events.{IsDrawnSubject, IsNamed, IsPlacedLine}
@@ -22,7 +23,7 @@ use Rattle.drawable_laws.proofs.Drawable.{events_are_drawable}
 use Rattle.drawn_replays.proofs.Replays.{replays_are_drawn}
 use Rattle.written_documents.specs.Written.{IsSpaced}
 use Rattle.written_documents.proofs.WrittenLemmas.{documents_are_written}
-use Rattle.drawn_documents.specs.Documents.{DocumentsAreDrawn, EventsAreDrawn, IsExplainable, ReadAreDrawn}
+use Rattle.drawn_documents.specs.Documents.{DocumentsAreDrawn, EventsAreDrawn, IsExplainable, IsNumbered, ReadAreDrawn, WrittenAreDrawn}
 use Rattle.drawn_documents.proofs.Plans.{lines_placed, uplink_short}
 
 placed : (d : Document) → IsReplayable d → AllByRecursion (IsPlacedLine d.config.endpoints) (lines_of d)
@@ -63,3 +64,12 @@ read_are_drawn text d few is valid numbered =
       numbers = short (length text + 1) d.plan_lines (omega (arith, few)) written.numbers;
       numbered = numbered;
     })
+
+short_of : (n : ℕ) → n < 2 ^ 32 → IsShort n
+short_of n low = omega (arith, low)
+
+numbered_of : (d : Document) → HasFewFrames d → IsNumbered d
+numbered_of d few = short_of (arrival_count (events_of d)) few
+
+pub written_are_drawn : WrittenAreDrawn
+written_are_drawn text d short is valid few = read_are_drawn text d short is valid (numbered_of d few)

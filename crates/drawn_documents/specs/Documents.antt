@@ -6,7 +6,7 @@ use Rattle.drawable_laws.specs.Events.{AreDrawnEvents}
 use Rattle.drawn_explanations.specs.Drawable.{IsShort}
 use Rattle.drawn_explanations.specs.Laws.{HasPictures}
 use Rattle.explain_model.specs.Stories.{arrival_count}
-use Rattle.explain_text.specs.Text.{explanation}
+use Rattle.explain_text.specs.Text.{HasFewFrames, explanation}
 use Rattle.fh_base.specs.declared.source.TheConstants.{INPUT_LIMIT}
 use Rattle.fh_document.specs.Document.{document_of}
 use Rattle.fh_document.specs.declared.document.Document.{Document}
@@ -35,3 +35,7 @@ DocumentsAreDrawn = (d : Document) → IsExplainable d → HasPictures (explanat
 -- of each text that says a document, within the limit of what is read
 abbrev pub ReadAreDrawn : Type 0
 ReadAreDrawn = (text : List ℕ) (d : Document) → length text ≤ INPUT_LIMIT → document_of text ≡ Ok d → IsValid d.config d.plan → IsNumbered d → HasPictures (explanation false d)
+
+-- and so is what `explain` writes of it: the last premise is what its answer Ok says
+abbrev pub WrittenAreDrawn : Type 0
+WrittenAreDrawn = (text : List ℕ) (d : Document) → length text ≤ INPUT_LIMIT → document_of text ≡ Ok d → IsValid d.config d.plan → HasFewFrames d → HasPictures (explanation false d)
