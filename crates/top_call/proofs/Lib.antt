@@ -8,5 +8,6 @@ pub mod Runs
 pub mod Follows
 mod Sharing
 mod Texts
+mod Few
 mod Packets
 mod Drawn

@@ -25,7 +25,7 @@ use Rattle.top_call.specs.declared.status.Status.{Status}
 use Rattle.top_call.specs.declared.status.Status.TheVariants.{Done, BadWords, BadDocument, BadCapture, ReadFault, WriteFault, NoMemory, TooLong, CheckFails, BadPcap, BadText, NoFit}
 use Rattle.top_call.specs.Answers.{Answer, answer_of, asked, is_reading, reads}
 use Rattle.top_call.specs.Endings.{source_status}
-use Rattle.top_call.specs.Run.{AnswersCommand, AnswersRun, IsDecided, IsExplainedPlan, IsIdlePlan, IsRefusal, IsSharedPlan, IsSoundPlan, IsStopped, Outcome, Performs, has_read_fault, has_write_fault}
+use Rattle.top_call.specs.Run.{AnswersCommand, AnswersRun, ExplainsFew, IsDecided, IsExplainedPlan, IsIdlePlan, IsRefusal, IsSharedPlan, IsSoundPlan, IsStopped, Outcome, Performs, has_read_fault, has_write_fault}
 use Rattle.fh_base.specs.declared.source.TheConstants.{INPUT_LIMIT}
 use Rattle.top_call.proofs.Trials.{trial_of}
 use Rattle.top_call.proofs.Parts.{part_none}
@@ -127,12 +127,12 @@ no_read_fault wanted s (CheckFails failing) h = refl
 no_read_fault wanted s (NoFit refusal) h = refl
 
 pub performed : (words : List (List ℕ)) (command : Command) (came : List ℕ) (left_old left_new : Option (List ℕ)) (s t : ℕ) (old new : Option (List ℕ)) (before now : ℕ) (status : Status)
-    → command_of words ≡ Some command → Performs (answer_of command came) old new before now status
+    → command_of words ≡ Some command → Performs (answer_of command came) old new before now status → ExplainsFew (Some command) came status
     → left_old ≡ prepend_known came left_new → (reads command ≡ true → IsAtEnd left_new)
     → length came ≤ INPUT_LIMIT → t ≡ s → IfSome left_old (λ bytes. WritesFront old new (answer_of command bytes).text)
     → ((bytes : List ℕ) → (reads command ≡ true → left_old ≡ Some bytes) → answer_of command bytes ≡ answer_of command came)
     → Outcome words left_old left_new s t old new before now status
-performed words command came left_old left_new s t old new before now status is p taken ended within still front same =
+performed words command came left_old left_new s t old new before now status is p few taken ended within still front same =
     let e = sym is in
     record {
       came = came;
@@ -156,6 +156,7 @@ performed words command came left_old left_new s t old new before now status is 
       trial = trial_of words;
       listed = listed_of came;
       explained = explained_of came;
+      few = subst (λ (o : Option Command). ExplainsFew o came status) e few;
       shared = shared_of came;
       idle = idle_of came;
     }
@@ -187,10 +188,10 @@ front_any None old new command h front = tt
 front_any (Some bytes) old new command h front = subst (λ a. WritesFront old new a.text) (sym (same_answer command bytes h)) front
 
 pub made : (words : List (List ℕ)) (command : Command) (left : Option (List ℕ)) (s : ℕ) (old new : Option (List ℕ)) (before now : ℕ) (status : Status)
-    → command_of words ≡ Some command → reads command ≡ false → Performs (answer_of command []) old new before now status
+    → command_of words ≡ Some command → reads command ≡ false → Performs (answer_of command []) old new before now status → ExplainsFew (Some command) [] status
     → Outcome words left left s s old new before now status
-made words command left s old new before now status is none p =
-    performed words command [] left left s s old new before now status is p (sym (prepend_nothing left)) (λ r. cc) (omega arith) refl
+made words command left s old new before now status is none p few =
+    performed words command [] left left s s old new before now status is p few (sym (prepend_nothing left)) (λ r. cc) (omega arith) refl
     (front_any left old new command none p.front) (λ bytes _. same_answer command bytes none)
 
 -- ---- a command that read all
@@ -206,12 +207,12 @@ front_read came left_old left_new old new command taken ended front =
     go (Some rest) h = subst (λ (bytes : List ℕ). WritesFront old new (answer_of command bytes).text) (sym (ap (λ r. came ++ r) h ∙ append-nil came)) front
 
 pub read : (words : List (List ℕ)) (command : Command) (bytes came : List ℕ) (left_old left_new : Option (List ℕ)) (s t : ℕ) (old new : Option (List ℕ)) (before now : ℕ) (status : Status)
-    → command_of words ≡ Some command → reads command ≡ true → bytes ≡ came → Performs (answer_of command bytes) old new before now status
+    → command_of words ≡ Some command → reads command ≡ true → bytes ≡ came → Performs (answer_of command bytes) old new before now status → ExplainsFew (Some command) bytes status
     → left_old ≡ prepend_known came left_new → IsAtEnd left_new → length came ≤ INPUT_LIMIT → t ≡ s
     → Outcome words left_old left_new s t old new before now status
-read words command bytes came left_old left_new s t old new before now status is does same p taken ended within still =
+read words command bytes came left_old left_new s t old new before now status is does same p few taken ended within still =
     let q : Performs (answer_of command came) old new before now status = subst (λ (b : List ℕ). Performs (answer_of command b) old new before now status) same p in
-    performed words command came left_old left_new s t old new before now status is q taken (λ _. ended) within still
+    performed words command came left_old left_new s t old new before now status is q (subst (λ (b : List ℕ). ExplainsFew (Some command) b status) same few) taken (λ _. ended) within still
     (front_read came left_old left_new old new command taken ended q.front)
     (λ all given. ap (answer_of command) (came_all came all left_old left_new taken ended (given does)))
 
@@ -245,6 +246,7 @@ no_command words left s written o none =
       trial = trial_of words;
       listed = listed_of [];
       explained = explained_of [];
+      few = λ faults wanted done. absurd (cc done);
       shared = shared_of [];
       idle = idle_of [];
     }
@@ -353,6 +355,7 @@ stopped words command came left_old left_new s t written o status is does stop c
       trial = trial_of words;
       listed = listed_of came;
       explained = explained_of came;
+      few = λ faults wanted done. absurd (subst IsStop done stop);
       shared = shared_of came;
       idle = idle_of came;
     }
@@ -412,6 +415,7 @@ wordless words left s written o some =
       trial = trial_of words;
       listed = listed_of [];
       explained = explained_of [];
+      few = λ faults wanted done. absurd (cc done);
       shared = shared_of [];
       idle = idle_of [];
     }

@@ -2,10 +2,12 @@
 use Rattle.std.specs.Prelude.{◌≡◌, ◌<◌, ◌≤◌, ◌⊎◌, ◌↔◌, ℕ, List, [], length, Bool, true, false, Option, Some, IfSome, IfOk, IsSome, IsNone}
 use Rattle.std.specs.Io.KnownBytes.{prepend_known, append_known, IsAtEnd}
 use Rattle.command_words.specs.Words.{command_of}
-use Rattle.command_words.specs.declared.commands.Command.TheVariants.{Trial}
+use Rattle.command_words.specs.declared.commands.Command.{Command}
+use Rattle.command_words.specs.declared.commands.Command.TheVariants.{Explain, Trial}
 use Rattle.fh_base.specs.Causes.{Counts, Rose}
 use Rattle.fh_base.specs.Told.{WritesFront, WritesPart}
 use Rattle.explain_text.specs.Explained.{IsExplainedDocument}
+use Rattle.explain_text.specs.Text.{HasFewFrames}
 use Rattle.pcap_lines.specs.fh_document.specs.Document.{document_of}
 use Rattle.pcap_lines.specs.fh_document.specs.declared.document.Document.{Document}
 use Rattle.fronthaul_replay.specs.Laws.{IsSound}
@@ -94,6 +96,10 @@ IsSoundPlan d = IsValid d.config d.plan → IsSound d
 abbrev pub IsExplainedPlan : Document → Type 0
 IsExplainedPlan d = IsValid d.config d.plan → IsExplainedDocument d
 
+-- where `explain` is done over these bytes, fewer than 2 ^ 32 frames arrive in their document
+abbrev pub ExplainsFew : Option Command → List ℕ → Status → Type 0
+ExplainsFew command bytes status = (faults : Bool) → command ≡ Some (Explain faults) → status ≡ Done → IfOk (document_of bytes) HasFewFrames
+
 -- the laws of the units of a shared cell hold where the plan is valid: no element of any unit radiates twice, and the combined cells are
 -- the sums of what the units take in
 abbrev pub IsSharedPlan : ℕ → ℕ → Document → Type 0
@@ -141,6 +147,8 @@ pub record Outcome (words : List (List ℕ)) (left_old left_new : Option (List �
   -- and of the lines that explain such a document: each judged thing has one, each counter is the number of lines with its word, runs of cells
   -- are maximal, and the text of its faults is of the same lines; each missing cell, silent element and unused block has its reason
   pub explained : IfOk (document_of came) IsExplainedPlan
+  -- and where it is explained to its end, fewer than 2 ^ 32 frames arrive: by the laws of `drawn_documents` no picture refuses its text
+  pub few : ExplainsFew (command_of words) came status
   -- and of the units of a cell that such a document's frames are shared by
   pub shared : (count step : ℕ) → 1 ≤ count → IfOk (document_of came) (IsSharedPlan count step)
   -- and of the spans in which such a document's endpoints are idle: none holds a radiated element, the plan with the proposed lines after it

@@ -1,9 +1,9 @@
 // The commands over a whole input, a module each.
-ghost use Rattle.std.specs.Prelude.{◌≡◌, ◌≤◌, length};
+ghost use Rattle.std.specs.Prelude.{◌≡◌, ◌≤◌, Some, length};
 ghost use Rattle.fh_base.specs.declared.source.TheConstants.{INPUT_LIMIT};
 ghost use Rattle.command_words.specs.Words.{IsProper};
 ghost use Rattle.top_call.specs.Answers.{answer_of, reads};
-ghost use Rattle.top_call.specs.Run.{Performs};
+ghost use Rattle.top_call.specs.Run.{ExplainsFew, Performs};
 
 mod capture;
 mod draw;
@@ -67,7 +67,8 @@ pub(crate) fn reads(command: Command) -> bool
 pub(crate) fn perform<K: Sink>(alloc: Global, command: Command, bytes: &[u8], out: &mut K) -> Status
     requires proper { IsProper command }
     requires within { length bytes.now ≤ INPUT_LIMIT }
-    ensures { Performs (answer_of command bytes.now) (K.written out.old) (K.written out.new) (K.faults out.old) (K.faults out.new) result }
+    ensures does { Performs (answer_of command bytes.now) (K.written out.old) (K.written out.new) (K.faults out.old) (K.faults out.new) result }
+    ensures few { ExplainsFew (Some command) bytes.now result }
 {
     match command {
         Command::Replay => write_report(alloc, bytes, out),

@@ -1,11 +1,13 @@
 // `explain`: what became of a document's frames and sections, and why cells are silent.
-ghost use Rattle.std.specs.Prelude.{◌≡◌};
+ghost use Rattle.std.specs.Prelude.{◌≡◌, IfOk};
 ghost use Rattle.document_traffic.specs.Sending.{sent_for};
 ghost use Rattle.du_scheduler.specs.Plans.{HasToSend};
+ghost use Rattle.explain_text.specs.Text.{HasFewFrames};
 ghost use Rattle.fh_document.specs.Document.{document_of};
 ghost use Rattle.fh_document.specs.Proper.{IsDocument};
 ghost use Rattle.top_call.specs.Answers.{explained, of_document, of_planned};
 ghost use Rattle.top_call.specs.Run.{Performs};
+ghost use Rattle.top_call.specs.declared.status.Status.TheVariants.{Done};
 
 use crate::endings::{text_status, unplanned_status, unread_status};
 use crate::status::Status;
@@ -23,7 +25,8 @@ pub(crate) fn write_explanation<K: Sink>(
     bytes: &[u8],
     out: &mut K,
 ) -> Status
-    ensures { Performs (of_document (of_planned (explained faults)) (document_of bytes.now)) (K.written out.old) (K.written out.new) (K.faults out.old) (K.faults out.new) result }
+    ensures does { Performs (of_document (of_planned (explained faults)) (document_of bytes.now)) (K.written out.old) (K.written out.new) (K.faults out.old) (K.faults out.new) result }
+    ensures few { result ≡ Done → IfOk (document_of bytes.now) HasFewFrames }
 {
     match read(alloc, bytes) {
         Ok(document) => explain_planned(alloc, faults, &document, out),
@@ -34,7 +37,8 @@ pub(crate) fn write_explanation<K: Sink>(
 /// Tests the plan of a document and explains it.
 fn explain_planned<K: Sink>(alloc: Global, faults: bool, document: &Document, out: &mut K) -> Status
     requires { IsDocument document.now }
-    ensures { Performs (of_planned (explained faults) document.now) (K.written out.old) (K.written out.new) (K.faults out.old) (K.faults out.new) result }
+    ensures does { Performs (of_planned (explained faults) document.now) (K.written out.old) (K.written out.new) (K.faults out.old) (K.faults out.new) result }
+    ensures few { result ≡ Done → HasFewFrames document.now }
 {
     match check_plan(alloc, document) {
         Ok(plan) => put_explanation(alloc, faults, document, plan, out),
@@ -52,7 +56,8 @@ fn put_explanation<K: Sink>(
 ) -> Status
     requires document { IsDocument document.now }
     requires plan { HasToSend document.now.config document.now.plan (sent_for document.now) plan }
-    ensures { Performs (explained faults document.now) (K.written out.old) (K.written out.new) (K.faults out.old) (K.faults out.new) result }
+    ensures does { Performs (explained faults document.now) (K.written out.old) (K.written out.new) (K.faults out.old) (K.faults out.new) result }
+    ensures few { result ≡ Done → HasFewFrames document.now }
 {
     text_status(explain(alloc, document, plan, faults, out))
 }

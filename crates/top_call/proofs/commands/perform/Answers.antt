@@ -4,9 +4,9 @@ use Rattle.top_call.specs.Answers.{answer_of}
 use Rattle.top_call.specs.Run.{Performs}
 use Rattle.top_call.proofs.commands.perform.Goals as goal
 
-pub returns-in-Generate : goal.returns-in-Generate
+pub returns-in-Generate-clause-does : goal.returns-in-Generate-clause-does
 unfolding answer_of
-returns-in-Generate g c =
+returns-in-Generate-clause-does g c =
     let w = g.K.Sink.written in
     let f = g.K.Sink.faults in
     subst

@@ -17,14 +17,14 @@ returns-in-Err-NoMemory-clause-outcome g c =
 pub returns-then-not-reads-clause-outcome : goal.returns-then-not-reads-clause-outcome
 returns-then-not-reads-clause-outcome g c =
     let none : reads c.in-Ok.command ≡ false = search rules in
-    made _ c.in-Ok.command _ _ _ _ _ _ _ c.in-Ok.ensures.answers none c.perform.ensures
+    made _ c.in-Ok.command _ _ _ _ _ _ _ c.in-Ok.ensures.answers none c.perform.ensures.does c.perform.ensures.few
 
 pub returns-in-Ok-read_all-clause-outcome : goal.returns-in-Ok-read_all-clause-outcome
 returns-in-Ok-read_all-clause-outcome g c =
     let does : reads c.in-Ok.command ≡ true = search rules in
     let w = c.in-Ok-read_all.ensures.whole in
     read _ c.in-Ok.command c.as_slice.result.now w.came _ _ _ _ _ _ _ _ _ c.in-Ok.ensures.answers does (c.as_slice.ensures ∙ w.ok.0)
-    c.perform-in-Ok-read_all.ensures w.taken w.ok.1 (not_long _ _ _ _ w.too_long) c.in-Ok-read_all.ensures.cause
+    c.perform-in-Ok-read_all.ensures.does c.perform-in-Ok-read_all.ensures.few w.taken w.ok.1 (not_long _ _ _ _ w.too_long) c.in-Ok-read_all.ensures.cause
 
 pub returns-in-Err-clause-outcome : goal.returns-in-Err-clause-outcome
 returns-in-Err-clause-outcome g c =
