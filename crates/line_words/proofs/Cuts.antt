@@ -37,6 +37,14 @@ position_at p xs i lt none passes =
     position_or_len_is p xs i 0 (omega arith)
     (λ k low. subst (λ x. p x ≡ false) (get_or-take i xs k 0 low) (fails_before_first p (take i xs) k 0 (omega (arith, none)))) (λ within. passes)
 
+pub found_at : (p : ℕ → Bool) (xs : List ℕ) (k : ℕ) → NoneBefore (Passes p xs) 0 (length xs) k → Passes p xs k → k ≡ position_or_len p xs
+found_at p xs k h passes =
+    sym (position_or_len_is p xs k 0 (omega (arith, h.high)) (λ i lt. not_true (p (get_or xs i 0)) (h.before i (omega arith) lt)) (λ within. passes))
+
+pub found_nowhere : (p : ℕ → Bool) (xs : List ℕ) → Nowhere (Passes p xs) 0 (length xs) → length xs ≡ position_or_len p xs
+found_nowhere p xs h =
+    sym (position_or_len_is p xs (length xs) 0 (omega arith) (λ i lt. not_true (p (get_or xs i 0)) (h i (omega arith) lt)) (λ within. absurd (omega arith)))
+
 -- cut at the first place that passes
 pub cut_at : (p : ℕ → Bool) (xs : List ℕ) (k : ℕ) → k ≡ position_or_len p xs → k < length xs → slice_split p xs ≡ take k xs ∷ slice_split p (drop (k + 1) xs)
 cut_at p xs k is lt = subst (λ n. slice_split p xs ≡ take n xs ∷ slice_split p (drop (n + 1) xs)) (sym is) (slice_split_first p xs 0 (omega (arith, is)))

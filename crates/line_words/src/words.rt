@@ -1,5 +1,5 @@
 // The words of a line.
-ghost use Rattle.std.specs.Prelude.{◌≡◌, ℕ, ◌<◌, length, List};
+ghost use Rattle.std.specs.Prelude.{◌≡◌, ℕ, ◌<◌, length, map, take, List};
 ghost use Rattle.line_words.specs.Words.{words_of};
 ghost use Rattle.text_lines.specs.Numbers.{word_at};
 
@@ -10,7 +10,30 @@ use std::marker::Model;
 /// How many words of a line are kept.
 pub const KEPT: usize = 20;
 
+/// Keeps the first words of a line, in place of those that were kept, and answers how many words the line has.
+#[inline(always)]
+fn keep<'a>(line: &'a [u8], kept: &mut ArrayVec<&'a [u8], KEPT>) -> usize
+    ensures count { result ≡ length (words_of line.entry.now) }
+    ensures first { map (λ x. x.now) kept.new.items ≡ take KEPT (words_of line.entry.now) }
+{
+    kept.clear();
+    let mut count: usize = 0;
+    let mut rest = Some(line);
+    'words: while let Some(text) = rest {
+        let (word, behind) = cut_near(b' ', text);
+        if !word.is_empty() {
+            let _ = kept.try_push(word);
+            count += 1;
+        }
+        rest = behind;
+    }
+    count
+}
+
 /// The words of a line: what stands between spaces and is not empty. Contracts see them as a list of texts.
+///
+/// One value may serve for all lines of a text ([`Words::read`]), since to make and to move the kept words takes longer than to find
+/// them.
 #[derive(Drop)]
 pub struct Words<'a> {
     line: &'a [u8],
@@ -34,26 +57,41 @@ impl<'a> Model for Words<'a> {
 }
 
 impl<'a> Words<'a> {
+    ghost use Rattle.std.specs.Prelude.{[]};
+
+    /// No words.
+    #[inline]
+    pub fn new() -> Words<'a>
+        ensures { result ≡ [] }
+    {
+        Words {
+            line: &[],
+            kept: ArrayVec::new(),
+            count: 0,
+        }
+    }
+
     /// The words of a line.
     #[inline(always)]
     pub fn of(line: &'a [u8]) -> Words<'a>
         ensures { result ≡ words_of line.entry.now }
     {
         let mut kept = ArrayVec::new();
-        let mut count: usize = 0;
-        let mut rest = Some(line);
-        'words: while let Some(text) = rest {
-            let (word, behind) = cut_near(b' ', text);
-            if !word.is_empty() {
-                let _ = kept.try_push(word);
-                count += 1;
-            }
-            rest = behind;
-        }
+        let count = keep(line, &mut kept);
         Words { line, kept, count }
     }
 
+    /// Reads the words of a line, in place of those that were there.
+    #[inline]
+    pub fn read(&mut self, line: &'a [u8])
+        ensures { self.new ≡ words_of line.entry.now }
+    {
+        self.line = line;
+        self.count = keep(line, &mut self.kept);
+    }
+
     /// How many words there are, also where not all are kept.
+    #[inline]
     pub fn len(&self) -> usize
         ensures { result ≡ length self.now }
     {
@@ -61,6 +99,7 @@ impl<'a> Words<'a> {
     }
 
     /// The word with this index, or the empty one where there is none.
+    #[inline]
     pub fn word(&self, i: usize) -> &[u8]
         requires { i < KEPT }
         ensures { result.now ≡ word_at self.now i }

@@ -2,7 +2,7 @@ use Rattle.std.proofs.Common.{◌≡◌, ◌+◌, ◌≤◌, ◌++◌, length, m
 use Rattle.line_words.specs.declared.words.TheConstants.{KEPT}
 use Rattle.line_words.specs.Words.{words_of, left_length}
 use Rattle.line_words.proofs.Cuts.{words_left}
-use Rattle.line_words.proofs.words.Words.of.Given as goal
+use Rattle.line_words.proofs.words.keep.Given as goal
 
 abbrev pub invariant-words : goal.invariant-words
 invariant-words l = record {

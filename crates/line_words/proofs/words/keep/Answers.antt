@@ -5,7 +5,7 @@ use Rattle.line_words.specs.declared.words.TheConstants.{KEPT}
 use Rattle.line_words.specs.Words.{parts_left, left_length}
 use Rattle.line_words.proofs.Cuts.{words_left, next_word, shorter}
 use Rattle.line_words.proofs.WordSteps.{push_more, push_few}
-use Rattle.line_words.proofs.words.Words.of.Goals as goal
+use Rattle.line_words.proofs.words.keep.Goals as goal
 
 pub words-preserved-then-not-is_empty : goal.words-preserved-then-not-is_empty
 words-preserved-then-not-is_empty c =
