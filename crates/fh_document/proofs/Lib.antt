@@ -1,6 +1,4 @@
 pub mod HexSteps
-pub mod Cuts
-pub mod WordSteps
 pub mod WidthSums
 pub mod Answering
 pub mod LineSteps

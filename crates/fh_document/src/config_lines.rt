@@ -5,9 +5,10 @@ ghost use Rattle.fh_document.specs.ConfigLines.{number_at, time_at, ordered, bot
 use crate::document::{Comps, Settings, Transits, Version};
 use crate::keywords::{Setting, is_three};
 use crate::refusals::DocWhy;
-use crate::words::{Words, number_in};
+use crate::words::number_in;
 use delay_measure::MOST_COMPENSATION;
 use eaxc_map::Widths;
+use line_words::{KEPT, Words};
 use tone_source::Tone;
 use window_config::{Delays, LEAST_FRAGMENT, MESSAGE_SECTIONS, MOST_DELAY, MOST_FRAGMENT, Range};
 
@@ -16,7 +17,7 @@ pub const MOST_TRANSIT: u64 = 3_000_000_000;
 
 /// The number that a word spells, in a range.
 fn number_at(words: &Words<'_>, i: usize, low: u64, high: u64) -> Result<u64, DocWhy>
-    requires { i < 16 }
+    requires { i < KEPT }
     ensures value { result ≡ number_at low high words.now i }
     ensures within { IfOk result (λ n. (low ≤ n) × (n ≤ high) × (n < 10 ^ 13)) }
 {
@@ -25,7 +26,7 @@ fn number_at(words: &Words<'_>, i: usize, low: u64, high: u64) -> Result<u64, Do
 
 /// The time that a word spells, in a range.
 pub(crate) fn time_at(words: &Words<'_>, i: usize, low: u64, high: u64) -> Result<i64, DocWhy>
-    requires { i < 16 }
+    requires { i < KEPT }
     ensures { result ≡ time_at low high words.now i }
 {
     let n = number_at(words, i, low, high)?;

@@ -8,7 +8,8 @@ use crate::delivered::{Class3, Copies, Delivery};
 use crate::document::Reading;
 use crate::inject_lines::side_of;
 use crate::refusals::{DocWhy, LineFault};
-use crate::words::{Words, number_in};
+use crate::words::number_in;
+use line_words::Words;
 
 /// The greatest number of a frame of its class.
 pub const MOST_NUMBER: u64 = 9_999_999;

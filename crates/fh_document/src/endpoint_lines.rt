@@ -8,9 +8,10 @@ use crate::document::{Reading, Version};
 use crate::hex::hex4;
 use crate::keywords::is_after_one;
 use crate::refusals::DocWhy;
-use crate::words::{Words, number_in, short_in};
+use crate::words::{number_in, short_in};
 use bfp_codec::{Format, Method};
 use fh_time::{CARRIER_PRBS, Numerology};
+use line_words::Words;
 use window_config::EndpointConfig;
 
 fn is_ordinary(words: &Words<'_>) -> bool

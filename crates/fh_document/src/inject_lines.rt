@@ -7,8 +7,8 @@ use crate::config_lines::time_at;
 use crate::document::{Injection, Reading};
 use crate::hex::frame_of;
 use crate::refusals::{DocWhy, LineFault};
-use crate::words::Words;
 use air_source::Side;
+use line_words::Words;
 use std::alloc::Global;
 
 /// The last nanosecond at which a frame may arrive.

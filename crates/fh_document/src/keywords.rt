@@ -3,7 +3,7 @@ ghost use Rattle.std.specs.Prelude.{◌≡◌, ◌<◌};
 ghost use Rattle.fh_document.specs.Keywords.{is_after_one, is_three, common_setting_of, setting_of, transit_of, keyword_of, rank_of, number_of};
 
 use crate::document::Version;
-use crate::words::Words;
+use line_words::Words;
 
 /// What a configuration line sets.
 #[derive(Clone, Copy)]

@@ -6,11 +6,12 @@ ghost use Rattle.fh_document.specs.MeasureLines.{unit_of, kind_of, measure_of, h
 
 use crate::document::{Measure, Reading};
 use crate::refusals::{DocWhy, LineFault};
-use crate::words::{Words, byte_in, number_in};
+use crate::words::{byte_in, number_in};
 use air_source::Side;
 use delay_measure::Kind;
 use fh_base::List;
 use fh_time::LAST_TIME;
+use line_words::Words;
 
 /// The first nanosecond at which a measurement may begin, so that no stamp is below 0.
 pub const FIRST_MEASURE: u64 = 1_000_000;

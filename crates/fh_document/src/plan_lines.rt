@@ -6,8 +6,9 @@ ghost use Rattle.fh_document.specs.PlanLines.{plan_kind_of, slot_of, symbols_of,
 use crate::document::Reading;
 use crate::hex::{hex3, hex4};
 use crate::refusals::{DocWhy, LineFault};
-use crate::words::{Words, byte_in, number_in, short_in};
+use crate::words::{byte_in, number_in, short_in};
 use fh_time::Slot;
+use line_words::Words;
 use window_config::{LAST_FRAME, PLAN_LINES, PlanKind, PlanLine};
 
 fn plan_kind_of(word: &[u8]) -> Option<PlanKind>

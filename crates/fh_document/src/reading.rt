@@ -15,8 +15,8 @@ use crate::keywords::{Keyword, Setting, keyword_of};
 use crate::measure_lines::measure_line;
 use crate::plan_lines::plan_line;
 use crate::refusals::{DocFault, DocWhy, LineFault};
-use crate::words::{Words, cut, is_text, without_last_feed};
 use fh_base::List;
+use line_words::{Words, cut, is_text, without_last_feed};
 use std::alloc::Global;
 use window_config::{Config, EndpointList};
 

@@ -1,5 +1,5 @@
 use Rattle.std.proofs.Common.{◌≡◌, ◌+◌, ◌≤◌, length}
-use Rattle.fh_document.specs.Words.{parts_left, left_length}
+use Rattle.line_words.specs.Words.{parts_left, left_length}
 use Rattle.fh_document.specs.Document.{document_of, read_from}
 use Rattle.fh_document.proofs.reading.read.Given as goal
 
