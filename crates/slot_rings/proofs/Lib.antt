@@ -1,3 +1,4 @@
+pub mod BlockLemmas
 pub mod RangeLemmas
 pub mod MaskLemmas
 pub mod JudgeLemmas

@@ -10,10 +10,12 @@ use Rattle.unit_model.specs.declared.allocations.Allocation.{Allocation}
 use Rattle.unit_model.specs.declared.cells.Block.{Block}
 use Rattle.unit_model.specs.declared.cells.Cell.{Cell}
 use Rattle.unit_model.specs.declared.cells.Claim.{Claim}
+use Rattle.slot_rings.specs.Blocks.{block_lent}
 use Rattle.slot_rings.specs.Places.{PlaceValue, claim_in, no_claims, is_place_of, is_due, claims_seen, blocks_seen, reported_seen, place_claim, place_block, place_reported, place_uplink, cell_number}
 use Rattle.slot_rings.specs.Rings.{RingValue, place_of, ring_claim, ring_block, ring_reported, ring_uplink}
 use Rattle.slot_rings.specs.Symbols.{AreCellsOf}
 use Rattle.slot_rings.specs.Verdicts.{verdict_by}
+use Rattle.slot_rings.specs.declared.blocks.LentBlocks.{LentBlocks}
 use Rattle.slot_rings.specs.declared.claims.CellClaims.{CellClaims}
 use Rattle.slot_rings.specs.declared.symbol_cells.SymbolCells.{SymbolCells}
 use Rattle.slot_rings.proofs.PlaceLemmas.{seen, verdict_same}
@@ -48,20 +50,20 @@ row_at : (prbs symbol base n : ℕ) → base ≡ cell_number prbs symbol 0 → b
 row_at prbs symbol base n e = omega (arith, e)
 
 -- the cells of a symbol, lent as what its place's lists have from the first of them on
-pub cells_lent : (r : RingValue) (slot : Slot) (symbol base : ℕ) (cells : SymbolCells) (ms : List CellClaims) (bs : List (Option Block)) (ds : List Bool)
+pub cells_lent : (r : RingValue) (slot : Slot) (symbol base : ℕ) (cells : SymbolCells) (ms : List CellClaims) (ds : List Bool)
     → base ≡ cell_number r.endpoint.prbs symbol 0
-    → ms ≡ claims_seen (place_of r slot) slot true → bs ≡ blocks_seen (place_of r slot) slot → ds ≡ reported_seen (place_of r slot) slot
+    → ms ≡ claims_seen (place_of r slot) slot true → ds ≡ reported_seen (place_of r slot) slot
     → ((k : ℕ) → get_or cells.claims.now k no_claims ≡ get_or ms (base + k) no_claims)
-    → ((k : ℕ) → get_or cells.blocks.now k None ≡ get_or bs (base + k) None)
+    → ((k : ℕ) → block_lent cells.blocks k ≡ get_or (blocks_seen (place_of r slot) slot) (base + k) None)
     → ((k : ℕ) → get_or cells.reported.now k false ≡ get_or ds (base + k) false)
     → AreCellsOf r slot symbol cells
-cells_lent r slot symbol base cells ms bs ds base_is ms_is bs_is ds_is claims blocks reported = record {
+cells_lent r slot symbol base cells ms ds base_is ms_is ds_is claims blocks reported = record {
   claims = λ ep prb re.
       one_seen r slot symbol prb ep (get_or cells.claims.now prb no_claims)
       (claims prb ∙ ap (λ (l : List CellClaims). get_or l (base + prb) no_claims) ms_is
       ∙ ap (λ (k : ℕ). get_or (claims_seen (place_of r slot) slot true) k no_claims) (row_at r.endpoint.prbs symbol base prb base_is)) re;
   blocks = λ ep prb.
-      blocks prb ∙ ap (λ (l : List (Option Block)). get_or l (base + prb) None) bs_is
+      blocks prb
       ∙ ap (λ (k : ℕ). get_or (blocks_seen (place_of r slot) slot) k None) (row_at r.endpoint.prbs symbol base prb base_is)
       ∙ block_seen r.endpoint.prbs (place_of r slot) (cell_at ep true slot symbol prb);
   reported = λ ep prb.
@@ -83,14 +85,18 @@ due_seen r slot symbol base ep ms ds base_is ms_is ds_is = some_same 0 r.endpoin
     ∙ flag_seen r.endpoint.prbs (place_of r slot) (cell_at ep true slot symbol n) in
     ap₂ (λ (u : ℕ) (d : Bool). not (u == 0) && not d) (mask_seen r slot symbol n ep _ m_is) d_is)
 
-pub all_seen : (r : RingValue) (slot : Slot) (symbol first count base ep : ℕ) (bs : List (Option Block)) → base ≡ cell_number r.endpoint.prbs symbol 0
-    → bs ≡ blocks_seen (place_of r slot) slot
-    → every first count (λ n. is_some (get_or bs (base + n) None)) ≡ every first count (λ prb. is_some (ring_block r (cell_at ep true slot symbol prb)))
-all_seen r slot symbol first count base ep bs base_is bs_is = every_same first count _ _ (λ n low high.
-    let at = row_at r.endpoint.prbs symbol base n base_is in
-    ap (λ (o : Option Block). is_some o) (ap (λ (l : List (Option Block)). get_or l (base + n) None) bs_is
-    ∙ ap (λ (k : ℕ). get_or (blocks_seen (place_of r slot) slot) k None) at
-    ∙ block_seen r.endpoint.prbs (place_of r slot) (cell_at ep true slot symbol n)))
+-- the block of a cell, and whether each of some cells has one, of what a place lends
+module _ (r : RingValue) (slot : Slot) (lent : LentBlocks) (lent_is : (k : ℕ) → block_lent lent k ≡ get_or (blocks_seen (place_of r slot) slot) k None) where
+  pub block_there : (symbol prb number ep : ℕ) → number ≡ cell_number r.endpoint.prbs symbol prb
+      → block_lent lent number ≡ ring_block r (cell_at ep true slot symbol prb)
+  block_there symbol prb number ep is = lent_is number
+      ∙ ap (λ (k : ℕ). get_or (blocks_seen (place_of r slot) slot) k None) is
+      ∙ block_seen r.endpoint.prbs (place_of r slot) (cell_at ep true slot symbol prb)
+
+  pub all_seen : (symbol first count base ep : ℕ) → base ≡ cell_number r.endpoint.prbs symbol 0
+      → every first count (λ n. is_some (block_lent lent (base + n))) ≡ every first count (λ prb. is_some (ring_block r (cell_at ep true slot symbol prb)))
+  all_seen symbol first count base ep base_is = every_same first count _ _ (λ n low high.
+      ap (λ (o : Option Block). is_some o) (block_there symbol n (base + n) ep (row_at r.endpoint.prbs symbol base n base_is)))
 
 pub verdict_seen : (r : RingValue) (a : Allocation) (prbs : ℕ) (p : PlaceValue) → p ≡ place_of r a.slot → prbs ≡ r.endpoint.prbs
     → verdict_by (place_claim prbs p) (length (place_uplink p a.slot)) a ≡ verdict_by (ring_claim r) (length (ring_uplink r a.slot)) a

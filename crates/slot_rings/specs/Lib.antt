@@ -1,6 +1,7 @@
 pub use Rattle.unit_model.specs.air_source
 pub use Rattle.unit_model
 pub mod Places
+pub mod Blocks
 pub mod Rings
 pub mod Pending
 pub mod Starts

@@ -1,9 +1,10 @@
 -- The downlink cells of a symbol that a ring lends, and what they answer.
-use Rattle.std.specs.Prelude.{◌≡◌, ℕ, Bool, true, false, get_or, Option, None}
+use Rattle.std.specs.Prelude.{◌≡◌, ℕ, Bool, true, false, get_or, Option}
 use Rattle.fh_time.specs.declared.values.Slot.{Slot}
 use Rattle.unit_model.specs.Claims.{cell_at}
 use Rattle.unit_model.specs.declared.cells.Block.{Block}
 use Rattle.unit_model.specs.declared.cells.Claim.{Claim}
+use Rattle.slot_rings.specs.Blocks.{block_lent}
 use Rattle.slot_rings.specs.Places.{claim_in, no_claims}
 use Rattle.slot_rings.specs.Rings.{RingValue, ring_block, ring_claim, ring_reported}
 use Rattle.slot_rings.specs.declared.symbol_cells.SymbolCells.{SymbolCells}
@@ -14,7 +15,7 @@ abbrev pub lent_claim : SymbolCells → ℕ → ℕ → Option Claim
 lent_claim cells prb re = claim_in (get_or cells.claims.now prb no_claims) re
 
 abbrev pub lent_block : SymbolCells → ℕ → Option Block
-lent_block cells prb = get_or cells.blocks.now prb None
+lent_block cells prb = block_lent cells.blocks prb
 
 abbrev pub lent_reported : SymbolCells → ℕ → Bool
 lent_reported cells prb = get_or cells.reported.now prb false

@@ -10,6 +10,7 @@
 //! O-RAN.WG4.CUS.
 #![tactic(auto)]
 
+mod blocks;
 mod claims;
 mod index;
 mod judging;
@@ -23,6 +24,7 @@ mod scans;
 mod starts;
 mod symbol_cells;
 
+pub use blocks::LentBlocks;
 pub use claims::CellClaims;
 pub use packed::PackedRun;
 pub use ring::SlotRing;

@@ -8,6 +8,7 @@ pub(crate) fn reach<T: Copy + Drop>(list: &mut Vec<T>, len: usize, blank: T)
     ensures same { (k : ℕ) → get_or list.new.items k blank ≡ get_or list.old.items k blank }
     ensures len { len ≤ vec_len list.new }
     ensures exact { vec_len list.old ≤ len → vec_len list.new ≡ len }
+    ensures stays { len ≤ vec_len list.old → vec_len list.new ≡ vec_len list.old }
     ensures capacity { vec_capacity list.old ≤ vec_capacity list.new }
 {
     if list.len() < len {

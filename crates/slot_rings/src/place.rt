@@ -1,7 +1,7 @@
 // The memory of one slot.
-ghost use Rattle.std.specs.Prelude.{◌≡◌, ◌≢◌, ℕ, ◌+◌, ◌*◌, ◌<◌, ◌≤◌, ◌||◌, true, false, length, get_or, reverse, if◌then◌else◌, IfOk, None, Some, option_copied, vec_capacity, vec_len};
+ghost use Rattle.std.specs.Prelude.{◌≡◌, ◌≢◌, ℕ, ◌+◌, ◌*◌, ◌<◌, ◌≤◌, ◌||◌, true, false, length, get_or, reverse, if◌then◌else◌, IfOk, None, Some, vec_capacity, vec_len};
 ghost use Rattle.fh_time.specs.Carrier.{is_outside};
-ghost use Rattle.bfp_codec.specs.Layout.{HasWidth, length_of, unpacked_of};
+ghost use Rattle.bfp_codec.specs.Layout.{HasWidth};
 ghost use Rattle.unit_model.specs.Claims.{is_from, same_slot};
 ghost use Rattle.unit_model.specs.Commands.{is_uplink};
 ghost use Rattle.unit_model.specs.Lists.{or_else};
@@ -10,15 +10,16 @@ ghost use Rattle.unit_model.specs.declared.verdicts.CommandVerdict.TheVariants.{
 ghost use Rattle.slot_rings.specs.Verdicts.{uplink_after};
 ghost use Rattle.slot_rings.specs.Places.{claim_in, is_in_use, is_place_of, no_claims};
 ghost use Rattle.slot_rings.specs.Runs.{packed_block, packed_samples};
+ghost use Rattle.fh_time.specs.declared.carrier.TheConstants.{CARRIER_PRBS};
 ghost use Rattle.fh_time.specs.declared.symbols.TheConstants.{SLOT_SYMBOLS};
 ghost use Rattle.unit_model.specs.declared.uplink.TheConstants.{SLOT_SECTIONS};
 
+use crate::blocks::{Blocks, LentBlocks};
 use crate::claims::CellClaims;
 use crate::judging::{claim, claims_at, is_uplink, verdict};
 use crate::lists::reach;
 use crate::packed::PackedRun;
 use crate::rows::{EMPTY, Row, Span, row_at, span_of};
-use bfp_codec::{Method, Wide, unpack_into};
 use fh_base::NoMemory;
 use fh_time::{SLOT_SYMBOLS, Slot};
 use std::alloc::Global;
@@ -38,7 +39,7 @@ pub(crate) struct Place {
     // what the claims of each symbol are
     down_rows: [Row; SLOT_SYMBOLS],
     up_rows: [Row; SLOT_SYMBOLS],
-    blocks: Vec<Option<Block>>,
+    blocks: Blocks,
     reported: Vec<bool>,
     // the newest last
     uplink: Vec<Allocation>,
@@ -55,7 +56,7 @@ impl Model for Place {
 
     ghost view = { λ p. record { slot = p.slot; prbs = p.prbs; down = p.down.items; up = p.up.items; blocks = p.blocks.items; reported = p.reported.items; uplink = reverse p.uplink.items } };
 
-    ghost invariant = { λ p. (SLOT_SYMBOLS * p.prbs ≤ vec_capacity p.down) × (SLOT_SYMBOLS * p.prbs ≤ vec_capacity p.up) × (SLOT_SYMBOLS * p.prbs ≤ vec_capacity p.blocks)
+    ghost invariant = { λ p. (SLOT_SYMBOLS * p.prbs ≤ vec_capacity p.down) × (SLOT_SYMBOLS * p.prbs ≤ vec_capacity p.up) × (SLOT_SYMBOLS * p.prbs ≤ p.blocks.cells)
         × (SLOT_SYMBOLS * p.prbs ≤ vec_capacity p.reported) × (SLOT_SECTIONS ≤ vec_capacity p.uplink) × (length p.uplink.items ≤ SLOT_SECTIONS)
         × AreRows p.prbs p.down.items p.down_rows × AreRows p.prbs p.up.items p.up_rows };
 }
@@ -92,87 +93,6 @@ fn keep(uplink: &mut Vec<Allocation>, a: &Allocation)
     }
 }
 
-/// Writes a block where none is yet.
-fn fill(blocks: &mut Vec<Option<Block>>, k: usize, block: &Block)
-    requires { k < vec_capacity blocks.old }
-    ensures here { get_or blocks.new.items k None ≡ or_else (get_or blocks.old.items k None) (Some block.now) }
-    ensures others { (i : ℕ) → i ≢ k → get_or blocks.new.items i None ≡ get_or blocks.old.items i None }
-    ensures capacity { vec_capacity blocks.old ≤ vec_capacity blocks.new }
-{
-    if k < blocks.len() {
-        if blocks[k].is_none() {
-            blocks[k] = Some(*block);
-        }
-        return;
-    }
-    reach(blocks, k, None);
-    let pushed = blocks.push(Some(*block)).is_ok();
-    prove!(pushed);
-}
-
-/// Appends the block with number `k` and the samples of a packed PRB, which is unpacked there.
-fn push_packed(blocks: &mut Vec<Option<Block>>, k: usize, id: u16, method: Method, packed: &[u8])
-    requires ends { vec_len blocks.old ≤ k }
-    requires room { k < vec_capacity blocks.old }
-    requires width { HasWidth method }
-    requires len { length packed.now ≡ length_of method }
-    ensures here { get_or blocks.new.items k None ≡ Some (record { id = id; samples = unpacked_of method packed.now }) }
-    ensures others { (i : ℕ) → i ≢ k → get_or blocks.new.items i None ≡ get_or blocks.old.items i None }
-    ensures capacity { vec_capacity blocks.old ≤ vec_capacity blocks.new }
-{
-    reach(blocks, k, None);
-    let samples = [Wide { i: 0, q: 0 }; 12];
-    let pushed = blocks.push(Some(Block { id, samples })).is_ok();
-    prove!(pushed);
-    if let Some(block) = &mut blocks[k] {
-        unpack_into(method, packed, &mut block.samples);
-    }
-}
-
-/// Makes a place that of a block with the samples of a packed PRB, which is unpacked there.
-fn unpack_block(block: &mut Option<Block>, id: u16, method: Method, packed: &[u8])
-    requires width { HasWidth method }
-    requires len { length packed.now ≡ length_of method }
-    ensures { block.new ≡ Some (record { id = id; samples = unpacked_of method packed.now }) }
-{
-    let samples = [Wide { i: 0, q: 0 }; 12];
-    let kept = block.insert(Block { id, samples });
-    unpack_into(method, packed, &mut kept.samples);
-}
-
-/// Writes the samples of a packed PRB where no block is yet.
-fn fill_packed(blocks: &mut Vec<Option<Block>>, k: usize, id: u16, method: Method, packed: &[u8])
-    requires room { k < vec_capacity blocks.old }
-    requires width { HasWidth method }
-    requires len { length packed.now ≡ length_of method }
-    ensures here { get_or blocks.new.items k None ≡ or_else (get_or blocks.old.items k None) (Some (record { id = id; samples = unpacked_of method packed.now })) }
-    ensures others { (i : ℕ) → i ≢ k → get_or blocks.new.items i None ≡ get_or blocks.old.items i None }
-    ensures capacity { vec_capacity blocks.old ≤ vec_capacity blocks.new }
-{
-    if blocks.len() <= k {
-        push_packed(blocks, k, id, method, packed);
-        return;
-    }
-    let block = &mut blocks[k];
-    if block.is_none() {
-        unpack_block(block, id, method, packed);
-    }
-}
-
-/// Writes the samples of packed PRBs from number `from` on, each where no block is yet.
-fn fill_run(blocks: &mut Vec<Option<Block>>, from: usize, run: &PackedRun<'_>)
-    requires width { HasWidth run.now.method }
-    requires room { from + run.now.count ≤ vec_capacity blocks.old }
-    ensures here { (k : ℕ) → k < run.now.count → get_or blocks.new.items (from + k) None
-        ≡ or_else (get_or blocks.old.items (from + k) None) (Some (packed_block run.now.id (packed_samples run.now) k)) }
-    ensures others { (i : ℕ) → is_from from run.now.count i ≡ false → get_or blocks.new.items i None ≡ get_or blocks.old.items i None }
-    ensures capacity { vec_capacity blocks.old ≤ vec_capacity blocks.new }
-{
-    for k in 0..run.count as usize {
-        fill_packed(blocks, from + k, run.id, run.method, run.prb(k));
-    }
-}
-
 /// Sets one cell as reported, if it is in use.
 fn set_reported(reported: &mut Vec<bool>, k: usize, used: bool)
     requires { k < vec_len reported.old }
@@ -202,18 +122,20 @@ fn set_used_reported(reported: &mut Vec<bool>, claims: &[CellClaims], from: usiz
 }
 
 impl Place {
+    ghost use Rattle.slot_rings.specs.Blocks.{block_lent};
     ghost use Rattle.slot_rings.specs.Places.{cell_number, claim_in, no_claims, empty_place, opened, claims_seen, blocks_seen, reported_seen, place_claim, place_uplink};
     ghost use Rattle.slot_rings.specs.Rows.{AreRows};
     ghost use Rattle.slot_rings.specs.Verdicts.{overlaps_by, verdict_by, claim_after};
 
     /// Takes all memory, for so many PRBs.
     pub(crate) fn make(alloc: Global, prbs: u16) -> Result<Place, NoMemory>
+        requires { prbs ≤ CARRIER_PRBS }
         ensures { IfOk result (λ p. p ≡ empty_place None prbs) }
     {
         let room = SLOT_SYMBOLS * prbs as usize;
         let down = Vec::with_capacity(alloc, room)?;
         let up = Vec::with_capacity(alloc, room)?;
-        let blocks = Vec::with_capacity(alloc, room)?;
+        let blocks = Blocks::make(alloc, room as u16)?;
         let reported = Vec::with_capacity(alloc, room)?;
         let uplink = Vec::with_capacity(alloc, SLOT_SECTIONS)?;
         Ok(Place {
@@ -378,13 +300,13 @@ impl Place {
     }
 
     /// The blocks of a slot.
-    pub(crate) fn blocks(&self, slot: Slot) -> &[Option<Block>]
-        ensures { result.now ≡ blocks_seen self.now slot }
+    pub(crate) fn blocks(&self, slot: Slot) -> LentBlocks<'_>
+        ensures { (k : ℕ) → block_lent result k ≡ get_or (blocks_seen self.now slot) k None }
     {
         if self.has(slot) {
-            self.blocks.as_slice()
+            self.blocks.lend()
         } else {
-            &[]
+            LentBlocks::none()
         }
     }
 
@@ -406,7 +328,7 @@ impl Place {
         ensures others { (i : ℕ) → i ≢ k → get_or self.new.blocks i None ≡ get_or self.old.blocks i None }
         ensures kept { self.new ≡ record self.old { blocks = self.new.blocks } }
     {
-        fill(&mut self.blocks, k, block);
+        self.blocks.fill(k, block);
     }
 
     /// Gives downlink cells from number `from` on the samples of packed PRBs, each where it has no block.
@@ -418,7 +340,7 @@ impl Place {
         ensures others { (i : ℕ) → is_from from run.now.count i ≡ false → get_or self.new.blocks i None ≡ get_or self.old.blocks i None }
         ensures kept { self.new ≡ record self.old { blocks = self.new.blocks } }
     {
-        fill_run(&mut self.blocks, from, run);
+        self.blocks.fill_run(from, run);
     }
 
     /// Sets as reported those of the first so many downlink cells of a symbol that are in use, where it begins at number `from`.

@@ -20,7 +20,7 @@ use crate::lists::items_from;
 use crate::packed::PackedRun;
 use crate::pending::Flags;
 use crate::place::Place;
-use crate::scans::{all_there, any_due, block_at};
+use crate::scans::{all_there, any_due};
 use crate::starts::{Starts, start_from};
 use crate::symbol_cells::SymbolCells;
 use fh_base::NoMemory;
@@ -159,7 +159,7 @@ impl SlotRing {
         ensures { (ep : ℕ) → result ≡ every first count (λ prb. is_some (ring_block self.now (cell_at ep true slot symbol prb))) }
     {
         let base = self.number(symbol, 0);
-        all_there(self.place(slot).blocks(slot), base, first, count)
+        all_there(&self.place(slot).blocks(slot), base, first, count)
     }
 
     /// The block of a downlink cell.
@@ -168,7 +168,7 @@ impl SlotRing {
         ensures { (ep : ℕ) → option_copied result ≡ ring_block self.now (cell_at ep true slot symbol prb) }
     {
         let number = self.number(symbol, prb);
-        block_at(self.place(slot).blocks(slot), number)
+        self.place(slot).blocks(slot).block(number)
     }
 
     /// The downlink cells of a symbol: their place is found once for all of them.
@@ -180,7 +180,7 @@ impl SlotRing {
         let place = self.place(slot);
         SymbolCells {
             claims: items_from(place.claims(slot, true), base),
-            blocks: items_from(place.blocks(slot), base),
+            blocks: place.blocks(slot).behind(base),
             reported: items_from(place.reported(slot), base),
         }
     }

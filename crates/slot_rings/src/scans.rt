@@ -1,23 +1,13 @@
 // Tests over the cells of one symbol.
-ghost use Rattle.std.specs.Prelude.{◌≡◌, ℕ, ◌+◌, ◌^◌, ◌<◌, ◌≤◌, ◌&&◌, false, get_or, is_some, None, option_copied};
+ghost use Rattle.std.specs.Prelude.{◌≡◌, ℕ, ◌+◌, ◌^◌, ◌<◌, ◌≤◌, ◌&&◌, false, get_or, is_some};
 ghost use Rattle.unit_model.specs.Lists.{every, some};
+ghost use Rattle.slot_rings.specs.Blocks.{block_lent};
 ghost use Rattle.slot_rings.specs.Places.{claim_in, no_claims, is_due};
 
+use crate::blocks::LentBlocks;
 use crate::claims::CellClaims;
 use crate::judging::claims_at;
 use crate::rows::Span;
-use unit_model::Block;
-
-/// The block of one cell.
-pub(crate) fn block_at(blocks: &[Option<Block>], k: usize) -> Option<&Block>
-    ensures { option_copied result ≡ get_or blocks.now k None }
-{
-    if k < blocks.len() {
-        blocks[k].as_ref()
-    } else {
-        None
-    }
-}
 
 /// Whether one cell was reported.
 pub(crate) fn reported_here(reported: &[bool], k: usize) -> bool
@@ -27,12 +17,12 @@ pub(crate) fn reported_here(reported: &[bool], k: usize) -> bool
 }
 
 /// Whether each of these cells of a symbol has a block. The symbol's cells begin at number `base`.
-pub(crate) fn all_there(blocks: &[Option<Block>], base: usize, first: u16, count: u16) -> bool
+pub(crate) fn all_there(blocks: &LentBlocks<'_>, base: usize, first: u16, count: u16) -> bool
     requires { base < 2 ^ 32 }
-    ensures { result ≡ every first count (λ n. is_some (get_or blocks.now (base + n) None)) }
+    ensures { result ≡ every first count (λ n. is_some (block_lent blocks.now (base + n))) }
 {
     for n in first as usize..first as usize + count as usize {
-        if block_at(blocks, base + n).is_none() {
+        if blocks.block(base + n).is_none() {
             return false;
         }
     }

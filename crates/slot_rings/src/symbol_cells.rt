@@ -2,9 +2,10 @@
 ghost use Rattle.std.specs.Prelude.{◌≡◌, option_copied};
 ghost use Rattle.unit_model.specs.Radiated.{cell_id, used_mask};
 
+use crate::blocks::LentBlocks;
 use crate::claims::CellClaims;
 use crate::judging::claims_at;
-use crate::scans::{block_at, reported_here};
+use crate::scans::reported_here;
 use unit_model::Block;
 
 /// What a report needs of a downlink cell besides its block.
@@ -25,7 +26,7 @@ pub struct SymbolCells<'a> {
     /// What is claimed of them.
     pub claims: &'a [CellClaims],
     /// The blocks that came for them.
-    pub blocks: &'a [Option<Block>],
+    pub blocks: LentBlocks<'a>,
     /// Which of them were reported.
     pub reported: &'a [bool],
 }
@@ -52,6 +53,6 @@ impl<'a> SymbolCells<'a> {
     pub fn block(&self, prb: u16) -> Option<&'a Block>
         ensures { option_copied result ≡ lent_block self.now prb }
     {
-        block_at(self.blocks, prb as usize)
+        self.blocks.block(prb as usize)
     }
 }

@@ -1,7 +1,8 @@
-use Rattle.std.proofs.Common.{◌≡◌, ℕ, ◌+◌, ◌<◌, ◌≤◌, true, get_or, is_some, None}
+use Rattle.std.proofs.Common.{◌≡◌, ℕ, ◌+◌, ◌<◌, ◌≤◌, true, is_some}
+use Rattle.slot_rings.specs.Blocks.{block_lent}
 use Rattle.slot_rings.proofs.scans.all_there.Given as goal
 
 abbrev pub invariant-loop-n : goal.invariant-loop-n
 invariant-loop-n l = record {
-  all : (k : ℕ) → l.first ≤ k → k < l.n → is_some (get_or l.blocks (l.base + k) None) ≡ true;
+  all : (k : ℕ) → l.first ≤ k → k < l.n → is_some (block_lent l.blocks (l.base + k)) ≡ true;
 }
