@@ -5,7 +5,7 @@ ghost use Rattle.std.specs.Prelude.{◌≤◌};
 
 use crate::words::Ending;
 use lines::{Kind, config, lines};
-use plan_tests::{PlanRefusal, tested};
+use plan_check::{PlanRefusal, tested};
 use std::alloc::Global;
 use std::io;
 

@@ -15,7 +15,7 @@ use Rattle.delay_laws.proofs.Ending.{all_end}
 use Rattle.delay_laws.proofs.Settling.{settled}
 use Rattle.delay_laws.proofs.Whole.{tick_exact}
 use Rattle.delay_measure.specs.declared.message.DelayMessage.{DelayMessage}
-use Rattle.frame_deliveries.specs.fh_document.specs.declared.delivered.Class3.TheVariants.{M}
+use Rattle.frame_deliveries.specs.fh_document.specs.declared.delivered.TrafficClass.TheVariants.{M}
 use Rattle.frame_deliveries.specs.fh_document.specs.declared.document.Document.{Document}
 use Rattle.frame_deliveries.specs.fh_document.specs.declared.document.Measure.{Measure}
 use Rattle.frame_deliveries.specs.fh_document.specs.Proper.{AreComps, IsDocument, IsFrom, IsMeasure}

@@ -1,7 +1,7 @@
 // What the lines of a plan, of deliveries, of frames and of measurements say, in their order.
 use air_source::Side;
 use delay_measure::Kind;
-use fh_document::{Class3, Measure, read};
+use fh_document::{Measure, TrafficClass, read};
 use fh_time::Slot;
 use window_config::{PlanKind, PlanLine};
 
@@ -59,14 +59,17 @@ fn deliver_lines_say_what_becomes_of_a_frame(rt: HostRuntime) {
     let all = d.deliveries.get(0).expect(&rt, "first");
     assert_eq!(rt;
         (all.side, all.class, all.k),
-        (Side::Du, Class3::M, 9_999_999)
+        (Side::Du, TrafficClass::M, 9_999_999)
     );
     assert_eq!(rt;
         all.copies.as_slice(),
         [1, 2, 3, 4, 5, 6, 7, 3_000_000_000].as_slice()
     );
     let none = d.deliveries.get(1).expect(&rt, "second");
-    assert_eq!(rt; (none.side, none.class, none.k), (Side::Ru, Class3::U, 5));
+    assert_eq!(rt;
+        (none.side, none.class, none.k),
+        (Side::Ru, TrafficClass::U, 5)
+    );
     assert_eq!(rt; none.copies.as_slice().len(), 0);
 }
 
@@ -105,7 +108,7 @@ fn plans_and_deliveries_stand_in_their_order(rt: HostRuntime) {
     let copies = d.deliveries.get(0).expect(&rt, "copies");
     assert_eq!(rt;
         (copies.side, copies.class, copies.k),
-        (Side::Du, Class3::U, 7)
+        (Side::Du, TrafficClass::U, 7)
     );
     assert_eq!(rt; copies.copies.as_slice(), [5, 6].as_slice());
     assert_eq!(rt; d.measures.len(), 0);
@@ -122,7 +125,7 @@ fn both_directions_are_read(rt: HostRuntime) {
     let copies = d.deliveries.get(0).expect(&rt, "copies");
     assert_eq!(rt;
         (copies.side, copies.class, copies.k),
-        (Side::Du, Class3::U, 1)
+        (Side::Du, TrafficClass::U, 1)
     );
     let to_du = d.injections.get(0).expect(&rt, "first");
     assert_eq!(rt; (to_du.side, to_du.at), (Side::Du, 7));

@@ -7,8 +7,8 @@ use Rattle.std.proofs.lemmas.Option.{slice_get-get_or}
 use Rattle.fh_time.proofs.Order.{symbols_few}
 use Rattle.fh_time.specs.Numbering.{symbols_of}
 use Rattle.fh_time.specs.declared.values.Slot.{Slot}
-use Rattle.plan_tests.specs.air_source.specs.Answers.{block_of}
-use Rattle.plan_tests.specs.air_source.specs.declared.places.RePlace.{RePlace}
+use Rattle.plan_check.specs.air_source.specs.Answers.{block_of}
+use Rattle.plan_check.specs.air_source.specs.declared.places.RePlace.{RePlace}
 use Rattle.bfp_codec.specs.declared.samples.Wide.{Wide}
 use Rattle.sent_frames.specs.fragment_laws.specs.Apart.{IsIn}
 use Rattle.window_config.specs.Configs.{IsConfig}
@@ -16,15 +16,15 @@ use Rattle.window_config.specs.Plans.{IsPlanLine}
 use Rattle.window_config.specs.declared.config.Config.{Config}
 use Rattle.window_config.specs.declared.endpoints.EndpointConfig.{EndpointConfig}
 use Rattle.window_config.specs.declared.plan.PlanLine.{PlanLine}
-use Rattle.plan_tests.specs.unit_model.specs.Proper.{IsAt}
-use Rattle.plan_tests.specs.plan_model.specs.Lines.{planned}
-use Rattle.plan_tests.specs.plan_model.specs.Packs.{Message, Numbered, packs, parts_of, size_of}
-use Rattle.plan_tests.specs.plan_model.specs.Sent.{SentFrame, sent}
-use Rattle.plan_tests.specs.plan_model.specs.Streams.{Part, frames_in, messages_of, part_fields, parts_in}
-use Rattle.plan_tests.specs.plan_model.specs.Valid.{IsValid}
-use Rattle.plan_tests.specs.plan_model.specs.declared.lines.PlannedLine.{PlannedLine}
-use Rattle.plan_tests.specs.plan_model.specs.declared.streams.Stream.{Stream}
-use Rattle.plan_tests.specs.plan_model.specs.declared.streams.Stream.TheVariants.{DownCommands, UpCommands, DownData, UpData}
+use Rattle.plan_check.specs.unit_model.specs.Proper.{IsAt}
+use Rattle.plan_check.specs.plan_model.specs.Lines.{planned}
+use Rattle.plan_check.specs.plan_model.specs.Packs.{Message, Numbered, packs, parts_of, size_of}
+use Rattle.plan_check.specs.plan_model.specs.Sent.{SentFrame, sent}
+use Rattle.plan_check.specs.plan_model.specs.Streams.{Part, frames_in, messages_of, part_fields, parts_in}
+use Rattle.plan_check.specs.plan_model.specs.Valid.{IsValid}
+use Rattle.plan_check.specs.plan_model.specs.declared.lines.PlannedLine.{PlannedLine}
+use Rattle.plan_check.specs.plan_model.specs.declared.streams.Stream.{Stream}
+use Rattle.plan_check.specs.plan_model.specs.declared.streams.Stream.TheVariants.{DownCommands, UpCommands, DownData, UpData}
 use Rattle.sent_frames.specs.frame_bytes.specs.Messages.{MessageFits, message_size}
 use Rattle.sent_frames.specs.schedule_laws.proofs.ListLemmas.{at_in}
 use Rattle.sent_frames.specs.schedule_laws.proofs.PackLemmas.{message_from}
@@ -49,7 +49,7 @@ use Rattle.du_scheduler.proofs.PlaceLemmas.{line_place}
 use Rattle.window_config.specs.declared.config.TheConstants.{MESSAGE_SECTIONS}
 use Rattle.fh_time.specs.declared.symbols.TheConstants.{SLOT_SYMBOLS}
 use Rattle.sent_frames.specs.frame_bytes.specs.Headers.{carrier_of}
-use Rattle.plan_tests.specs.unit_model.specs.Terms.{piece_count}
+use Rattle.plan_check.specs.unit_model.specs.Terms.{piece_count}
 
 stand_in : (ps : List PlannedLine) (xs : List Part) → ((x : Part) → IsIn x xs → slice_get ps x.planned.index ≡ Some x.planned) → StandIn ps xs
 stand_in ps [] h = tt

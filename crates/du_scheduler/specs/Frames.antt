@@ -5,11 +5,11 @@ use Rattle.window_config.specs.Configs.{IsConfig}
 use Rattle.window_config.specs.Plans.{IsPlanLine}
 use Rattle.window_config.specs.declared.config.Config.{Config}
 use Rattle.window_config.specs.declared.plan.PlanLine.{PlanLine}
-use Rattle.plan_tests.specs.plan_model.specs.Lines.{planned}
-use Rattle.plan_tests.specs.plan_model.specs.Packs.{parts_of}
-use Rattle.plan_tests.specs.plan_model.specs.Sent.{SentFrame, sent}
-use Rattle.plan_tests.specs.plan_model.specs.Valid.{IsValid}
-use Rattle.plan_tests.specs.plan_model.specs.declared.lines.PlannedLine.{PlannedLine}
+use Rattle.plan_check.specs.plan_model.specs.Lines.{planned}
+use Rattle.plan_check.specs.plan_model.specs.Packs.{parts_of}
+use Rattle.plan_check.specs.plan_model.specs.Sent.{SentFrame, sent}
+use Rattle.plan_check.specs.plan_model.specs.Valid.{IsValid}
+use Rattle.plan_check.specs.plan_model.specs.declared.lines.PlannedLine.{PlannedLine}
 use Rattle.frame_order.specs.declared.turns.Turn.{Turn}
 use Rattle.plan_table.specs.sent_order.specs.Runs.{turn_of}
 use Rattle.plan_table.specs.Kept.{placed_line}

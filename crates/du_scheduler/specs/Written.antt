@@ -1,9 +1,9 @@
 -- A message whose parts stand in a list of lines, as it can be written (this project's means).
 use Rattle.std.specs.Prelude.{◌≡◌, ◌<◌, ◌≤◌, ⊤, List, [], ◌∷◌, length, map, Some}
 use Rattle.std.specs.List.{slice_get}
-use Rattle.plan_tests.specs.plan_model.specs.Packs.{Message, parts_of}
-use Rattle.plan_tests.specs.plan_model.specs.Streams.{Part}
-use Rattle.plan_tests.specs.plan_model.specs.declared.lines.PlannedLine.{PlannedLine}
+use Rattle.plan_check.specs.plan_model.specs.Packs.{Message, parts_of}
+use Rattle.plan_check.specs.plan_model.specs.Streams.{Part}
+use Rattle.plan_check.specs.plan_model.specs.declared.lines.PlannedLine.{PlannedLine}
 use Rattle.sent_frames.specs.frame_bytes.specs.Messages.{MessageFits}
 use Rattle.sent_frames.specs.frame_bytes.specs.declared.messages.DataSection.{DataSection}
 use Rattle.sent_frames.specs.Messages.{data_head, data_section}

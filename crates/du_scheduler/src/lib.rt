@@ -11,6 +11,6 @@ mod touching;
 mod writing;
 
 pub use keeping::planned_lines;
+pub use plan_check::PlanRefusal;
 pub use plan_model::PlanWhy;
-pub use plan_tests::PlanRefusal;
 pub use plans::{Plan, Plane, Sent};

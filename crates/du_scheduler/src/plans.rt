@@ -1,16 +1,16 @@
 //! A plan and the frames that it has still to send.
 ghost use Rattle.std.specs.Prelude.{◌≡◌, ◌≤◌, ◌↔◌, All, IfOk, IfSome, IsTrue, List as SpecList, length, map, slice_get};
-ghost use Rattle.plan_tests.specs.air_source.specs.Answers.{AnswersBy};
-ghost use Rattle.plan_tests.specs.air_source.specs.Kept.{IsKept, closure_of};
-ghost use Rattle.plan_tests.specs.air_source.specs.declared.places.RePlace.{RePlace as SpecPlace};
+ghost use Rattle.plan_check.specs.air_source.specs.Answers.{AnswersBy};
+ghost use Rattle.plan_check.specs.air_source.specs.Kept.{IsKept, closure_of};
+ghost use Rattle.plan_check.specs.air_source.specs.declared.places.RePlace.{RePlace as SpecPlace};
 ghost use Rattle.bfp_codec.specs.declared.samples.Wide.{Wide as SpecWide};
 ghost use Rattle.window_config.specs.Configs.{IsConfig};
 ghost use Rattle.window_config.specs.Plans.{IsPlanLine};
 ghost use Rattle.window_config.specs.declared.config.Config.{Config as SpecConfig};
 ghost use Rattle.window_config.specs.declared.plan.PlanLine.{PlanLine as SpecLine};
-ghost use Rattle.plan_tests.specs.plan_model.specs.Lines.{planned};
-ghost use Rattle.plan_tests.specs.plan_model.specs.Sent.{SentFrame, sent};
-ghost use Rattle.plan_tests.specs.plan_model.specs.Valid.{IsValid};
+ghost use Rattle.plan_check.specs.plan_model.specs.Lines.{planned};
+ghost use Rattle.plan_check.specs.plan_model.specs.Sent.{SentFrame, sent};
+ghost use Rattle.plan_check.specs.plan_model.specs.Valid.{IsValid};
 ghost use Rattle.window_config.specs.declared.plan.TheConstants.{PLAN_LINES};
 
 use crate::keeping::planned_lines;
@@ -21,9 +21,9 @@ use bfp_codec::Wide;
 use fh_base::{List, NoMemory};
 use fh_time::{Slot, Ticks};
 use frame_order::Queue;
+use plan_check::{PlanRefusal, tested};
 use plan_model::PlannedLine;
 use plan_table::Table;
-use plan_tests::{PlanRefusal, tested};
 use std::alloc::Global;
 use window_config::{Config, PlanLine};
 

@@ -1,8 +1,8 @@
 -- `deliver WAY CLASS K NS ..`
 use Rattle.std.specs.Prelude.{ℕ, ℤ, pos, List, [], ◌∷◌, ◌++◌, length, drop, Bool, ◌&&◌, nat_le, if◌then◌else◌, Option, Some, None, Result, Ok, Err, codes}
 use Rattle.std.specs.Str.{bytes_eq}
-use Rattle.fh_document.specs.declared.delivered.Class3.{Class3}
-use Rattle.fh_document.specs.declared.delivered.Class3.TheVariants.{C, U, M}
+use Rattle.fh_document.specs.declared.delivered.TrafficClass.{TrafficClass}
+use Rattle.fh_document.specs.declared.delivered.TrafficClass.TheVariants.{C, U, M}
 use Rattle.fh_document.specs.declared.delivered.Delivery.{Delivery}
 use Rattle.fh_document.specs.declared.document.Reading.{Reading}
 use Rattle.fh_document.specs.declared.refusals.DocWhy.{DocWhy}
@@ -17,7 +17,7 @@ use Rattle.fh_document.specs.declared.deliver_lines.TheConstants.{MOST_NUMBER}
 use Rattle.text_lines.specs.Numbers.{word_at}
 
 -- frames of the C-plane, of the U-plane, and of delay measurement
-abbrev pub class_of : List ℕ → Option Class3
+abbrev pub class_of : List ℕ → Option TrafficClass
 class_of w =
     if bytes_eq w (codes "c") then Some C
     else (if bytes_eq w (codes "u") then Some U
@@ -25,7 +25,7 @@ class_of w =
     else None))
 
 -- the least time on its way that a frame of a class may have
-abbrev pub least_of : Class3 → ℕ
+abbrev pub least_of : TrafficClass → ℕ
 least_of C = 0
 least_of U = 0
 least_of M = 1

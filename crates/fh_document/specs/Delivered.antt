@@ -3,8 +3,8 @@ use Rattle.std.specs.Prelude.{ℕ, ◌+◌, ◌*◌, List, Bool, ◌==◌, ◌&&
 use Rattle.std.specs.List.{list_any}
 use Rattle.tone_source.specs.air_source.specs.declared.events.Side.{Side}
 use Rattle.tone_source.specs.air_source.specs.declared.events.Side.TheVariants.{Ru, Du}
-use Rattle.fh_document.specs.declared.delivered.Class3.{Class3}
-use Rattle.fh_document.specs.declared.delivered.Class3.TheVariants.{C, U, M}
+use Rattle.fh_document.specs.declared.delivered.TrafficClass.{TrafficClass}
+use Rattle.fh_document.specs.declared.delivered.TrafficClass.TheVariants.{C, U, M}
 use Rattle.fh_document.specs.declared.delivered.Delivery.{Delivery}
 
 -- a number for each way
@@ -13,7 +13,7 @@ way_number Ru = 0
 way_number Du = 1
 
 -- a number for each class
-abbrev pub class_number : Class3 → ℕ
+abbrev pub class_number : TrafficClass → ℕ
 class_number C = 0
 class_number U = 1
 class_number M = 2
@@ -27,7 +27,7 @@ abbrev pub has_like : Delivery → List Delivery → Bool
 has_like d = list_any (is_like d)
 
 -- a number of its own for the k-th frame of a class on a way
-abbrev pub number_of : Side → Class3 → ℕ → ℕ
+abbrev pub number_of : Side → TrafficClass → ℕ → ℕ
 number_of side class k = 6 * k + (3 * way_number side + class_number class)
 
 -- the number of the frame that it speaks of

@@ -4,7 +4,7 @@ ghost use Rattle.fh_document.specs.Answered.{Reads};
 ghost use Rattle.fh_document.specs.DeliverLines.{class_of, least_of, times_of, has_deliver_count, delivery_of, delivered, deliver_line};
 
 use crate::config_lines::MOST_TRANSIT;
-use crate::delivered::{Class3, Copies, Delivery};
+use crate::delivered::{Copies, Delivery, TrafficClass};
 use crate::document::Reading;
 use crate::inject_lines::side_of;
 use crate::refusals::{DocWhy, LineFault};
@@ -14,28 +14,28 @@ use line_words::Words;
 /// The greatest number of a frame of its class.
 pub const MOST_NUMBER: u64 = 9_999_999;
 
-fn class_of(word: &[u8]) -> Option<Class3>
+fn class_of(word: &[u8]) -> Option<TrafficClass>
     ensures { result ≡ class_of word.now }
 {
     if word == b"c".as_slice() {
-        return Some(Class3::C);
+        return Some(TrafficClass::C);
     }
     if word == b"u".as_slice() {
-        return Some(Class3::U);
+        return Some(TrafficClass::U);
     }
     if word == b"m".as_slice() {
-        return Some(Class3::M);
+        return Some(TrafficClass::M);
     }
     None
 }
 
 /// The least time on its way that a frame of a class may have.
-fn least_of(class: Class3) -> u64
+fn least_of(class: TrafficClass) -> u64
     ensures { result ≡ least_of class }
 {
     match class {
-        Class3::C | Class3::U => 0,
-        Class3::M => 1,
+        TrafficClass::C | TrafficClass::U => 0,
+        TrafficClass::M => 1,
     }
 }
 

@@ -12,7 +12,7 @@ use thiserror::Error;
 
 /// The classes of frames, each counted for itself on each way.
 #[derive(Clone, Copy, Debug, PartialEq, Eq)]
-pub enum Class3 {
+pub enum TrafficClass {
     /// Frames of the C-plane.
     C,
     /// Frames of the U-plane.
@@ -78,7 +78,7 @@ impl Copies {
 pub struct Delivery {
     /// The unit that it is sent to.
     pub side: Side,
-    pub class: Class3,
+    pub class: TrafficClass,
     /// Which of its class on its way it is, from 1 to 9,999,999 in the order in which they are sent.
     pub k: u32,
     /// From 0 to 3,000,000,000 ns each; of delay measurement at least 1 ns.
@@ -95,19 +95,19 @@ fn way_number(side: Side) -> u64
     }
 }
 
-fn class_number(class: Class3) -> u64
+fn class_number(class: TrafficClass) -> u64
     ensures class { result ≡ class_number class }
     ensures small { result < 3 }
 {
     match class {
-        Class3::C => 0,
-        Class3::U => 1,
-        Class3::M => 2,
+        TrafficClass::C => 0,
+        TrafficClass::U => 1,
+        TrafficClass::M => 2,
     }
 }
 
 /// A number of its own for each frame: of the `k`-th of its class that is sent to a unit.
-pub fn frame_number(side: Side, class: Class3, k: u32) -> u64
+pub fn frame_number(side: Side, class: TrafficClass, k: u32) -> u64
     ensures { result ≡ number_of side class k }
 {
     6 * u64::from(k) + (3 * way_number(side) + class_number(class))

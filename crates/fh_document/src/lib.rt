@@ -26,7 +26,7 @@ mod words;
 
 pub use config_lines::MOST_TRANSIT;
 pub use deliver_lines::MOST_NUMBER;
-pub use delivered::{Class3, Copies, Delivery, ListFull, frame_number};
+pub use delivered::{Copies, Delivery, ListFull, TrafficClass, frame_number};
 pub use document::{Comps, Document, Injection, Measure, Transits};
 pub use generating::write;
 pub use measure_lines::FIRST_MEASURE;

@@ -20,7 +20,7 @@ use Rattle.du_scheduler.specs.plan_model.specs.declared.streams.Stream.TheVarian
 use Rattle.du_scheduler.specs.sent_order.specs.Runs.{turn_of}
 use Rattle.fh_time.specs.declared.values.Ticks.{Ticks}
 use Rattle.frame_deliveries.specs.Leaving.{Leaving}
-use Rattle.frame_deliveries.specs.fh_document.specs.declared.delivered.Class3.{Class3}
+use Rattle.frame_deliveries.specs.fh_document.specs.declared.delivered.TrafficClass.{TrafficClass}
 use Rattle.frame_ways.proofs.Ticks.{next_tick}
 use Rattle.frame_ways.specs.Ways.{OnWay, StandsFor, having_sent, having_sent_all, leaving_as}
 use Rattle.frame_ways.specs.declared.way.Way.{Way}
@@ -58,13 +58,13 @@ first_is : (f g : SentFrame) (rest more : List SentFrame) → f ∷ rest ≡ g �
 first_is f g rest more e = cc e
 
 -- it is sent as it leaves
-pub leaves_as : (c : Config) (answer : RePlace → Wide) (s : Sent) (k : Class3) (f : SentFrame) (rest : List SentFrame) → k ≡ class_for s.plane → GivesSent c answer (f ∷ rest) (Some s)
+pub leaves_as : (c : Config) (answer : RePlace → Wide) (s : Sent) (k : TrafficClass) (f : SentFrame) (rest : List SentFrame) → k ≡ class_for s.plane → GivesSent c answer (f ∷ rest) (Some s)
     → leaving_as s.at.0 k s.bytes.now ≡ leaving_by c answer f
 leaves_as c answer s k f rest class gives =
     let g = gives.0 in
     let is = gives.3 in
     ap (λ (t : ℤ). leaving_as t k s.bytes.now) is.at
-    ∙ ap (λ (x : Class3). leaving_as g.at x s.bytes.now) (class ∙ ap class_for is.plane ∙ class_is g.stream)
+    ∙ ap (λ (x : TrafficClass). leaving_as g.at x s.bytes.now) (class ∙ ap class_for is.plane ∙ class_is g.stream)
     ∙ ap (λ (bytes : List ℕ). leaving_as g.at (class_of g.stream) bytes) is.bytes
     ∙ ap (leaving_by c answer) (first_is f g rest gives.1 gives.2)
 

@@ -13,8 +13,8 @@ use Rattle.du_scheduler.specs.plan_model.specs.declared.streams.Stream.TheVarian
 use Rattle.sent_frames.specs.Frames.{sent_bytes}
 use Rattle.sent_frames.specs.Sources.{source_of}
 use Rattle.frame_deliveries.specs.Leaving.{Leaving}
-use Rattle.frame_deliveries.specs.fh_document.specs.declared.delivered.Class3.{Class3}
-use Rattle.frame_deliveries.specs.fh_document.specs.declared.delivered.Class3.TheVariants.{C, U}
+use Rattle.frame_deliveries.specs.fh_document.specs.declared.delivered.TrafficClass.{TrafficClass}
+use Rattle.frame_deliveries.specs.fh_document.specs.declared.delivered.TrafficClass.TheVariants.{C, U}
 use Rattle.frame_ways.specs.Ways.{OnWay, StandsFor, having_sent_all}
 use Rattle.frame_ways.specs.declared.way.Way.{Way}
 use Rattle.window_config.specs.declared.config.Config.{Config}
@@ -23,12 +23,12 @@ use Rattle.window_config.specs.declared.plan.PlanLine.{PlanLine}
 -- ---- a frame as it leaves
 
 -- the class of the frames of a plane
-abbrev pub class_for : Plane → Class3
+abbrev pub class_for : Plane → TrafficClass
 class_for OfC = C
 class_for OfU = U
 
 -- and of a stream
-abbrev pub class_of : Stream → Class3
+abbrev pub class_of : Stream → TrafficClass
 class_of DownCommands = C
 class_of UpCommands = C
 class_of DownData = U

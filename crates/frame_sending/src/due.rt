@@ -17,18 +17,18 @@ use air_source::{RePlace, Samples};
 use bfp_codec::Wide;
 use du_scheduler::{Plan, Plane};
 use fh_base::NoMemory;
-use fh_document::Class3;
+use fh_document::TrafficClass;
 use fh_time::Ticks;
 use frame_network::FramePool;
 use frame_ways::Way;
 
 /// The class of the frames of a plane.
-fn class_of(plane: Plane) -> Class3
+fn class_of(plane: Plane) -> TrafficClass
     ensures { result ≡ class_for plane }
 {
     match plane {
-        Plane::C => Class3::C,
-        Plane::U => Class3::U,
+        Plane::C => TrafficClass::C,
+        Plane::U => TrafficClass::U,
     }
 }
 

@@ -9,7 +9,7 @@ use crate::tally::Tally;
 use crate::times::earlier_of;
 use air_source::Side;
 use fh_base::{Bytes, NoMemory};
-use fh_document::{Class3, Document, Injection};
+use fh_document::{Document, Injection, TrafficClass};
 use fh_time::Ticks;
 use frame_deliveries::FrameDeliveries;
 use frame_network::{FramePool, LandingQueue, Network};
@@ -83,7 +83,7 @@ impl<'a> Way<'a> {
         &mut self,
         pool: &mut FramePool,
         at: Ticks,
-        class: Class3,
+        class: TrafficClass,
         frame: &[u8],
     ) -> Result<(), NoMemory>
         requires begun { first_clock ≤ℤ at.0 }
@@ -107,7 +107,7 @@ impl<'a> Way<'a> {
         &mut self,
         pool: &mut FramePool,
         at: Ticks,
-        class: Class3,
+        class: TrafficClass,
         frame: Bytes,
     ) -> Result<(), NoMemory>
         requires begun { first_clock ≤ℤ at.0 }

@@ -1,6 +1,6 @@
 -- The document that a generated text says.
 use Rattle.std.specs.Prelude.{◌≡◌, ℕ, zero, suc, pos, ◌+◌, ◌*◌, ◌%◌, ◌^◌, ◌<◌, ◌≤◌, List, [], ◌∷◌, Some, Ok}
-use Rattle.fh_document.specs.declared.delivered.Class3.TheVariants.{U}
+use Rattle.fh_document.specs.declared.delivered.TrafficClass.TheVariants.{U}
 use Rattle.fh_document.specs.declared.delivered.Delivery.{Delivery}
 use Rattle.fh_document.specs.declared.document.Document.{Document}
 use Rattle.fh_document.specs.Document.{document_of}

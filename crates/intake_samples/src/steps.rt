@@ -15,8 +15,8 @@ use du_intake::{Delivered, Intake};
 use du_scheduler::planned_lines;
 use fh_base::{List, NoMemory};
 use fh_time::Ticks;
+use plan_check::tested;
 use plan_model::PlannedLine;
-use plan_tests::tested;
 use std::alloc::Global;
 use window_config::{Config, PlanLine};
 

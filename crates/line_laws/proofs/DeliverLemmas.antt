@@ -6,8 +6,8 @@ use Rattle.std.specs.Fmt.{signed_decimal}
 use Rattle.std.proofs.lemmas.Bool.Decides.{nat_tests}
 use Rattle.std.proofs.lemmas.List.{length-map}
 use Rattle.std.proofs.lemmas.List.Elements.{All-head, All-tail}
-use Rattle.fh_document.specs.declared.delivered.Class3.{Class3}
-use Rattle.fh_document.specs.declared.delivered.Class3.TheVariants.{C, U, M}
+use Rattle.fh_document.specs.declared.delivered.TrafficClass.{TrafficClass}
+use Rattle.fh_document.specs.declared.delivered.TrafficClass.TheVariants.{C, U, M}
 use Rattle.fh_document.specs.declared.delivered.Delivery.{Delivery}
 use Rattle.fh_document.specs.declared.refusals.DocWhy.TheVariants as why
 use Rattle.fh_document.specs.DeliverLines.{class_of, least_of, times_of, has_deliver_count, delivery_of, delivered}
@@ -28,12 +28,12 @@ use Rattle.fh_document.specs.declared.deliver_lines.TheConstants.{MOST_NUMBER}
 use Rattle.fh_time.proofs.Orders.{both_true}
 use Rattle.air_source.specs.Units.{way_text}
 
-class_is : (class : Class3) → class_of (class_word class) ≡ Some class
+class_is : (class : TrafficClass) → class_of (class_word class) ≡ Some class
 class_is C = refl
 class_is U = refl
 class_is M = refl
 
-class_visible : (class : Class3) → is_word (class_word class) ≡ true
+class_visible : (class : TrafficClass) → is_word (class_word class) ≡ true
 class_visible C = refl
 class_visible U = refl
 class_visible M = refl

@@ -5,8 +5,8 @@ use Rattle.text_lines.specs.Words.{hex4_text, hex3_text, hex2_text}
 use Rattle.window_config.specs.declared.plan.PlanKind.{PlanKind}
 use Rattle.window_config.specs.declared.plan.PlanKind.TheVariants.{Down, Up, Idle}
 use Rattle.window_config.specs.declared.plan.PlanLine.{PlanLine}
-use Rattle.fh_document.specs.declared.delivered.Class3.{Class3}
-use Rattle.fh_document.specs.declared.delivered.Class3.TheVariants.{C, U, M}
+use Rattle.fh_document.specs.declared.delivered.TrafficClass.{TrafficClass}
+use Rattle.fh_document.specs.declared.delivered.TrafficClass.TheVariants.{C, U, M}
 use Rattle.fh_document.specs.declared.delivered.Delivery.{Delivery}
 use Rattle.fh_document.specs.declared.document.Injection.{Injection}
 use Rattle.air_source.specs.Units.{way_text}
@@ -36,7 +36,7 @@ plan_words line =
     codes "plan" ∷ plan_kind_word line.kind ∷ hex4_text line.id ∷ signed_decimal line.slot.frame ∷ decimal line.slot.subframe ∷ decimal line.slot.slot
     ∷ decimal line.symbol ∷ decimal line.count ∷ decimal line.start_prb ∷ decimal line.num_prb ∷ hex3_text line.mask ∷ decimal line.section ∷ decimal line.beam ∷ []
 
-abbrev pub class_word : Class3 → List ℕ
+abbrev pub class_word : TrafficClass → List ℕ
 class_word C = codes "c"
 class_word U = codes "u"
 class_word M = codes "m"

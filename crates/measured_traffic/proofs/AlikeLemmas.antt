@@ -14,8 +14,8 @@ use Rattle.document_delays.specs.Settings.{setting_of, ways_of}
 use Rattle.document_traffic.proofs.OrderLemmas.{leaving_rising}
 use Rattle.document_traffic.specs.Landing.{all_delayed, copies_among, copy_at, injected_to, leaving_answer, leaving_to}
 use Rattle.document_traffic.specs.Sending.{Delayed, Leaving, SentCounts, class_of, count_of, counted, delayed, delayed_behind, leaving_of, none_sent, sent_for}
-use Rattle.document_delays.specs.fh_document.specs.declared.delivered.Class3.{Class3}
-use Rattle.document_delays.specs.fh_document.specs.declared.delivered.Class3.TheVariants.{C, U, M}
+use Rattle.document_delays.specs.fh_document.specs.declared.delivered.TrafficClass.{TrafficClass}
+use Rattle.document_delays.specs.fh_document.specs.declared.delivered.TrafficClass.TheVariants.{C, U, M}
 use Rattle.document_delays.specs.fh_document.specs.declared.document.Document.{Document}
 use Rattle.uplink_turns.specs.fragment_laws.specs.Apart.{IsIn}
 use Rattle.document_delays.specs.frame_deliveries.specs.Copies.{copies_of}
@@ -98,12 +98,12 @@ record AreLike (n m : SentCounts) : Type 0 where
   c_plane : n.c_plane ≡ m.c_plane
   u_plane : n.u_plane ≡ m.u_plane
 
-same_count : (k : Class3) (n m : SentCounts) → (k ≡ M → ⊥) → AreLike n m → count_of k (counted k n) ≡ count_of k (counted k m)
+same_count : (k : TrafficClass) (n m : SentCounts) → (k ≡ M → ⊥) → AreLike n m → count_of k (counted k n) ≡ count_of k (counted k m)
 same_count C n m plain like = ap (λ i. i + 1) like.c_plane
 same_count U n m plain like = ap (λ i. i + 1) like.u_plane
 same_count M n m plain like = absurd (plain refl)
 
-still_like : (k : Class3) (n m : SentCounts) → AreLike n m → AreLike (counted k n) (counted k m)
+still_like : (k : TrafficClass) (n m : SentCounts) → AreLike n m → AreLike (counted k n) (counted k m)
 still_like C n m like = record { c_plane = ap (λ i. i + 1) like.c_plane; u_plane = like.u_plane }
 still_like U n m like = record { c_plane = like.c_plane; u_plane = ap (λ i. i + 1) like.u_plane }
 still_like M n m like = record { c_plane = like.c_plane; u_plane = like.u_plane }
@@ -111,7 +111,7 @@ still_like M n m like = record { c_plane = like.c_plane; u_plane = like.u_plane 
 measured_like : (n : SentCounts) → AreLike n (counted M n)
 measured_like n = record { c_plane = refl; u_plane = refl }
 
-measured_stays : (k : Class3) (n : SentCounts) → (k ≡ M → ⊥) → (counted k n).measurement ≡ n.measurement
+measured_stays : (k : TrafficClass) (n : SentCounts) → (k ≡ M → ⊥) → (counted k n).measurement ≡ n.measurement
 measured_stays C n plain = refl
 measured_stays U n plain = refl
 measured_stays M n plain = absurd (plain refl)

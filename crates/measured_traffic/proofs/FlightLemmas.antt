@@ -16,7 +16,7 @@ use Rattle.document_delays.proofs.Documents.{document_ends}
 use Rattle.document_delays.specs.Settings.{begin_of, setting_of, ways_of}
 use Rattle.document_traffic.specs.Landing.{injected_at, injected_to, is_to}
 use Rattle.document_delays.specs.fh_document.specs.Proper.{IsDocument, IsFrom, IsInjection, IsMeasure}
-use Rattle.document_delays.specs.fh_document.specs.declared.delivered.Class3.TheVariants.{M}
+use Rattle.document_delays.specs.fh_document.specs.declared.delivered.TrafficClass.TheVariants.{M}
 use Rattle.document_delays.specs.fh_document.specs.declared.document.Document.{Document}
 use Rattle.document_delays.specs.fh_document.specs.declared.document.Injection.{Injection}
 use Rattle.document_delays.specs.fh_document.specs.declared.document.Measure.{Measure}

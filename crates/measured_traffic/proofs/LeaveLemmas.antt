@@ -16,8 +16,8 @@ use Rattle.document_traffic.specs.Laws.{IsReplayable}
 use Rattle.document_traffic.specs.Sending.{Leaving, count_of}
 use Rattle.document_delays.specs.fh_document.specs.DeliverLines.{least_of}
 use Rattle.document_delays.specs.fh_document.specs.Proper.{IsFrom}
-use Rattle.document_delays.specs.fh_document.specs.declared.delivered.Class3.{Class3}
-use Rattle.document_delays.specs.fh_document.specs.declared.delivered.Class3.TheVariants.{M}
+use Rattle.document_delays.specs.fh_document.specs.declared.delivered.TrafficClass.{TrafficClass}
+use Rattle.document_delays.specs.fh_document.specs.declared.delivered.TrafficClass.TheVariants.{M}
 use Rattle.document_delays.specs.fh_document.specs.declared.document.Document.{Document}
 use Rattle.uplink_turns.specs.fragment_laws.specs.Apart.{IsIn}
 use Rattle.uplink_turns.specs.frame_bytes.proofs.Fields.{length-in_bytes}
@@ -36,7 +36,7 @@ use Rattle.uplink_turns.specs.uplink_model.specs.Sent.{in_sent_order}
 use Rattle.uplink_turns.proofs.LeavingLemmas.{left_is_all}
 use Rattle.document_delays.specs.window_config.specs.Windows.{ticks_of_ns}
 use Rattle.uplink_turns.specs.plan_model.proofs.ListLemmas.{in_either, of_filter, all_of}
-use Rattle.measured_traffic.proofs.FrameLemmas.{payload_long, payload_of}
+use Rattle.delay_model.proofs.FrameLemmas.{payload_long, payload_of}
 use Rattle.measured_traffic.proofs.ListLemmas.{at_key, none_then}
 use Rattle.measured_traffic.proofs.MergeLemmas.{first_merged}
 use Rattle.measured_traffic.proofs.SentLemmas.{messages_are_owed}
@@ -134,7 +134,7 @@ pub measured_land_later : MeasuredLandLater
 measured_land_later d side n f is measured =
     let k = count_of f.class n in
     let within : All (IsFrom (least_of M) MOST_TRANSIT) (copies_of d side f.class k) =
-    subst (λ (class : Class3). All (IsFrom (least_of class) MOST_TRANSIT) (copies_of d side f.class k)) measured
+    subst (λ (class : TrafficClass). All (IsFrom (least_of class) MOST_TRANSIT) (copies_of d side f.class k)) measured
     (copies_within d is.document.transits is.document.deliveries side f.class k) in
     All-map (λ a. (f.at +ℤ pos 1) ≤ℤ a.at) (copy_at f) (copies_of d side f.class k)
     (All-weaker (IsFrom (least_of M) MOST_TRANSIT) (λ (ns : ℤ). (f.at +ℤ pos 1) ≤ℤ (copy_at f ns).at) (λ ns time. lands_later f.at ns time.low) (copies_of d side f.class k) within)

@@ -20,7 +20,7 @@ use Rattle.uplink_turns.specs.unit_model.specs.Times.{end_of_time, tick_count}
 use Rattle.uplink_turns.specs.unit_model.specs.Uplink.{jobs}
 use Rattle.uplink_turns.specs.unit_model.specs.declared.allocations.Allocation.{Allocation}
 use Rattle.uplink_turns.specs.plan_model.proofs.TickLemmas.{ticks_same}
-use Rattle.measured_traffic.proofs.FrameLemmas.{only_delays}
+use Rattle.delay_model.proofs.FrameLemmas.{only_delays}
 use Rattle.measured_traffic.proofs.ListLemmas.{filter_mapped, swept, ticks_filter, ticks_flat}
 use Rattle.measured_traffic.proofs.RestLemmas.{landings_leave_the_same}
 use Rattle.measured_traffic.specs.Laws.{MeasurementRests, MessagesAreOwed}

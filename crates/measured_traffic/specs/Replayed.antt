@@ -9,7 +9,7 @@ use Rattle.document_delays.specs.delay_laws.specs.Ticks.{Begin, Flight, due}
 use Rattle.document_delays.specs.Settings.{begin_of, compensation_of}
 use Rattle.document_traffic.specs.Landing.{landing_with, leaving_to}
 use Rattle.document_traffic.specs.Sending.{Leaving, lines_of}
-use Rattle.document_delays.specs.fh_document.specs.declared.delivered.Class3.TheVariants.{M}
+use Rattle.document_delays.specs.fh_document.specs.declared.delivered.TrafficClass.TheVariants.{M}
 use Rattle.document_delays.specs.fh_document.specs.declared.document.Document.{Document}
 use Rattle.uplink_turns.specs.replay_events.specs.Moments.{end_of_time, landing_at}
 use Rattle.uplink_turns.specs.replay_events.specs.Traffic.{Traffic}

@@ -6,7 +6,7 @@ use Rattle.document_delays.specs.delay_laws.specs.Ticks.{Flight}
 use Rattle.document_traffic.specs.Laws.{IsReplayable}
 use Rattle.document_traffic.specs.Landing.{antenna_for, copies_in, leaving_answer, leaving_up}
 use Rattle.document_traffic.specs.Sending.{Leaving, SentCounts, delayed}
-use Rattle.document_delays.specs.fh_document.specs.declared.delivered.Class3.TheVariants.{M}
+use Rattle.document_delays.specs.fh_document.specs.declared.delivered.TrafficClass.TheVariants.{M}
 use Rattle.document_delays.specs.fh_document.specs.declared.document.Document.{Document}
 use Rattle.uplink_turns.specs.replay_events.specs.Moments.{end_of_time}
 use Rattle.uplink_turns.specs.replay_events.specs.Passing.{IsCalm}

@@ -7,8 +7,8 @@ use Rattle.air_source.specs.declared.events.Side.{Side}
 use Rattle.air_source.specs.declared.events.Side.TheVariants.{Ru, Du}
 use Rattle.window_config.specs.declared.delays.Delays.{Delays}
 use Rattle.window_config.specs.declared.delays.Range.{Range}
-use Rattle.fh_document.specs.declared.delivered.Class3.{Class3}
-use Rattle.fh_document.specs.declared.delivered.Class3.TheVariants.{C, U, M}
+use Rattle.fh_document.specs.declared.delivered.TrafficClass.{TrafficClass}
+use Rattle.fh_document.specs.declared.delivered.TrafficClass.TheVariants.{C, U, M}
 use Rattle.fh_document.specs.declared.delivered.Delivery.{Delivery}
 use Rattle.fh_document.specs.declared.document.Document.{Document}
 use Rattle.fh_document.specs.Delivered.{class_number, way_number}
@@ -49,7 +49,7 @@ same_way Ru Du e = absurd (omega (arith, e))
 same_way Du Ru e = absurd (omega (arith, e))
 same_way Du Du e = refl
 
-same_class : (a b : Class3) → class_number a ≡ class_number b → a ≡ b
+same_class : (a b : TrafficClass) → class_number a ≡ class_number b → a ≡ b
 same_class C C e = refl
 same_class C U e = absurd (omega (arith, e))
 same_class C M e = absurd (omega (arith, e))
@@ -60,15 +60,15 @@ same_class M C e = absurd (omega (arith, e))
 same_class M U e = absurd (omega (arith, e))
 same_class M M e = refl
 
-spoken : (t : Delays) (side : Side) (class : Class3) (k : ℕ) (x : Delivery) → class ≢ M → IsPlainLine t x → speaks_of side class k x ≡ true → AreWithin (transport_of side t) x.copies
+spoken : (t : Delays) (side : Side) (class : TrafficClass) (k : ℕ) (x : Delivery) → class ≢ M → IsPlainLine t x → speaks_of side class k x ≡ true → AreWithin (transport_of side t) x.copies
 spoken t side class k x other plain said =
     let parts = and_parts (way_number side == way_number x.side) ((class_number class == class_number x.class) && (k == x.k)) said in
     let side_is = same_way side x.side (eqb-true (way_number side) (way_number x.side) parts.0) in
     let class_is = same_class class x.class (eqb-true (class_number class) (class_number x.class) (and_parts (class_number class == class_number x.class) (k == x.k) parts.1).0) in
-    let not_measured : x.class ≢ M = subst (λ (c : Class3). c ≢ M) class_is other in
+    let not_measured : x.class ≢ M = subst (λ (c : TrafficClass). c ≢ M) class_is other in
     subst (λ (s : Side). AreWithin (transport_of s t) x.copies) (sym side_is) (record { some = plain.some not_measured; within = plain.within not_measured })
 
-lines_within : (t : Delays) (time : Option ℤ) (xs : List Delivery) (side : Side) (class : Class3) (k : ℕ) → class ≢ M → All (IsPlainLine t) xs → IsSomeAnd time (IsWithin (transport_of side t))
+lines_within : (t : Delays) (time : Option ℤ) (xs : List Delivery) (side : Side) (class : TrafficClass) (k : ℕ) → class ≢ M → All (IsPlainLine t) xs → IsSomeAnd time (IsWithin (transport_of side t))
     → AreWithin (transport_of side t) (copies_or time (line_of xs side class k))
 lines_within t time [] side class k other plain transit = once (transport_of side t) time transit
 lines_within t time (x ∷ xs) side class k other plain transit = elim (cases_Bool (speaks_of side class k x)) [
@@ -78,7 +78,7 @@ lines_within t time (x ∷ xs) side class k other plain transit = elim (cases_Bo
 
 -- ---- each frame that is sent
 
-transit_within : (d : Document) → IsPlain d → (side : Side) (class : Class3) → class ≢ M → IsSomeAnd (transit_of d.transits side class) (IsWithin (transport_of side d.config.delays))
+transit_within : (d : Document) → IsPlain d → (side : Side) (class : TrafficClass) → class ≢ M → IsSomeAnd (transit_of d.transits side class) (IsWithin (transport_of side d.config.delays))
 transit_within d plain Ru C other = plain.down
 transit_within d plain Ru U other = plain.down
 transit_within d plain Ru M other = absurd (other refl)

@@ -4,7 +4,7 @@ use Rattle.air_source.specs.declared.events.Side.TheVariants.{Ru, Du}
 use Rattle.window_config.specs.Relations.{PassesCheck}
 use Rattle.window_config.specs.declared.delays.Delays.{Delays}
 use Rattle.window_config.specs.declared.delays.Range.{Range}
-use Rattle.fh_document.specs.declared.delivered.Class3.TheVariants.{M}
+use Rattle.fh_document.specs.declared.delivered.TrafficClass.TheVariants.{M}
 use Rattle.fh_document.specs.declared.delivered.Delivery.{Delivery}
 use Rattle.fh_document.specs.declared.document.Document.{Document}
 use Rattle.document_traffic.specs.Undisturbed.{IsUndisturbedBothWays, transport_of}

@@ -15,7 +15,7 @@ use Rattle.du_scheduler.specs.plan_model.specs.declared.streams.Stream.{Stream}
 use Rattle.du_scheduler.specs.plan_model.specs.declared.streams.Stream.TheVariants.{DownCommands, UpCommands, DownData, UpData}
 use Rattle.fh_time.proofs.Orders.{beyond_next}
 use Rattle.frame_deliveries.specs.Leaving.{Leaving}
-use Rattle.frame_deliveries.specs.fh_document.specs.declared.delivered.Class3.{Class3}
+use Rattle.frame_deliveries.specs.fh_document.specs.declared.delivered.TrafficClass.{TrafficClass}
 use Rattle.frame_sending.specs.Due as due
 use Rattle.frame_sending.specs.Due.{AreSentFrom, HasSentDue, MaySend, leaving_by}
 use Rattle.frame_ways.specs.Ways.{IsCalmTo, StandsFor, having_sent_all, landings_on}
@@ -86,7 +86,7 @@ class_same DownData = refl
 class_same UpData = refl
 
 leaving_same : (d : Document) (f : SentFrame) → leaving_by d.config (tone_of d.source) f ≡ leaving_of d f
-leaving_same d f = ap (λ (k : Class3). let x : Leaving = record { at = f.at; class = k; frame = sent_bytes d.config (source_for d) f } in x) (class_same f.stream)
+leaving_same d f = ap (λ (k : TrafficClass). let x : Leaving = record { at = f.at; class = k; frame = sent_bytes d.config (source_for d) f } in x) (class_same f.stream)
 
 all_same : (d : Document) (fs : List SentFrame) → map (leaving_by d.config (tone_of d.source)) fs ≡ map (leaving_of d) fs
 all_same d [] = refl

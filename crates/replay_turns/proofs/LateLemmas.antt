@@ -25,7 +25,7 @@ use Rattle.measured_traffic.specs.document_traffic.specs.Laws.{IsReplayable}
 use Rattle.measured_traffic.specs.document_traffic.specs.Sending.{Delayed, Leaving, delayed_behind, leaving_down, leaving_of, none_sent, sent_for}
 use Rattle.measured_traffic.specs.fh_document.specs.DeliverLines.{least_of}
 use Rattle.measured_traffic.specs.fh_document.specs.Proper.{IsDocument, IsFrom, IsInjection, IsMeasure}
-use Rattle.measured_traffic.specs.fh_document.specs.declared.delivered.Class3.TheVariants.{M}
+use Rattle.measured_traffic.specs.fh_document.specs.declared.delivered.TrafficClass.TheVariants.{M}
 use Rattle.measured_traffic.specs.fh_document.specs.declared.document.Document.{Document}
 use Rattle.measured_traffic.specs.fh_document.specs.declared.document.Measure.{Measure}
 use Rattle.measured_traffic.specs.fragment_laws.specs.Apart.{IsIn}

@@ -13,7 +13,7 @@ use du_scheduler::{PlanRefusal, PlanWhy};
 use eaxc_map::Widths;
 use fh_base::{List, NoMemory};
 use fh_time::Numerology;
-use plan_tests::tested;
+use plan_check::tested;
 use std::alloc::Global;
 use std::test::Fail;
 use window_config::{Config, Delays, EndpointConfig, PlanKind, PlanLine, Range};

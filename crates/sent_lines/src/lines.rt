@@ -7,7 +7,7 @@ ghost use Rattle.sent_lines.specs.Lines.{copies_text, frame_line_text, kind_text
 ghost use Rattle.text_lines.specs.Words.{spaced_signed_text};
 
 use ecpri_fragments::SeqField;
-use fh_document::Class3;
+use fh_document::TrafficClass;
 use fh_time::{Slot, Ticks};
 use text_lines::Line;
 use window_config::PlanKind;
@@ -15,7 +15,7 @@ use window_config::PlanKind;
 /// What is told of a frame that a plan sends, beside its copies.
 #[derive(Clone, Copy, Debug, PartialEq, Eq)]
 pub struct FrameLine {
-    pub class: Class3,
+    pub class: TrafficClass,
     /// Its number among the frames of its class, from 1, in the order in which frames are sent.
     pub number: u64,
     /// When it is sent.
@@ -37,14 +37,14 @@ pub struct FrameLine {
 }
 
 /// The word of a class.
-fn class_word(class: Class3) -> &'static [u8]
+fn class_word(class: TrafficClass) -> &'static [u8]
     ensures word { result.now ≡ class_word class }
     ensures short { length result.now ≤ 1 }
 {
     match class {
-        Class3::C => b"c",
-        Class3::U => b"u",
-        Class3::M => b"m",
+        TrafficClass::C => b"c",
+        TrafficClass::U => b"u",
+        TrafficClass::M => b"m",
     }
 }
 

@@ -41,7 +41,7 @@ use Rattle.frame_order.specs.declared.turns.Turn.{Turn}
 use Rattle.sent_order.specs.Runs.{stream_place, turn_of}
 use Rattle.document_traffic.specs.Sending.{class_of, lines_of, source_for}
 use Rattle.document_traffic.proofs.LineLemmas.{lines_fit}
-use Rattle.fh_document.specs.declared.delivered.Class3.{Class3}
+use Rattle.fh_document.specs.declared.delivered.TrafficClass.{TrafficClass}
 use Rattle.sent_text.specs.Frames.{IsPlaced, IsTurnFor, turn_class, turn_field}
 use Rattle.fh_time.specs.declared.values.Ticks.{Ticks}
 use Rattle.sent_lines.specs.declared.lines.FrameLine.{FrameLine}
@@ -135,7 +135,7 @@ piece_begins fragment size sub some below =
 abbrev pub planned_of : ℕ → ℕ → EndpointConfig → PlanLine → PlannedLine
 planned_of index ep e line = record { index = index; ep = ep; endpoint = e; line = line }
 
-abbrev pub told_of : Class3 → ℕ → Ticks → ℕ → PlannedLine → ℕ → ℕ → SeqField → ℕ → FrameLine
+abbrev pub told_of : TrafficClass → ℕ → Ticks → ℕ → PlannedLine → ℕ → ℕ → SeqField → ℕ → FrameLine
 told_of class number at id p symbol line field bytes = record {
   class = class;
   number = number;
@@ -285,7 +285,7 @@ module _ (d : Document) (f : SentFrame) (t : Turn) (h : IsTurnFor d f t) where
       ap₂ (λ (i k : ℕ). planned_of i k e line) place (ep ∙ sym first_part.ep_is) ∙ ap₂ (λ (x : EndpointConfig) (l : PlanLine). planned_of p.index p.ep x l) of_e of_line
 
   -- all that is told
-  pub line_is : (class : Class3) (number : ℕ) (p : PlannedLine) (first : PlacedLine) (place : ℕ) (field : SeqField) (bytes : ℕ) → class ≡ turn_class t → p ≡ f.message.first.planned
+  pub line_is : (class : TrafficClass) (number : ℕ) (p : PlannedLine) (first : PlacedLine) (place : ℕ) (field : SeqField) (bytes : ℕ) → class ≡ turn_class t → p ≡ f.message.first.planned
       → first ≡ placed_line f.message.first → place ≡ slice_index d.plan_lines p.index → field ≡ fragment_field d.config f → bytes ≡ length (frame_for d f)
       → told_of class number t.at p.endpoint.id p first.symbol place field bytes ≡ line_for d number f
   line_is class number p first place field bytes class_is p_is first_is place_is field_is bytes_is =
@@ -294,7 +294,7 @@ module _ (d : Document) (f : SentFrame) (t : Turn) (h : IsTurnFor d f t) where
       let id_is : q.endpoint.id ≡ f.endpoint.id = ap (λ (e : EndpointConfig). e.id) first_part.endpoint_is in
       let symbol_is : first.symbol ≡ f.message.first.symbol = ap (λ (x : PlacedLine). x.symbol) first_is in
       let line_of : place ≡ slice_index d.plan_lines q.index = place_is ∙ ap (λ (x : PlannedLine). slice_index d.plan_lines x.index) p_is in
-      ap₂ (λ (k : Class3) (a : Ticks). told_of k number a p.endpoint.id p first.symbol place field bytes) (class_is ∙ class_here) at_is
+      ap₂ (λ (k : TrafficClass) (a : Ticks). told_of k number a p.endpoint.id p first.symbol place field bytes) (class_is ∙ class_here) at_is
       ∙ ap (λ (x : PlannedLine). told_of (class_of f.stream) number (record { 0 = f.at }) x.endpoint.id x first.symbol place field bytes) p_is
       ∙ ap₂ (λ (i y : ℕ). told_of (class_of f.stream) number (record { 0 = f.at }) i q y place field bytes) id_is symbol_is
       ∙ ap (λ (n : ℕ). told_of (class_of f.stream) number (record { 0 = f.at }) f.endpoint.id q f.message.first.symbol n field bytes) line_of

@@ -9,8 +9,8 @@ use Rattle.unit_model.specs.Lists.{each_tick}
 use Rattle.unit_model.specs.Meetings.{Arrival}
 use Rattle.unit_model.specs.Radiated.{first_clock}
 use Rattle.unit_model.specs.Times.{tick_count}
-use Rattle.fh_document.specs.declared.delivered.Class3.{Class3}
-use Rattle.fh_document.specs.declared.delivered.Class3.TheVariants.{C, U, M}
+use Rattle.fh_document.specs.declared.delivered.TrafficClass.{TrafficClass}
+use Rattle.fh_document.specs.declared.delivered.TrafficClass.TheVariants.{C, U, M}
 use Rattle.fh_document.specs.declared.document.Document.{Document}
 use Rattle.fragment_laws.specs.Apart.{IsIn}
 use Rattle.plan_model.specs.Sent.{SentFrame}
@@ -65,12 +65,12 @@ rows_rising d n (f ∷ fs) h =
 abbrev one_if : Bool → ℕ
 one_if b = if b then 1 else 0
 
-own_class : (class : Class3) → same_class class class ≡ true
+own_class : (class : TrafficClass) → same_class class class ≡ true
 own_class C = refl
 own_class U = refl
 own_class M = refl
 
-count_more : (class kind : Class3) (n : SentCounts) → count_of class (counted kind n) ≡ one_if (same_class class kind) + count_of class n
+count_more : (class kind : TrafficClass) (n : SentCounts) → count_of class (counted kind n) ≡ one_if (same_class class kind) + count_of class n
 count_more C C n = omega arith
 count_more C U n = omega arith
 count_more C M n = omega arith
@@ -81,14 +81,14 @@ count_more M C n = omega arith
 count_more M U n = omega arith
 count_more M M n = omega arith
 
-first_more : (class : Class3) (r : SentRow) (rs : List SentRow) → length (of_class class (r ∷ rs)) ≡ one_if (same_class class r.line.class) + length (of_class class rs)
+first_more : (class : TrafficClass) (r : SentRow) (rs : List SentRow) → length (of_class class (r ∷ rs)) ≡ one_if (same_class class r.line.class) + length (of_class class rs)
 first_more class r rs = go (same_class class r.line.class)
   where
     go : (b : Bool) → length (let zs : List SentRow = if b then r ∷ of_class class rs else of_class class rs in zs) ≡ one_if b + length (of_class class rs)
     go true = omega arith
     go false = omega arith
 
-first_number : (class : Class3) (n : SentCounts) (number : ℕ) (r : SentRow) → number ≡ count_of class (counted class n) → r.line.class ≡ class
+first_number : (class : TrafficClass) (n : SentCounts) (number : ℕ) (r : SentRow) → number ≡ count_of class (counted class n) → r.line.class ≡ class
     → number ≡ count_of class n + length (of_class class (r ∷ []))
 first_number class n number r is same =
     let more = count_more class class n in
@@ -98,12 +98,12 @@ first_number class n number r is same =
     let b : one_if (same_class class r.line.class) ≡ 1 = ap one_if own in
     omega (arith, is, more, one, a, b)
 
-next_number : (class kind : Class3) (n : SentCounts) (number : ℕ) (r : SentRow) (rs : List SentRow) → r.line.class ≡ kind → number ≡ count_of class (counted kind n) + length (of_class class rs)
+next_number : (class kind : TrafficClass) (n : SentCounts) (number : ℕ) (r : SentRow) (rs : List SentRow) → r.line.class ≡ kind → number ≡ count_of class (counted kind n) + length (of_class class rs)
     → number ≡ count_of class n + length (of_class class (r ∷ rs))
 next_number class kind n number r rs same is =
     let more = count_more class kind n in
     let first = first_more class r rs in
-    let b : one_if (same_class class r.line.class) ≡ one_if (same_class class kind) = ap (λ (k : Class3). one_if (same_class class k)) same in
+    let b : one_if (same_class class r.line.class) ≡ one_if (same_class class kind) = ap (λ (k : TrafficClass). one_if (same_class class k)) same in
     omega (arith, is, more, first, b)
 
 same_got : (x y : SentRow) → Some x ≡ Some y → y ≡ x
@@ -121,7 +121,7 @@ numbers_are d n (f ∷ fs) (suc k) r got =
     next_number r.line.class (class_of f.stream) n r.line.number (row_of d (with_frame f n) f) (take (suc k) (rows_behind d (with_frame f n) fs)) refl
     (numbers_are d (with_frame f n) fs k r got)
 
-none_counted : (class : Class3) → count_of class none_sent ≡ 0
+none_counted : (class : TrafficClass) → count_of class none_sent ≡ 0
 none_counted C = refl
 none_counted U = refl
 none_counted M = refl

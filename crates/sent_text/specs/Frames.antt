@@ -5,8 +5,8 @@ use Rattle.ecpri_fragments.specs.declared.sequence.SeqField.{SeqField}
 use Rattle.window_config.specs.declared.endpoints.EndpointConfig.{EndpointConfig}
 use Rattle.window_config.specs.declared.plan.PlanLine.{PlanLine}
 use Rattle.fh_document.specs.Proper.{IsDocument}
-use Rattle.fh_document.specs.declared.delivered.Class3.{Class3}
-use Rattle.fh_document.specs.declared.delivered.Class3.TheVariants.{C, U}
+use Rattle.fh_document.specs.declared.delivered.TrafficClass.{TrafficClass}
+use Rattle.fh_document.specs.declared.delivered.TrafficClass.TheVariants.{C, U}
 use Rattle.fh_document.specs.declared.document.Document.{Document}
 use Rattle.fragment_laws.specs.Apart.{IsIn}
 use Rattle.frame_order.specs.declared.turns.Turn.{Turn}
@@ -22,7 +22,7 @@ use Rattle.sent_order.specs.Runs.{turn_of}
 use Rattle.document_traffic.specs.Sending.{lines_of, sent_for}
 
 -- the class of a turn's frame: the first two streams of an endpoint are commands
-abbrev pub turn_class : Turn → Class3
+abbrev pub turn_class : Turn → TrafficClass
 turn_class t = if nat_lt t.stream 2 then C else U
 
 -- the sequence field of a turn's frame, where so many carry its message

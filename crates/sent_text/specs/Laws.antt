@@ -8,8 +8,8 @@ use Rattle.unit_model.specs.Meetings.{Arrival}
 use Rattle.unit_model.specs.Radiated.{first_clock}
 use Rattle.unit_model.specs.Times.{tick_count}
 use Rattle.window_config.specs.Windows.{ticks_of_ns}
-use Rattle.fh_document.specs.declared.delivered.Class3.{Class3}
-use Rattle.fh_document.specs.declared.delivered.Class3.TheVariants.{C, U, M}
+use Rattle.fh_document.specs.declared.delivered.TrafficClass.{TrafficClass}
+use Rattle.fh_document.specs.declared.delivered.TrafficClass.TheVariants.{C, U, M}
 use Rattle.fh_document.specs.declared.document.Document.{Document}
 use Rattle.delay_laws.specs.Ticks.{Flight}
 use Rattle.document_traffic.specs.Landing.{all_delayed, injected_to, landings_of}
@@ -31,7 +31,7 @@ delayed_told r = record { frame = leaving_told r; delays = r.copies }
 abbrev pub IsUpTo : SentRow → SentRow → Type 0
 IsUpTo r s = r.line.at.0 ≤ℤ s.line.at.0
 
-abbrev pub same_class : Class3 → Class3 → Bool
+abbrev pub same_class : TrafficClass → TrafficClass → Bool
 same_class C C = true
 same_class U U = true
 same_class M M = true
@@ -43,7 +43,7 @@ same_class M C = false
 same_class M U = false
 
 -- those of one class among these lines
-abbrev pub of_class : Class3 → List SentRow → List SentRow
+abbrev pub of_class : TrafficClass → List SentRow → List SentRow
 of_class class rs = filter (λ r. same_class class r.line.class) rs
 
 -- ---- what lands

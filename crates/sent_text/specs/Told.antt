@@ -1,6 +1,6 @@
 -- How frames are counted (this project's profile).
 use Rattle.std.specs.Prelude.{◌≡◌, ℕ}
-use Rattle.fh_document.specs.declared.delivered.Class3.{Class3}
+use Rattle.fh_document.specs.declared.delivered.TrafficClass.{TrafficClass}
 use Rattle.document_traffic.specs.Sending.{SentCounts, count_of, counted}
 use Rattle.sent_text.specs.declared.tally.Tally.{Tally}
 
@@ -9,5 +9,5 @@ abbrev pub IsTally : SentCounts → Tally → Type 0
 IsTally n t = (t.commands ≡ n.c_plane) × (t.fragments ≡ n.u_plane)
 
 -- one frame of the class more, and its number in it
-abbrev pub HasCounted : Class3 → Tally → Tally → ℕ → Type 0
+abbrev pub HasCounted : TrafficClass → Tally → Tally → ℕ → Type 0
 HasCounted class old new k = (n : SentCounts) → IsTally n old → IsTally (counted class n) new × (k ≡ count_of class (counted class n))

@@ -2,7 +2,7 @@
 ghost use Rattle.std.specs.Prelude.{◌≡◌, ◌≢◌, ◌≤◌, min, length, slice_index};
 ghost use Rattle.air_source.specs.declared.events.Side.TheVariants.{Ru};
 ghost use Rattle.fh_document.specs.Proper.{IsDocument};
-ghost use Rattle.fh_document.specs.declared.delivered.Class3.TheVariants.{M};
+ghost use Rattle.fh_document.specs.declared.delivered.TrafficClass.TheVariants.{M};
 ghost use Rattle.frame_deliveries.specs.Copies.{copies_of as copies_in};
 ghost use Rattle.plan_model.specs.Sent.{SentFrame};
 ghost use Rattle.plan_table.specs.Kept.{placed_line};
@@ -12,7 +12,7 @@ ghost use Rattle.sent_text.specs.Rows.{line_for};
 use crate::sizes::{line_at, piece_of};
 use air_source::Side;
 use fh_base::List;
-use fh_document::{Class3, Document};
+use fh_document::{Document, TrafficClass};
 use frame_deliveries::FrameDeliveries;
 use frame_order::Turn;
 use plan_model::PlannedLine;
@@ -20,14 +20,14 @@ use plan_table::{PlacedLine, Table};
 use sent_lines::FrameLine;
 
 /// The class of a turn's frame: the first two streams of an endpoint are commands.
-pub(crate) fn class_of(turn: &Turn) -> Class3
+pub(crate) fn class_of(turn: &Turn) -> TrafficClass
     ensures value { result ≡ turn_class turn.now }
     ensures counted { result ≢ M }
 {
     if turn.stream < 2 {
-        Class3::C
+        TrafficClass::C
     } else {
-        Class3::U
+        TrafficClass::U
     }
 }
 
@@ -90,7 +90,7 @@ fn capped(number: u64) -> u32
 /// more than 32 bits.
 pub(crate) fn copies_of<'a>(
     deliveries: &FrameDeliveries<'a>,
-    class: Class3,
+    class: TrafficClass,
     number: u64,
 ) -> &'a [i64]
     requires { IsDocument deliveries.now }

@@ -1,9 +1,9 @@
 // How many frames were sent.
 ghost use Rattle.std.specs.Prelude.{◌≡◌, ◌≢◌, ◌+◌, ◌<◌, ◌^◌};
-ghost use Rattle.fh_document.specs.declared.delivered.Class3.TheVariants.{M};
+ghost use Rattle.fh_document.specs.declared.delivered.TrafficClass.TheVariants.{M};
 ghost use Rattle.sent_text.specs.Told.{HasCounted};
 
-use fh_document::Class3;
+use fh_document::TrafficClass;
 
 /// How many frames of the classes c and u were sent.
 #[derive(Clone, Copy)]
@@ -14,22 +14,22 @@ pub(crate) struct Tally {
 
 impl Tally {
     /// Counts a frame of the class c or u, and answers its number in the class, from 1.
-    pub(crate) fn count(&mut self, class: Class3) -> u64
+    pub(crate) fn count(&mut self, class: TrafficClass) -> u64
         requires class { class ≢ M }
         requires room { self.old.commands + self.old.fragments < 2 ^ 40 }
         ensures number { HasCounted class self.old self.new result }
         ensures more { self.new.commands + self.new.fragments ≡ self.old.commands + self.old.fragments + 1 }
     {
         match class {
-            Class3::C => {
+            TrafficClass::C => {
                 self.commands += 1;
                 self.commands
             }
-            Class3::U => {
+            TrafficClass::U => {
                 self.fragments += 1;
                 self.fragments
             }
-            Class3::M => unreachable!(),
+            TrafficClass::M => unreachable!(),
         }
     }
 }

@@ -4,7 +4,7 @@ ghost use Rattle.std.specs.Prelude.{◌≡◌};
 use crate::list_sent;
 use fh_base::PlainSink;
 use fh_document::read;
-use plan_tests::tested;
+use plan_check::tested;
 
 // One downlink line, whose message goes in two fragments, one uplink line and one idle line. All is lost but the second command.
 const DOCUMENT: &[u8] = b"fronthaul 3

@@ -3,8 +3,8 @@ use Rattle.std.proofs.Common.{◌≡◌, ℕ, List, Result, Ok, Err, IfOk, OnOk,
 use Rattle.explain_text.specs.Text.{HasFewFrames}
 use Rattle.fronthaul_replay.specs.declared.report.TextFault.{TextFault}
 use Rattle.fronthaul_replay.specs.declared.report.TextFault.TheVariants as text
-use Rattle.fronthaul_replay.specs.plan_tests.specs.declared.testing.PlanRefusal.{PlanRefusal}
-use Rattle.fronthaul_replay.specs.plan_tests.specs.declared.testing.PlanRefusal.TheVariants as refusal
+use Rattle.fronthaul_replay.specs.plan_check.specs.declared.testing.PlanRefusal.{PlanRefusal}
+use Rattle.fronthaul_replay.specs.plan_check.specs.declared.testing.PlanRefusal.TheVariants as refusal
 use Rattle.pcap_lines.specs.fh_document.specs.Answered.{Answers}
 use Rattle.pcap_lines.specs.fh_document.specs.Document.{document_of}
 use Rattle.pcap_lines.specs.fh_document.specs.declared.document.Document.{Document}

@@ -6,8 +6,8 @@ use Rattle.fronthaul_replay.specs.du_scheduler.specs.declared.plans.Plan.{Plan a
 use Rattle.pcap_lines.specs.fh_document.specs.declared.document.Document.{Document}
 use Rattle.fronthaul_replay.specs.plan_model.specs.Sent.{SentFrame}
 use Rattle.fronthaul_replay.specs.plan_model.specs.declared.refusals.PlanWhy.{PlanWhy}
-use Rattle.fronthaul_replay.specs.plan_tests.specs.declared.testing.PlanRefusal.{PlanRefusal}
-use Rattle.fronthaul_replay.specs.plan_tests.specs.declared.testing.PlanRefusal.TheVariants as refusal
+use Rattle.fronthaul_replay.specs.plan_check.specs.declared.testing.PlanRefusal.{PlanRefusal}
+use Rattle.fronthaul_replay.specs.plan_check.specs.declared.testing.PlanRefusal.TheVariants as refusal
 use Rattle.top_call.specs.declared.status.LineWhy.TheVariants.{Plan}
 use Rattle.top_call.specs.declared.status.Status.{Status}
 use Rattle.top_call.specs.declared.status.Status.TheVariants.{BadDocument}

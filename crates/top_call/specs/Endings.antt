@@ -11,8 +11,8 @@ use Rattle.pcap_lines.specs.fh_document.specs.declared.refusals.DocFault.{DocFau
 use Rattle.pcap_lines.specs.fh_document.specs.declared.refusals.DocFault.TheVariants as doc
 use Rattle.fronthaul_replay.specs.declared.report.TextFault.{TextFault}
 use Rattle.fronthaul_replay.specs.declared.report.TextFault.TheVariants as text
-use Rattle.fronthaul_replay.specs.plan_tests.specs.declared.testing.PlanRefusal.{PlanRefusal}
-use Rattle.fronthaul_replay.specs.plan_tests.specs.declared.testing.PlanRefusal.TheVariants as plan
+use Rattle.fronthaul_replay.specs.plan_check.specs.declared.testing.PlanRefusal.{PlanRefusal}
+use Rattle.fronthaul_replay.specs.plan_check.specs.declared.testing.PlanRefusal.TheVariants as plan
 use Rattle.pcap_frames.specs.declared.refusals.PcapFault.{PcapFault}
 use Rattle.pcap_frames.specs.declared.refusals.PcapFault.TheVariants as pcap
 use Rattle.picture_lines.specs.declared.faults.DrawFault.{DrawFault}

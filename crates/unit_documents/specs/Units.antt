@@ -6,8 +6,8 @@ use Rattle.air_source.specs.declared.events.Side.{Side}
 use Rattle.air_source.specs.declared.events.Side.TheVariants.{Ru, Du}
 use Rattle.fh_document.specs.Proper.{IsDocument}
 use Rattle.fh_document.specs.declared.config_lines.TheConstants.{MOST_TRANSIT}
-use Rattle.fh_document.specs.declared.delivered.Class3.{Class3}
-use Rattle.fh_document.specs.declared.delivered.Class3.TheVariants.{C, U, M}
+use Rattle.fh_document.specs.declared.delivered.TrafficClass.{TrafficClass}
+use Rattle.fh_document.specs.declared.delivered.TrafficClass.TheVariants.{C, U, M}
 use Rattle.fh_document.specs.declared.delivered.Delivery.{Delivery}
 use Rattle.fh_document.specs.declared.document.Document.{Document}
 use Rattle.fh_document.specs.declared.document.Transits.{Transits}
@@ -18,7 +18,7 @@ abbrev pub moved : ℕ → ℤ → ℤ
 moved more ns = int_min (ns +ℤ pos more) (pos MOST_TRANSIT)
 
 -- the frames that are longer on their way: those of the C-plane and the U-plane to the radio unit
-abbrev pub moves : Side → Class3 → Bool
+abbrev pub moves : Side → TrafficClass → Bool
 moves Ru C = true
 moves Ru U = true
 moves Ru M = false

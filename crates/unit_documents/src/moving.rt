@@ -6,7 +6,7 @@ ghost use Rattle.unit_documents.specs.Units.{moved, moves, moved_delivery};
 
 use air_source::Side;
 use fh_base::{List, NoMemory};
-use fh_document::{Class3, Copies, Delivery, MOST_TRANSIT};
+use fh_document::{Copies, Delivery, MOST_TRANSIT, TrafficClass};
 use std::alloc::Global;
 
 /// A time on the way that is longer by `more` nanoseconds, three seconds at most.
@@ -19,10 +19,10 @@ pub(crate) fn moved(ns: i64, more: u64) -> i64
 }
 
 /// Whether the frames of a class on a way are longer on their way: those of the C-plane and the U-plane to the radio unit.
-fn moves(side: Side, class: Class3) -> bool
+fn moves(side: Side, class: TrafficClass) -> bool
     ensures { result ≡ moves side class }
 {
-    side == Side::Ru && class != Class3::M
+    side == Side::Ru && class != TrafficClass::M
 }
 
 /// The same copies, each longer on its way.

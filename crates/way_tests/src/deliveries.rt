@@ -1,6 +1,6 @@
 // The copies of frames of documents, worked out by hand.
 use air_source::Side;
-use fh_document::{Class3, read};
+use fh_document::{TrafficClass, read};
 use frame_deliveries::FrameDeliveries;
 use std::test::Fail;
 
@@ -11,23 +11,28 @@ fn copies_are_those_of_the_line(rt: HostRuntime) -> Result<(), Fail> {
         deliver dl m 7 1 3000000000\ndeliver dl u 9999999 1 2 3 4 5 6 7 8\ndeliver dl u 2 20\n";
     let document = read(rt.alloc(), text.as_slice()).expect(&rt, "read");
     let deliveries = FrameDeliveries::make(rt.alloc(), &document)?;
-    let cases: [(Side, Class3, u32, &[i64]); 16] = [
-        (Side::Ru, Class3::U, 7, &[9, 4, 4]),
-        (Side::Ru, Class3::U, 6, &[0]),
-        (Side::Ru, Class3::U, 2, &[20]),
-        (Side::Ru, Class3::U, 9_999_999, &[1, 2, 3, 4, 5, 6, 7, 8]),
-        (Side::Ru, Class3::U, 8, &[51]),
-        (Side::Ru, Class3::U, 1, &[51]),
-        (Side::Ru, Class3::C, 7, &[]),
-        (Side::Ru, Class3::C, 6, &[51]),
-        (Side::Ru, Class3::M, 7, &[1, 3_000_000_000]),
-        (Side::Ru, Class3::M, 1, &[73]),
-        (Side::Du, Class3::U, 7, &[1]),
-        (Side::Du, Class3::U, 6, &[62]),
-        (Side::Du, Class3::C, 7, &[2, 3]),
-        (Side::Du, Class3::C, 1, &[62]),
-        (Side::Du, Class3::M, 7, &[73]),
-        (Side::Ru, Class3::U, 4_294_967_295, &[51]),
+    let cases: [(Side, TrafficClass, u32, &[i64]); 16] = [
+        (Side::Ru, TrafficClass::U, 7, &[9, 4, 4]),
+        (Side::Ru, TrafficClass::U, 6, &[0]),
+        (Side::Ru, TrafficClass::U, 2, &[20]),
+        (
+            Side::Ru,
+            TrafficClass::U,
+            9_999_999,
+            &[1, 2, 3, 4, 5, 6, 7, 8],
+        ),
+        (Side::Ru, TrafficClass::U, 8, &[51]),
+        (Side::Ru, TrafficClass::U, 1, &[51]),
+        (Side::Ru, TrafficClass::C, 7, &[]),
+        (Side::Ru, TrafficClass::C, 6, &[51]),
+        (Side::Ru, TrafficClass::M, 7, &[1, 3_000_000_000]),
+        (Side::Ru, TrafficClass::M, 1, &[73]),
+        (Side::Du, TrafficClass::U, 7, &[1]),
+        (Side::Du, TrafficClass::U, 6, &[62]),
+        (Side::Du, TrafficClass::C, 7, &[2, 3]),
+        (Side::Du, TrafficClass::C, 1, &[62]),
+        (Side::Du, TrafficClass::M, 7, &[73]),
+        (Side::Ru, TrafficClass::U, 4_294_967_295, &[51]),
     ];
     for (side, class, k, times) in cases {
         assert_eq!(rt; deliveries.copies(side, class, k), times);
@@ -40,7 +45,7 @@ fn a_frame_comes_once_where_no_line_stands(rt: HostRuntime) -> Result<(), Fail> 
     let document = read(rt.alloc(), b"fronthaul 1\n".as_slice()).expect(&rt, "read");
     let deliveries = FrameDeliveries::make(rt.alloc(), &document)?;
     for side in [Side::Ru, Side::Du] {
-        for class in [Class3::C, Class3::U, Class3::M] {
+        for class in [TrafficClass::C, TrafficClass::U, TrafficClass::M] {
             assert_eq!(rt; deliveries.copies(side, class, 1), [50_000].as_slice());
         }
     }

@@ -6,7 +6,7 @@ ghost use Rattle.frame_ways.specs.Ways.{document_of};
 use crate::built::{mark_of, marked};
 use air_source::Side;
 use fh_base::NoMemory;
-use fh_document::{Class3, Document, read};
+use fh_document::{Document, TrafficClass, read};
 use fh_time::{Ticks, of_ns};
 use frame_network::FramePool;
 use frame_ways::{Way, earlier_of};
@@ -29,7 +29,12 @@ pub(crate) fn way_to<'a>(alloc: Global, doc: &'a Document, side: Side) -> Result
 }
 
 /// Sends a frame of one byte at time 0.
-fn send(pool: &mut FramePool, way: &mut Way<'_>, class: Class3, mark: u8) -> Result<(), NoMemory>
+fn send(
+    pool: &mut FramePool,
+    way: &mut Way<'_>,
+    class: TrafficClass,
+    mark: u8,
+) -> Result<(), NoMemory>
     requires { IsDocument (document_of way.old) }
     ensures { document_of way.new ≡ document_of way.old }
 {
@@ -54,12 +59,12 @@ fn frames_land_in_order(rt: HostRuntime) -> Result<(), Fail> {
     let doc = read(alloc, TEXT).expect(&rt, "read");
     let mut pool = FramePool::new(alloc);
     let mut down = way_to(alloc, &doc, Side::Ru)?;
-    send(&mut pool, &mut down, Class3::U, 1)?;
-    send(&mut pool, &mut down, Class3::M, 8)?;
-    send(&mut pool, &mut down, Class3::C, 2)?;
-    send(&mut pool, &mut down, Class3::U, 3)?;
-    send(&mut pool, &mut down, Class3::M, 9)?;
-    send(&mut pool, &mut down, Class3::C, 4)?;
+    send(&mut pool, &mut down, TrafficClass::U, 1)?;
+    send(&mut pool, &mut down, TrafficClass::M, 8)?;
+    send(&mut pool, &mut down, TrafficClass::C, 2)?;
+    send(&mut pool, &mut down, TrafficClass::U, 3)?;
+    send(&mut pool, &mut down, TrafficClass::M, 9)?;
+    send(&mut pool, &mut down, TrafficClass::C, 4)?;
     for (ns, marks) in [
         (5, [8, 3, 0, 0, 0]),
         (7, [3, 3, 0, 0, 0]),
@@ -84,9 +89,9 @@ fn each_unit_has_its_own(rt: HostRuntime) -> Result<(), Fail> {
     let doc = read(alloc, TEXT).expect(&rt, "read");
     let mut pool = FramePool::new(alloc);
     let mut up = way_to(alloc, &doc, Side::Du)?;
-    send(&mut pool, &mut up, Class3::U, 5)?;
-    send(&mut pool, &mut up, Class3::M, 7)?;
-    up.send_owned(&mut pool, Ticks(0), Class3::U, marked(alloc, 6)?)?;
+    send(&mut pool, &mut up, TrafficClass::U, 5)?;
+    send(&mut pool, &mut up, TrafficClass::M, 7)?;
+    up.send_owned(&mut pool, Ticks(0), TrafficClass::U, marked(alloc, 6)?)?;
     for (ns, marks) in [(9, [6, 0, 0]), (30, [7, 0, 0]), (60, [5, 0xb1, 0])] {
         let tick = of_ns(ns);
         assert_eq!(rt; up.next_time(), Some(tick));
@@ -104,11 +109,11 @@ fn frames_go_out_in_memory_that_came_back(rt: HostRuntime) -> Result<(), Fail> {
     let doc = read(alloc, TEXT).expect(&rt, "read");
     let mut pool = FramePool::new(alloc);
     let mut down = way_to(alloc, &doc, Side::Ru)?;
-    send(&mut pool, &mut down, Class3::M, 1)?;
+    send(&mut pool, &mut down, TrafficClass::M, 1)?;
     assert_eq!(rt; mark_at(&mut pool, &mut down, of_ns(5)), 1);
-    send(&mut pool, &mut down, Class3::M, 2)?;
+    send(&mut pool, &mut down, TrafficClass::M, 2)?;
     assert_eq!(rt; mark_at(&mut pool, &mut down, of_ns(8)), 1);
-    send(&mut pool, &mut down, Class3::M, 3)?;
+    send(&mut pool, &mut down, TrafficClass::M, 3)?;
     for mark in [2, 3, 0] {
         assert_eq!(rt; mark_at(&mut pool, &mut down, of_ns(30)), mark);
     }

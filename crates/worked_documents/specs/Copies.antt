@@ -9,8 +9,8 @@ use Rattle.air_source.specs.declared.events.Side.TheVariants.{Ru, Du}
 use Rattle.delay_laws.specs.Examples.{ns}
 use Rattle.document_traffic.specs.Landing.{landing_with}
 use Rattle.document_traffic.specs.Sending.{Leaving}
-use Rattle.fh_document.specs.declared.delivered.Class3.{Class3}
-use Rattle.fh_document.specs.declared.delivered.Class3.TheVariants.{C, U}
+use Rattle.fh_document.specs.declared.delivered.TrafficClass.{TrafficClass}
+use Rattle.fh_document.specs.declared.delivered.TrafficClass.TheVariants.{C, U}
 use Rattle.fh_document.specs.declared.document.Document.{Document}
 use Rattle.worked_documents.specs.Common.{received, usual_document}
 
@@ -30,7 +30,7 @@ first_data = 16 ∷ 0 ∷ 0 ∷ 1 ∷ 7 ∷ []
 abbrev pub second_data : List ℕ
 second_data = 16 ∷ 0 ∷ 0 ∷ 1 ∷ 8 ∷ []
 
-abbrev pub leaving : Class3 → ℕ → List ℕ → Leaving
+abbrev pub leaving : TrafficClass → ℕ → List ℕ → Leaving
 leaving class at frame = record { at = ns at; class = class; frame = frame }
 
 -- Two commands and two frames of data: of its class and way each is number 1 or 2. The second command is lost. The first data is

@@ -9,7 +9,7 @@ use air_source::Side;
 use du_intake::Intake;
 use fh_document::Document;
 use intake_samples::{close_before, made, step};
-use plan_tests::tested;
+use plan_check::tested;
 use std::alloc::Global;
 
 /// How many slots are delivered, how many are planned, and how far these lie apart.

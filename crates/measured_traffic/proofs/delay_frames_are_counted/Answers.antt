@@ -1,4 +1,5 @@
-use Rattle.measured_traffic.proofs.FrameLemmas.{frames_are_counted, frames_are_read, frames_are_written}
+use Rattle.delay_model.proofs.FrameLemmas.{frames_are_written}
+use Rattle.measured_traffic.proofs.FrameLemmas.{frames_are_counted, frames_are_read}
 use Rattle.measured_traffic.proofs.delay_frames_are_counted.Goals as goal
 
 pub returns-clause-read : goal.returns-clause-read

@@ -1,0 +1,5 @@
+use Rattle.plan_check.proofs.WalkLemmas.{SameTo}
+use Rattle.plan_check.proofs.judging.slot_len.Given as goal
+
+abbrev pub invariant-loop-k : goal.invariant-loop-k
+invariant-loop-k l = SameTo l.lines l.k

@@ -1,0 +1,5 @@
+use Rattle.plan_check.proofs.PlacedLemmas.{Follows}
+use Rattle.plan_check.proofs.placing.place_lines.Given as goal
+
+abbrev pub invariant-loop-index : goal.invariant-loop-index
+invariant-loop-index l = Follows l.endpoints l.index l.lines l.placed.items
