@@ -1,8 +1,8 @@
 -- Groups of eight numbers of w bits: w bytes.
-use Rattle.std.proofs.Common.{◌≡◌, ℕ, ℤ, pos, ◌+◌, ◌-◌, ◌*◌, ◌/◌, ◌%◌, ◌^◌, ◌<◌, ◌≤◌, ◌*ℤ◌, List, length, get_or, bit_and, bit_or, inl, inr, refl, sym, ap, ◌∙◌, arith}
+use Rattle.std.proofs.Common.{◌≡◌, ℕ, ℤ, pos, ◌+◌, ◌-◌, ◌*◌, ◌/◌, ◌%◌, ◌^◌, ◌<◌, ◌≤◌, ◌*ℤ◌, List, length, get_or, bit_and, bit_or, inl, inr, refl, sym, ap, subst, ◌∙◌, arith}
 use Rattle.std.proofs.lemmas.Bool.{cases_lt}
 use Rattle.std.proofs.lemmas.List.{ext_get_or}
-use Rattle.std.proofs.lemmas.Nat.{mul-le, pow-add, shl_whole, shl-shr, shr-shr, and_mask, shr_split, or_shifted}
+use Rattle.std.proofs.lemmas.Nat.{mul-le, pow-add, shl_whole, shr-shr, shr_below, and_mask, shr_split, or_shifted}
 use Rattle.std.proofs.Math.Nat.{mod-eq_of_lt}
 use Rattle.bit_fields.specs.Field.{field, signed, digits}
 use Rattle.bit_fields.proofs.Same.{digits_same}
@@ -13,16 +13,29 @@ use Rattle.bfp_codec.specs.Samples.{no_wide, pair_of, wide_block}
 use Rattle.bfp_codec.specs.Eight.{value_in, four_in, number_in}
 use Rattle.bfp_codec.proofs.Blocks.{length-wide_block, get_or-wide_block, pair_same}
 
--- a number that 16 bytes begin with
-pub group_written : (bytes : List ℕ) (at w n : ℕ) → w ≤ 16 → n < 2 ^ (8 * w) → field bytes (8 * at) (8 * 16) ≡ n * 2 ^ (8 * (16 - w)) % 2 ^ 128 → field bytes (8 * at) (8 * w) ≡ n
-group_written bytes at w n high fits e =
-    let s = 8 * (16 - w) in
-    let whole : field bytes (8 * at) 128 ≡ n * 2 ^ s = e ∙ shl_whole n (8 * w) s 128 fits (omega arith) in
-    let cut : field bytes (8 * at + 0) (8 * w) ≡ field bytes (8 * at) 128 / 2 ^ (128 - (0 + 8 * w)) % 2 ^ (8 * w) = field_of_field bytes (8 * at) 128 0 (8 * w) (omega arith) in
+-- the first eight bytes of a number
+pub front_fits : (w n : ℕ) → 8 ≤ w → n < 2 ^ (8 * w) → n / 2 ^ (8 * (w - 8)) < 2 ^ 64
+front_fits w n low fits =
+    let sum : 8 * w ≡ 64 + 8 * (w - 8) = omega arith in
+    shr_below n 64 (8 * (w - 8)) (subst (λ k. n < 2 ^ k) sum fits)
+
+-- a number from its first eight bytes and its last eight
+pub words_written : (first all : List ℕ) (at w n : ℕ) → 8 ≤ w → w ≤ 16 → n < 2 ^ (8 * w) → field first (8 * at) 64 ≡ n / 2 ^ (8 * (w - 8))
+    → field all (8 * at) (8 * (w - 8)) ≡ field first (8 * at) (8 * (w - 8)) → field all (8 * (at + w - 8)) 64 ≡ bit_and n 18446744073709551615 → field all (8 * at) (8 * w) ≡ n
+words_written first all at w n low high fits front kept back =
+    let m = 8 * (w - 8) in
+    let sum : 8 * w ≡ m + 64 = omega arith in
+    let place : 8 * at + m ≡ 8 * (at + w - 8) = omega arith in
     let start : 8 * at ≡ 8 * at + 0 = omega arith in
-    let rest : 128 - (0 + 8 * w) ≡ s = omega arith in
-    ap (λ i. field bytes i (8 * w)) start ∙ cut ∙ ap (λ k. field bytes (8 * at) 128 / 2 ^ k % 2 ^ (8 * w)) rest
-    ∙ ap (λ x. x / 2 ^ s % 2 ^ (8 * w)) whole ∙ ap (λ x. x % 2 ^ (8 * w)) (shl-shr n s) ∙ mod-eq_of_lt fits
+    let rest = 64 - (0 + m) in
+    let both : m + rest ≡ 64 = omega arith in
+    let cut : field first (8 * at + 0) m ≡ field first (8 * at) 64 / 2 ^ rest % 2 ^ m = field_of_field first (8 * at) 64 0 m (omega arith) in
+    let small : n / 2 ^ 64 < 2 ^ m = shr_below n m 64 (subst (λ k. n < 2 ^ k) sum fits) in
+    let head : field all (8 * at) m ≡ n / 2 ^ 64 =
+    kept ∙ ap (λ i. field first i m) start ∙ cut ∙ ap (λ x. x / 2 ^ rest % 2 ^ m) front ∙ ap (λ x. x % 2 ^ m) (shr-shr n m rest ∙ ap (λ k. n / 2 ^ k) both) ∙ mod-eq_of_lt small in
+    let last : field all (8 * at + m) 64 ≡ n % 2 ^ 64 = ap (λ i. field all i 64) place ∙ back ∙ and_mask n 64 in
+    let split = shr_split n 64 in
+    ap (field all (8 * at)) sum ∙ field_split all (8 * at) m 64 ∙ omega (arith, head, last, split)
 
 -- two digits, by a shift and an `|` at 32 bits
 pub two_ones : (w : ℕ) (f : ℕ → ℕ) (n m : ℕ) → w ≤ 16 → n ≡ f 0 → m ≡ f 1 → n < 2 ^ w → m < 2 ^ w → bit_or (n * 2 ^ w % 2 ^ 32) m ≡ digits w f 2
@@ -70,14 +83,6 @@ two_fours w first n m f high n_small m_small a b a_is b_is n_is m_is =
     let back : m ≡ digits w (λ k. g (4 + k)) 4 = m_is ∙ digits_same w (λ k. f (b + k)) (λ k. g (4 + k)) 4 (λ k h. let at : b + k ≡ first + (4 + k) = omega arith in ap f at) in
     ap (λ x. bit_or x m) whole ∙ or_shifted n (4 * w) m m_small ∙ ap (λ x. x * 2 ^ (4 * w) + m) front ∙ ap (λ x. digits w g 4 * 2 ^ (4 * w) + x) back
     ∙ sym (digits_split w g 4 4 ∙ ap (λ j. digits w g 4 * 2 ^ j + digits w (λ k. g (4 + k)) 4) turned)
-
--- sixteen bytes from two words
-pub two_words : (bytes : List ℕ) (at top : ℕ) → field bytes (8 * at) 64 ≡ top / 2 ^ 64 → field bytes (8 * (at + 8)) 64 ≡ bit_and top 18446744073709551615 → field bytes (8 * at) (8 * 16) ≡ top
-two_words bytes at top high low =
-    let place : 8 * at + 64 ≡ 8 * (at + 8) = omega arith in
-    let last : field bytes (8 * at + 64) 64 ≡ top % 2 ^ 64 = ap (λ i. field bytes i 64) place ∙ low ∙ and_mask top 64 in
-    let split = shr_split top 64 in
-    field_split bytes (8 * at) 64 64 ∙ omega (arith, high, last, split)
 
 -- number k of a group
 pub group_read : (bytes : List ℕ) (at i w n e k : ℕ) → n ≡ field bytes (8 * at) (8 * w) → k < 8 → i ≡ 8 * at + w * k → value_in n w e k ≡ signed w (field bytes i w) *ℤ pos (2 ^ e)

@@ -1,10 +1,7 @@
 -- The bytes of a whole block from its three groups, and its samples from them.
-use Rattle.std.proofs.Common.{◌≡◌, ℕ, ℤ, pos, ◌+◌, ◌*◌, ◌^◌, ◌<◌, ◌≤◌, ◌*ℤ◌, List, ◌∷◌, take, length, get_or, inl, inr, sym, ap, ◌∙◌, arith, length-take}
-use Rattle.std.proofs.lemmas.Bool.{cases_lt}
-use Rattle.std.proofs.lemmas.List.{get_or-take}
-use Rattle.std.proofs.lemmas.Grind.{common_steps}
+use Rattle.std.proofs.Common.{◌≡◌, ℕ, ℤ, pos, ◌+◌, ◌*◌, ◌^◌, ◌<◌, ◌≤◌, ◌*ℤ◌, List, ◌∷◌, length, get_or, sym, ap, ◌∙◌, arith}
 use Rattle.bit_fields.specs.Field.{field, signed, digits}
-use Rattle.bit_fields.proofs.Field.{field_take, field_byte}
+use Rattle.bit_fields.proofs.Field.{field_byte}
 use Rattle.bit_fields.proofs.Same.{digits_same}
 use Rattle.bfp_codec.specs.declared.samples.Iq.{Iq}
 use Rattle.bfp_codec.specs.declared.samples.Wide.{Wide}
@@ -16,43 +13,32 @@ use Rattle.bfp_codec.specs.Eight.{value_in, number_in}
 use Rattle.bfp_codec.proofs.Spelled.{three_groups, packed_bytes, plain_bytes}
 use Rattle.bfp_codec.proofs.Groups.{group_read, three_fours, by_samples}
 
-take_small : (n : ℕ) (xs : List ℕ) → ((i : ℕ) → get_or xs i 0 < 256) → (i : ℕ) → get_or (take n xs) i 0 < 256
-take_small n xs small i = elim (cases_lt i n) [
-  | inl lt ↦ omega (arith, get_or-take n xs i 0 lt, small i)
-  | inr ge ↦ omega (arith, past (take n xs) i (omega (arith, length-take n xs)))
-]
-  where
-    past : (ys : List ℕ) (j : ℕ) → length ys ≤ j → get_or ys j 0 ≡ 0
-    past ys j h = grind (arith, common_steps)
-
 -- the first group's numbers, counted from 0
 from_zero : (w n : ℕ) (f : ℕ → ℕ) → n ≡ digits w (λ k. f (0 + k)) 8 → n ≡ digits w f 8
 from_zero w n f e = e ∙ digits_same w (λ k. f (0 + k)) f 8 (λ k h. let same : 0 + k ≡ k = omega arith in ap f same)
 
-pub packed_whole : (w e : ℕ) (block : List Iq) (all : List ℕ) → w ≤ 16 → length all ≡ 49 → ((i : ℕ) → get_or all i 0 < 256) → e ≤ 15 → get_or all 0 0 ≡ e
+pub packed_whole : (w e : ℕ) (block : List Iq) (all : List ℕ) → length all ≡ 1 + 3 * w → ((i : ℕ) → get_or all i 0 < 256) → e ≤ 15 → get_or all 0 0 ≡ e
     → field all (8 * 1) (8 * w) ≡ digits w (λ k. twos w (floor_of (component block (0 + k)) e)) 8
     → field all (8 * (1 + w)) (8 * w) ≡ digits w (λ k. twos w (floor_of (component block (8 + k)) e)) 8
     → field all (8 * (1 + 2 * w)) (8 * w) ≡ digits w (λ k. twos w (floor_of (component block (16 + k)) e)) 8
-    → e ≡ exponent_of w block → take (1 + 3 * w) all ≡ packed_of (Bfp w) block
+    → e ≡ exponent_of w block → all ≡ packed_of (Bfp w) block
 unfolding packed_of
-packed_whole w e block all high len small e_small first a b d is =
+packed_whole w e block all len small e_small first a b d is =
     let f : ℕ → ℕ = λ k. twos w (floor_of (component block k) e) in
     let second : 8 + 8 * w ≡ 8 * (1 + w) = omega arith in
     let third : 8 + 16 * w ≡ 8 * (1 + 2 * w) = omega arith in
     let numbers = three_groups all 8 w f (from_zero w (field all 8 (8 * w)) f a) (ap (λ i. field all i (8 * w)) second ∙ b) (ap (λ i. field all i (8 * w)) third ∙ d) in
-    packed_bytes w e (λ k. floor_of (component block k) e) (take (1 + 3 * w) all) (omega (arith, length-take (1 + 3 * w) all, len)) (take_small (1 + 3 * w) all small) (omega arith)
-    (field_take all (1 + 3 * w) 0 8 (omega arith) ∙ field_byte all 0 (small 0) ∙ first)
-    (field_take all (1 + 3 * w) 8 (w * 24) (omega arith) ∙ numbers)
+    packed_bytes w e (λ k. floor_of (component block k) e) all len small (omega arith) (field_byte all 0 (small 0) ∙ first) numbers
     ∙ ap (λ n. n ∷ number_bytes w (λ k. floor_of (component block k) n)) is
 
-pub plain_whole : (block : List Iq) (all : List ℕ) → length all ≡ 49 → ((i : ℕ) → get_or all i 0 < 256)
+pub plain_whole : (block : List Iq) (all : List ℕ) → length all ≡ 48 → ((i : ℕ) → get_or all i 0 < 256)
     → field all 0 128 ≡ digits 16 (λ k. twos 16 (component block (0 + k))) 8 → field all 128 128 ≡ digits 16 (λ k. twos 16 (component block (8 + k))) 8
-    → field all 256 128 ≡ digits 16 (λ k. twos 16 (component block (16 + k))) 8 → take 48 all ≡ packed_of Plain block
+    → field all 256 128 ≡ digits 16 (λ k. twos 16 (component block (16 + k))) 8 → all ≡ packed_of Plain block
 unfolding packed_of
 plain_whole block all len small a b d =
     let f : ℕ → ℕ = λ k. twos 16 (component block k) in
     let numbers = three_groups all 0 16 f (from_zero 16 (field all 0 128) f a) b d in
-    plain_bytes (component block) (take 48 all) (omega (arith, length-take 48 all, len)) (take_small 48 all small) (field_take all 48 0 384 (omega arith) ∙ numbers)
+    plain_bytes (component block) all len small numbers
 
 pub unpacked_whole : (w e n0 n1 n2 : ℕ) (bytes : List ℕ) (values : List Wide) → length values ≡ 12 → e ≡ field bytes 4 4
     → n0 ≡ field bytes (8 * 1) (8 * w) → n1 ≡ field bytes (8 * (1 + w)) (8 * w) → n2 ≡ field bytes (8 * (1 + 2 * w)) (8 * w)

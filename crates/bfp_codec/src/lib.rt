@@ -12,6 +12,6 @@ mod unpacking;
 pub use exponents::exponent;
 pub use methods::{Format, Method, block_len};
 pub use packed_bytes::Packed;
-pub use packing::pack;
+pub use packing::{pack, pack_into};
 pub use samples::{Iq, Wide};
 pub use unpacking::{unpack, unpack_into};

@@ -1,4 +1,4 @@
-ghost use Rattle.std.specs.Prelude.{◌≡◌, ◌≤◌, take};
+ghost use Rattle.std.specs.Prelude.{◌≡◌, ◌≤◌};
 
 /// The bytes of a packed block, at most 49.
 #[derive(Clone, Copy, Debug)]
@@ -10,7 +10,6 @@ pub struct Packed {
 
 impl Packed {
     ghost use Rattle.bfp_codec.specs.Bytes.{bytes_of};
-    ghost use Rattle.bfp_codec.specs.Layout.{AreBytes};
 
     /// So many zeros, over which a block is packed.
     #[inline(always)]
@@ -22,15 +21,6 @@ impl Packed {
             bytes: [0; 49],
             len,
         }
-    }
-
-    /// The bytes that were packed.
-    #[inline(always)]
-    pub(crate) fn packed(self) -> Packed
-        ensures held { bytes_of result ≡ take self.len self.bytes }
-        ensures are_bytes { AreBytes self.bytes }
-    {
-        self
     }
 
     /// The bytes, as many as `block_len` says for the method.

@@ -2,7 +2,7 @@ ghost use Rattle.std.specs.Prelude.{◌≡◌, ℕ, ◌+◌, ◌*◌, ◌-◌, �
 ghost use Rattle.bit_fields.specs.Field.{field, digits};
 ghost use Rattle.bfp_codec.specs.Samples.{component, samples_of};
 ghost use Rattle.bfp_codec.specs.Exponent.{floor_of, Within, BlockFits};
-ghost use Rattle.bfp_codec.specs.Layout.{AreBytes, HasWidth, IsLaidOut, length_of, twos, packed_of, unpacked_of};
+ghost use Rattle.bfp_codec.specs.Layout.{HasWidth, IsLaidOut, length_of, twos, packed_of, unpacked_of};
 ghost use Rattle.bfp_codec.specs.Shrunk.{IsNear, KeepsBytes, shrunk, shrunk_number, step_of};
 ghost use Rattle.bfp_codec.specs.Bytes.{bytes_of};
 ghost use Rattle.bfp_codec.specs.Shrunk.{CanPack};
@@ -95,8 +95,8 @@ fn four_samples(pairs: &[u32; 12], width: u8, part: usize) -> u128
 
 /// Writes 8 bytes from a place on. A call of its own, so that the bytes of a word are stored at once.
 #[inline(never)]
-fn put_word(into: &mut [u8; 49], at: usize, word: u64)
-    requires { at ≤ 41 }
+fn put_word(into: &mut [u8], at: usize, word: u64)
+    requires { at + 8 ≤ length into.old }
     ensures number { field into.new (8 * at) 64 ≡ word }
     ensures others { (k : ℕ) → (k < at) ⊎ (at + 8 ≤ k) → slice_index into.new k ≡ slice_index into.old k }
 {
@@ -105,27 +105,47 @@ fn put_word(into: &mut [u8; 49], at: usize, word: u64)
     }
 }
 
-/// Writes the `width` bytes of a number from a place on, and zeros after them, 16 bytes in all.
+/// Writes the `width` bytes of a number from a place on, the first eight of them and then the last eight.
 #[inline(always)]
-fn put_samples(into: &mut [u8; 49], at: usize, width: u8, number: u128)
-    requires low { 1 ≤ width }
+fn put_words(into: &mut [u8], at: usize, width: u8, number: u128)
+    requires low { 8 ≤ width }
     requires high { width ≤ 16 }
-    requires room { at ≤ 33 }
+    requires room { at + width ≤ length into.old }
     requires fits { number < 2 ^ (8 * width) }
     ensures number { field into.new (8 * at) (8 * width) ≡ number }
     ensures before { (k : ℕ) → k < at → slice_index into.new k ≡ slice_index into.old k }
 {
-    let top = number << (8 * (16 - width));
-    put_word(into, at, (top >> 64) as u64);
-    put_word(into, at + 8, (top & 0xffff_ffff_ffff_ffff) as u64);
+    put_word(into, at, (number >> (8 * (width - 8))) as u64);
+    put_word(
+        into,
+        at + width as usize - 8,
+        (number & 0xffff_ffff_ffff_ffff) as u64,
+    );
+}
+
+/// Writes the `width` bytes of a number from a place on.
+#[inline(always)]
+fn put_samples(into: &mut [u8], at: usize, width: u8, number: u128)
+    requires high { width ≤ 16 }
+    requires room { at + width ≤ length into.old }
+    requires fits { number < 2 ^ (8 * width) }
+    ensures number { field into.new (8 * at) (8 * width) ≡ number }
+    ensures before { (k : ℕ) → k < at → slice_index into.new k ≡ slice_index into.old k }
+{
+    if width < 8 {
+        put_number(into, at, width as usize, number);
+    } else {
+        put_words(into, at, width, number);
+    }
 }
 
 /// Writes the bytes of a block at a width: best where the compiler knows the width.
 #[inline(always)]
-fn pack_at(width: u8, block: &[Iq; 12], into: &mut [u8; 49])
+fn pack_at(width: u8, block: &[Iq; 12], into: &mut [u8])
     requires low { 1 ≤ width }
     requires high { width ≤ 16 }
-    ensures bytes { AreBytes into.new → take (1 + 3 * width) into.new ≡ packed_of (Bfp width) block.now }
+    requires len { length into.old ≡ 1 + 3 * width }
+    ensures bytes { into.new ≡ packed_of (Bfp width) block.now }
     ensures can { CanPack (Bfp width) block.now }
 {
     let e = exponent(block, width);
@@ -137,25 +157,25 @@ fn pack_at(width: u8, block: &[Iq; 12], into: &mut [u8; 49])
     put_samples(into, 1 + 2 * w, width, four_samples(&pairs, width, 2));
 }
 
-/// Writes the bytes of a block at a width, with a kernel of its own for each of the usual ones.
-fn pack_bfp(width: u8, block: &[Iq; 12], into: &mut [u8; 49])
+/// Writes the bytes of a block at a width, with a kernel of its own for each from 8 on.
+fn pack_bfp(width: u8, block: &[Iq; 12], into: &mut [u8])
     requires low { 1 ≤ width }
     requires high { width ≤ 16 }
-    ensures bytes { AreBytes into.new → take (1 + 3 * width) into.new ≡ packed_of (Bfp width) block.now }
+    requires len { length into.old ≡ 1 + 3 * width }
+    ensures bytes { into.new ≡ packed_of (Bfp width) block.now }
     ensures can { CanPack (Bfp width) block.now }
 {
-    if width == 9 {
-        pack_at(9, block, into);
-    } else if width == 14 {
-        pack_at(14, block, into);
-    } else if width == 8 {
-        pack_at(8, block, into);
-    } else if width == 12 {
-        pack_at(12, block, into);
-    } else if width == 16 {
-        pack_at(16, block, into);
-    } else {
-        pack_at(width, block, into);
+    match width {
+        9 => pack_at(9, block, into),
+        14 => pack_at(14, block, into),
+        8 => pack_at(8, block, into),
+        12 => pack_at(12, block, into),
+        16 => pack_at(16, block, into),
+        10 => pack_at(10, block, into),
+        11 => pack_at(11, block, into),
+        13 => pack_at(13, block, into),
+        15 => pack_at(15, block, into),
+        _ => pack_at(width, block, into),
     }
 }
 
@@ -185,8 +205,9 @@ fn four_plain(block: &[Iq; 12], part: usize) -> u128
 }
 
 /// Writes the bytes of a block that is not compressed.
-fn pack_plain(block: &[Iq; 12], into: &mut [u8; 49])
-    ensures bytes { AreBytes into.new → take 48 into.new ≡ packed_of Plain block.now }
+fn pack_plain(block: &[Iq; 12], into: &mut [u8])
+    requires { length into.old ≡ 48 }
+    ensures bytes { into.new ≡ packed_of Plain block.now }
     ensures can { CanPack Plain block.now }
 {
     put_number(into, 0, 16, four_plain(block, 0));
@@ -194,16 +215,26 @@ fn pack_plain(block: &[Iq; 12], into: &mut [u8; 49])
     put_number(into, 32, 16, four_plain(block, 2));
 }
 
-/// Writes the bytes of a block.
-fn put_block(method: Method, block: &[Iq; 12], into: &mut [u8; 49])
-    requires { HasWidth method }
-    ensures bytes { AreBytes into.new → take (length_of method) into.new ≡ packed_of method block.now }
+/// Writes the bytes of a block where they are to stand, over all that was there: those that `pack` answers. It takes no memory.
+pub fn pack_into(method: Method, block: &[Iq; 12], into: &mut [u8])
+    requires width { HasWidth method }
+    requires len { length into.old ≡ length_of method }
+    ensures bytes { into.new ≡ packed_of method block.now }
     ensures can { CanPack method block.now }
 {
     match method {
         Method::Plain => pack_plain(block, into),
         Method::Bfp(width) => pack_bfp(width, block, into),
     }
+}
+
+/// Writes the bytes of a block at the front.
+fn pack_front(method: Method, block: &[Iq; 12], into: &mut [u8; 49])
+    requires { HasWidth method }
+    ensures bytes { take (length_of method) into.new ≡ packed_of method block.now }
+    ensures can { CanPack method block.now }
+{
+    pack_into(method, block, &mut into[..block_len(method)]);
 }
 
 /// The bytes of a block: for block floating point the exponent and the mantissas, each the floor of
@@ -219,6 +250,6 @@ pub fn pack(method: Method, block: &[Iq; 12]) -> Packed
     ensures kept { KeepsBytes method → packed_of method (samples_of (shrunk method block.now)) ≡ bytes_of result }
 {
     let mut room = Packed::zeros(block_len(method));
-    put_block(method, block, &mut room.bytes);
-    room.packed()
+    pack_front(method, block, &mut room.bytes);
+    room
 }

@@ -1,4 +1,4 @@
-use Rattle.std.proofs.Common.{◌≡◌, ℕ, ◌+◌, ◌-◌, length, inl, inr, subst, ◌∙◌, arith}
+use Rattle.std.proofs.Common.{◌≡◌, ℕ, ◌+◌, ◌-◌, length, inl, inr, subst, ◌∙◌, arith, rules}
 use Rattle.std.proofs.lemmas.Bool.{cases_lt}
 use Rattle.bit_fields.proofs.Field.{field_kept}
 use Rattle.bfp_codec.specs.Samples.{component}
@@ -11,11 +11,11 @@ returns-clause-bytes c =
     let one = c.put_number.new.into in
     let two = c.put_number-2.new.into in
     let all = c.put_number-3.new.into in
-    let len : length all ≡ 49 = omega arith in
+    let len : length all ≡ 48 = omega (arith, c.requires) in
     let a = field_kept all two 32 16 0 128 c.put_number-3.ensures.others (omega arith) ∙ field_kept two one 16 16 0 128 c.put_number-2.ensures.others (omega arith) ∙ c.put_number.ensures.number ∙ c.four_plain.ensures.value in
     let b = field_kept all two 32 16 128 128 c.put_number-3.ensures.others (omega arith) ∙ c.put_number-2.ensures.number ∙ c.four_plain-2.ensures.value in
     let d = c.put_number-3.ensures.number ∙ c.four_plain-3.ensures.value in
-    λ small. plain_whole c.args.block.now all len small a b d
+    plain_whole c.args.block.now all len (λ i. search rules) a b d
 
 pub returns-clause-can : goal.returns-clause-can
 returns-clause-can c = λ k h.
