@@ -1,7 +1,7 @@
 //! Frames with pieces of U-plane messages.
 ghost use Rattle.std.specs.Prelude.{◌≡◌, ℕ, ◌+◌, ◌-◌, ◌*◌, ◌<◌, ◌≤◌, ◌^◌, List, ◌++◌, length, take, drop};
 ghost use Rattle.bfp_codec.specs.declared.samples.Iq.{Iq as SpecIq};
-ghost use Rattle.bfp_codec.specs.Layout.{HasWidth, length_of};
+ghost use Rattle.bfp_codec.specs.Layout.{HasWidth, length_of, packed_of};
 ghost use Rattle.fh_time.specs.Carrier.{first_of, count_of};
 ghost use Rattle.uplane_sections.specs.Section.{header_size};
 ghost use Rattle.frame_bytes.specs.Spelled.{in_bytes};
@@ -14,7 +14,7 @@ use crate::cuts::{write_at, write_cut};
 use crate::messages::{Carrier, DataMessage, DataSection};
 use crate::parts::Part;
 use crate::transport::{TRANSPORT_LEN, transport};
-use bfp_codec::{Format, Iq, block_len, pack};
+use bfp_codec::{Format, Iq, Method, block_len, pack, pack_into};
 use ecpri_fragments::SeqField;
 use uplane_sections::{USection, put_head, put_section};
 
@@ -77,6 +77,25 @@ fn touched(span: Span, place: usize, size: usize, count: usize) -> (usize, usize
     (first, end)
 }
 
+/// Writes what the span holds of a packed block that stands at a place of a message. A block that lies in the span is packed
+/// where it is to stand.
+fn write_block(method: Method, block: &[Iq; 12], span: Span, place: usize, into: &mut [u8])
+    requires width { HasWidth method }
+    requires order { span.from ≤ span.to }
+    requires room { span.to - span.from ≤ length into.old }
+    requires fits { place + length_of method ≤ 2 ^ 16 }
+    ensures stands { (before : List ℕ) → length before ≡ place → Stands span before into.old → Stands span (before ++ packed_of method block.now) into.new }
+    ensures len { length into.new ≡ length into.old }
+{
+    let size = block_len(method);
+    if span.from <= place && place + size <= span.to {
+        let at = place - span.from;
+        pack_into(method, block, &mut into[at..at + size]);
+    } else {
+        write_cut(span, place, pack(method, block).as_slice(), into);
+    }
+}
+
 /// Writes what the span holds of the packed PRBs of a section that stand at a place of the message.
 fn write_prbs<F: Fn(usize, u16) -> [Iq; 12]>(
     carrier: &Carrier,
@@ -103,8 +122,7 @@ fn write_prbs<F: Fn(usize, u16) -> [Iq; 12]>(
     let (begin, end) = touched(span, place, size, count as usize);
     for k in begin..end {
         let block = source(number, first + k as u16);
-        let packed = pack(carrier.format.method, &block);
-        write_cut(span, place + k * size, packed.as_slice(), into);
+        write_block(carrier.format.method, &block, span, place + k * size, into);
     }
 }
 

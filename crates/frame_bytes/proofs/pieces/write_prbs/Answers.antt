@@ -18,7 +18,7 @@ loop-k-init g c = (
 pub loop-k-preserved : goal.loop-k-preserved
 loop-k-preserved g c =
     let inv = c.loop-k.invariant in (
-      c.write_cut.ensures.len ∙ inv.0,
+      c.write_block.ensures.len ∙ inv.0,
       omega (arith, inv.1),
       λ block said before at stood.
           let method = c.args.carrier.now.format.method in
@@ -28,12 +28,11 @@ loop-k-preserved g c =
           let here = packed_prbs method block first k in
           let place : length (before ++ here) ≡ c.args.place + k * c.block_len-size.result =
           length-append before here ∙ ap (λ n. length before + n) (length_prbs method block first k ∙ ap (λ n. k * n) (sym size)) ∙ ap (λ n. n + k * c.block_len-size.result) at in
-          let written = c.write_cut.ensures.stands (before ++ here) place (inv.2 block said before at stood) in
+          let written = c.write_block.ensures.stands (before ++ here) place (inv.2 block said before at stood) in
           let inside : k < c.prbs_of-first.result.1 = omega (arith, c.loop-k-test.true, c.loop-k.auto.k-end, c.touched-begin.ensures.within) in
           let answer : c.source-block.result ≡ block (first + k) = said (first + k) c.source-block.result (omega (arith, inside, c.prbs_of-first.ensures.within)) c.source-block.ensures in
-          let bytes : c.as_slice.result.now ≡ packed_of method (block (first + k)) = c.as_slice.ensures ∙ c.pack-packed.ensures.bytes ∙ ap (packed_of method) answer in
-          let all : (before ++ here) ++ c.as_slice.result.now ≡ before ++ packed_prbs method block first (k + 1) =
-          ap (λ xs. (before ++ here) ++ xs) bytes ∙ append_assoc before here (packed_of method (block (first + k))) ∙ ap (λ xs. before ++ xs) (sym (packed_last method block first k)) in
+          let all : (before ++ here) ++ packed_of method c.source-block.result ≡ before ++ packed_prbs method block first (k + 1) =
+          ap (λ xs. (before ++ here) ++ packed_of method xs) answer ∙ append_assoc before here (packed_of method (block (first + k))) ∙ ap (λ xs. before ++ xs) (sym (packed_last method block first k)) in
           rw all at written,
     )
 
