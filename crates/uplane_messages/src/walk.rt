@@ -48,8 +48,7 @@ impl<'a> DataWalk<'a> {
 
     /// The refusal of the message, if it is refused, whichever of its items were given so far.
     ///
-    /// It goes to the message's end by the lengths in the headers: no PRB that lies whole in one piece
-    /// is looked at.
+    /// It goes to the message's end by the lengths in the headers: no PRB is unpacked.
     pub fn refusal(&self) -> Option<URefusal>
         ensures { result ≡ refusal_of self.now }
     {

@@ -13,7 +13,9 @@ use Rattle.uplane_sections.specs.Messages.{Item, Block, Telling, after, blocks}
 use Rattle.uplane_sections.specs.declared.phases.Phase.{Phase}
 use Rattle.uplane_sections.specs.declared.phases.Phase.TheVariants.{Inside}
 use Rattle.uplane_sections.specs.Phases.{in_blocks, resumed}
-use Rattle.uplane_sections.specs.States.{tells, Tells, Passes, IsOver}
+use Rattle.uplane_sections.specs.declared.steps.UFeed.{UFeed}
+use Rattle.uplane_sections.specs.declared.steps.UFeed.TheVariants as feed
+use Rattle.uplane_sections.specs.States.{tells, Answers, Tells, Passes, IsOver}
 use Rattle.uplane_sections.proofs.Behind.{block_step_at}
 use Rattle.uplane_sections.proofs.Histories.{after_after}
 
@@ -55,6 +57,17 @@ module _ (format : Format) (prbs : ℕ) (shape : Shape) where
       → resumed format prbs shape phase start (take there held ++ (xs ++ rest)) ≡ after (blocks method prb n xs) (resumed format prbs shape next (start + used) (take there held ++ rest))
   run_tells phase next method symbol start prb left n used there held xs rest is none most len size leads =
       rw (is, none, size) (run_step method symbol start prb left n xs rest most (len ∙ size) ∙ ap (λ (t : Telling). after (blocks method prb n xs) t) (leads (start + n * length_of method) rest))
+
+  -- a PRB of which a part came before, in a walker's words
+  pub block_tells : (phase next : Phase) (method : Method) (symbol start prb left size there : ℕ) (held xs rest : List ℕ) → phase ≡ Inside method symbol prb left → 1 ≤ left
+      → size ≡ length_of method → length (take there held ++ xs) ≡ size → ((at : ℕ) (more : List ℕ) → in_blocks format prbs shape method symbol at (prb + 1) (left - 1) more ≡ resumed format prbs shape next at more)
+      → resumed format prbs shape phase start (take there held ++ (xs ++ rest)) ≡ after (Block prb (unpacked_of method (take there held ++ xs)) ∷ []) (resumed format prbs shape next (start + size) rest)
+  block_tells phase next method symbol start prb left size there held xs rest is some size_is len leads =
+      let front = take there held ++ xs in
+      rw (is, size_is)
+      (ap (in_blocks format prbs shape method symbol start prb left) (sym (append_assoc (take there held) xs rest))
+      ∙ block_step_at format prbs shape method symbol start prb left front rest some (len ∙ size_is)
+      ∙ ap (λ (t : Telling). after (Block prb (unpacked_of method front) ∷ []) t) (leads (start + length_of method) rest))
 
 -- as many whole PRBs as the bytes have
 pub run_within : (n left size len : ℕ) → 0 < size → n ≡ min (len / size) left → n * size ≤ len
@@ -104,3 +117,11 @@ passes_over old mid new piece left m n is zero_is p q over =
           ∙ here.tells (drop m piece ++ rest)
           ∙ ap (λ (t : Telling). after here.items t) (over (drop m piece ++ rest) ∙ sym (over rest));
     }
+
+-- a step that uses no byte is that of a message which is refused
+pub over_at_none : (new : UWalker) (used : ℕ) (what : UFeed) → Answers new used what → used ≡ 0 → IsOver new
+over_at_none new used feed.More a none = let some : 0 < used = a.0 in absurd (omega arith)
+over_at_none new used (feed.Head h) a none = let some : 0 < used = a in absurd (omega arith)
+over_at_none new used (feed.Section s) a none = let some : 0 < used = a in absurd (omega arith)
+over_at_none new used (feed.Block prb samples) a none = let some : 0 < used = a in absurd (omega arith)
+over_at_none new used (feed.Refused r) a none = λ rest. a.stays rest ∙ sym (a.stays [])

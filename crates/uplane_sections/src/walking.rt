@@ -260,8 +260,8 @@ impl UWalker {
         }
     }
 
-    /// Goes over the next bytes of the message as `feed` does, and tells nothing of them: no PRB that
-    /// lies whole in the piece is unpacked. All of the piece is used, unless the message is refused.
+    /// Goes over the next bytes of the message as `feed` does, and tells nothing of them: no PRB is
+    /// unpacked. All of the piece is used, unless the message is refused.
     pub fn pass(&mut self, piece: &[u8])
         requires fits { used_by self.old + length piece.now ≤ usize.MAX }
         ensures used { used_by self.new ≤ used_by self.old + length piece.now }
@@ -288,6 +288,49 @@ impl UWalker {
         }
     }
 
+    /// Goes over what the PRB that comes next still wants, or over all that is there. It is not unpacked.
+    fn pass_block(&mut self, method: Method, symbol: u8, prb: u16, left: u16, piece: &[u8]) -> usize
+        requires some { 0 < length piece.now }
+        requires fits { used_by self.old + length piece.now ≤ usize.MAX }
+        requires inside { self.old.phase ≡ Phase.Inside method symbol prb left }
+        ensures some { 0 < result }
+        ensures within { result ≤ length piece.now }
+        ensures used { used_by self.new ≡ used_by self.old + result }
+        ensures passes { Passes self.old self.new (take result piece.now) }
+    {
+        let unit = block_len(method);
+        let want = unit - self.there;
+        if piece.len() < want {
+            self.hold(piece);
+            return piece.len();
+        }
+        self.phase = inside(method, symbol, prb + 1, left - 1);
+        self.start += unit;
+        self.there = 0;
+        want
+    }
+
+    /// Goes over what the next unit still wants, or over all that is there; over none only where the
+    /// message is refused. No PRB is unpacked.
+    fn pass_unit(&mut self, piece: &[u8]) -> usize
+        requires some { 0 < length piece.now }
+        requires fits { used_by self.old + length piece.now ≤ usize.MAX }
+        ensures within { result ≤ length piece.now }
+        ensures used { used_by self.new ≡ used_by self.old + result }
+        ensures passes { Passes self.old self.new (take result piece.now) }
+        ensures ends { result ≡ 0 → IsOver self.new }
+    {
+        match self.phase {
+            Phase::Inside {
+                method,
+                symbol,
+                prb,
+                left,
+            } => self.pass_block(method, symbol, prb, left, piece),
+            _ => self.step(piece).used,
+        }
+    }
+
     /// Goes over some bytes, PRBs that lie whole in the piece in one step; over none only where the
     /// message is refused.
     fn pass_some(&mut self, piece: &[u8]) -> usize
@@ -302,7 +345,7 @@ impl UWalker {
         if run.used > 0 {
             return run.used;
         }
-        self.step(piece).used
+        self.pass_unit(piece)
     }
 
     /// Whether the bytes used so far are a whole message; if not, the first test that fails for a
