@@ -81,6 +81,7 @@ impl UWalker {
     }
 
     /// What the next unit tells, which these bytes are.
+    #[inline(always)]
     fn whole(&self, bytes: &[u8]) -> Told
         requires { length bytes.now ≡ unit_of self.now.phase }
         ensures tells { (rest : List ℕ) → resumed self.now.format self.now.prbs self.now.shape self.now.phase self.now.start (bytes.now ++ rest)
@@ -174,6 +175,7 @@ impl UWalker {
     }
 
     /// Takes what the next unit still wants, or all that is there.
+    #[inline(always)]
     fn step(&mut self, piece: &[u8]) -> UStep
         requires some { 0 < length piece.now }
         requires fits { used_by self.old + length piece.now ≤ usize.MAX }
