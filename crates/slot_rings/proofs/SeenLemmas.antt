@@ -1,5 +1,5 @@
 -- What the ring answers of a cell, by the lists of its place.
-use Rattle.std.proofs.Common.{◌≡◌, ℕ, zero, suc, ◌+◌, inl, inr, Bool, true, false, not, ◌&&◌, ◌==◌, List, length, get_or, refl, ap, ap₂, sym, ◌∙◌, arith, Option, Some, None, is_some}
+use Rattle.std.proofs.Common.{◌≡◌, ℕ, zero, suc, ◌+◌, ◌<◌, ◌≤◌, inl, inr, Bool, true, false, not, ◌&&◌, ◌==◌, List, length, get_or, refl, ap, ap₂, sym, ◌∙◌, arith, Option, Some, None, is_some}
 use Rattle.std.specs.Prelude.{IfSome}
 use Rattle.std.proofs.lemmas.Bool.{cases_Bool}
 use Rattle.fh_time.specs.declared.values.Slot.{Slot}
@@ -11,9 +11,9 @@ use Rattle.unit_model.specs.declared.cells.Block.{Block}
 use Rattle.unit_model.specs.declared.cells.Cell.{Cell}
 use Rattle.unit_model.specs.declared.cells.Claim.{Claim}
 use Rattle.slot_rings.specs.Blocks.{block_lent}
-use Rattle.slot_rings.specs.Places.{PlaceValue, claim_in, no_claims, is_place_of, is_due, claims_seen, blocks_seen, reported_seen, place_claim, place_block, place_reported, place_uplink, cell_number}
+use Rattle.slot_rings.specs.Places.{PlaceValue, claim_in, no_claims, is_place_of, is_due, is_in_use, claims_seen, blocks_seen, reported_seen, place_claim, place_block, place_reported, place_uplink, cell_number}
 use Rattle.slot_rings.specs.Rings.{RingValue, place_of, ring_claim, ring_block, ring_reported, ring_uplink}
-use Rattle.slot_rings.specs.Symbols.{AreCellsOf}
+use Rattle.slot_rings.specs.Symbols.{AreCellsOf, lent_claim}
 use Rattle.slot_rings.specs.Verdicts.{verdict_by}
 use Rattle.slot_rings.specs.declared.blocks.LentBlocks.{LentBlocks}
 use Rattle.slot_rings.specs.declared.claims.CellClaims.{CellClaims}
@@ -56,8 +56,10 @@ pub cells_lent : (r : RingValue) (slot : Slot) (symbol base : ℕ) (cells : Symb
     → ((k : ℕ) → get_or cells.claims.now k no_claims ≡ get_or ms (base + k) no_claims)
     → ((k : ℕ) → block_lent cells.blocks k ≡ get_or (blocks_seen (place_of r slot) slot) (base + k) None)
     → ((k : ℕ) → get_or cells.reported.now k false ≡ get_or ds (base + k) false)
+    → cells.span.end ≤ r.endpoint.prbs
+    → ((prb : ℕ) → prb < r.endpoint.prbs → (cells.span.first ≤ prb → cells.span.end ≤ prb) → is_in_use (lent_claim cells prb) ≡ false)
     → AreCellsOf r slot symbol cells
-cells_lent r slot symbol base cells ms ds base_is ms_is ds_is claims blocks reported = record {
+cells_lent r slot symbol base cells ms ds base_is ms_is ds_is claims blocks reported within unused = record {
   claims = λ ep prb re.
       one_seen r slot symbol prb ep (get_or cells.claims.now prb no_claims)
       (claims prb ∙ ap (λ (l : List CellClaims). get_or l (base + prb) no_claims) ms_is
@@ -70,6 +72,8 @@ cells_lent r slot symbol base cells ms ds base_is ms_is ds_is claims blocks repo
       reported prb ∙ ap (λ (l : List Bool). get_or l (base + prb) false) ds_is
       ∙ ap (λ (k : ℕ). get_or (reported_seen (place_of r slot) slot) k false) (row_at r.endpoint.prbs symbol base prb base_is)
       ∙ flag_seen r.endpoint.prbs (place_of r slot) (cell_at ep true slot symbol prb);
+  within = within;
+  unused = unused;
 }
 
 pub due_seen : (r : RingValue) (slot : Slot) (symbol base ep : ℕ) (ms : List CellClaims) (ds : List Bool) → base ≡ cell_number r.endpoint.prbs symbol 0

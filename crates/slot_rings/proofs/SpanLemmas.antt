@@ -1,5 +1,5 @@
 -- The PRBs of a symbol that may have claims.
-use Rattle.std.proofs.Common.{◌≡◌, ℕ, ◌+◌, ◌<◌, not, ◌&&◌, true, false, refl, List, get_or, ap₂, ◌∙◌, arith, Bool, None}
+use Rattle.std.proofs.Common.{◌≡◌, ℕ, ◌+◌, ◌<◌, not, ◌&&◌, true, false, refl, List, get_or, ap, ap₂, ◌∙◌, arith, Bool, None}
 use Rattle.slot_rings.specs.Places.{cell_number, claim_in, is_due, is_in_use, no_claims}
 use Rattle.slot_rings.specs.declared.claims.CellClaims.{CellClaims}
 use Rattle.slot_rings.proofs.PendingLemmas.{no_due}
@@ -22,3 +22,12 @@ pub none_used : (prbs symbol from n : ℕ) (claims : List CellClaims) → from �
     → is_in_use (claim_in (get_or claims (from + n) no_claims)) ≡ false
 none_used prbs symbol from n claims at none =
     not_in_use (is_in_use (claim_in (get_or claims (from + n) no_claims))) (none_due prbs symbol from n claims claims false at refl none)
+
+-- nor of cells that are lent from the first of the symbol on
+pub none_lent : (prbs symbol base n : ℕ) (lent claims seen : List CellClaims) → base ≡ cell_number prbs symbol 0 → claims ≡ seen
+    → get_or lent n no_claims ≡ get_or claims (base + n) no_claims
+    → ((re : ℕ) → re < 12 → claim_in (get_or seen (cell_number prbs symbol n) no_claims) re ≡ None)
+    → is_in_use (claim_in (get_or lent n no_claims)) ≡ false
+none_lent prbs symbol base n lent claims seen at same is none =
+    ap (λ (m : CellClaims). is_in_use (claim_in m)) is
+    ∙ not_in_use (is_in_use (claim_in (get_or claims (base + n) no_claims))) (none_due prbs symbol base n claims seen false at same none)

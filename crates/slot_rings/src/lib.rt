@@ -28,4 +28,5 @@ pub use blocks::LentBlocks;
 pub use claims::CellClaims;
 pub use packed::PackedRun;
 pub use ring::SlotRing;
+pub use rows::Span;
 pub use symbol_cells::{SymbolCells, Use};

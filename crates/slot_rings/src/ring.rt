@@ -182,6 +182,7 @@ impl SlotRing {
             claims: items_from(place.claims(slot, true), base),
             blocks: place.blocks(slot).behind(base),
             reported: items_from(place.reported(slot), base),
+            span: place.span(slot, symbol),
         }
     }
 

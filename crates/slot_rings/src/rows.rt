@@ -37,14 +37,14 @@ pub(crate) const EMPTY: Row = Row::Known(Run {
     claimed: 0,
 });
 
-/// PRBs of a symbol from `first` to before `end`: no other cell of the symbol has a claim.
+/// PRBs of a symbol from `first` to before `end`.
 #[derive(Clone, Copy)]
-pub(crate) struct Span {
+pub struct Span {
     pub first: u16,
     pub end: u16,
 }
 
-/// The PRBs that may have claims, of a symbol on a carrier of so many.
+/// The PRBs that may have claims, of a symbol on a carrier of so many: no other cell of the symbol has one.
 pub(crate) fn span_of(row: Row, prbs: u16) -> Span
     ensures within { result.end ≤ prbs }
     ensures none { HasNoneOutside prbs row result.first result.end }

@@ -5,6 +5,7 @@ ghost use Rattle.unit_model.specs.Radiated.{cell_id, used_mask};
 use crate::blocks::LentBlocks;
 use crate::claims::CellClaims;
 use crate::judging::claims_at;
+use crate::rows::Span;
 use crate::scans::reported_here;
 use unit_model::Block;
 
@@ -29,6 +30,8 @@ pub struct SymbolCells<'a> {
     pub blocks: LentBlocks<'a>,
     /// Which of them were reported.
     pub reported: &'a [bool],
+    /// The PRBs of the symbol outside of which no cell is in use.
+    pub span: Span,
 }
 
 impl<'a> SymbolCells<'a> {
