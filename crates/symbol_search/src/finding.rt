@@ -60,61 +60,56 @@ fn first_in_slot<'c, T: SymbolTest<'c>>(
     best
 }
 
-/// The first of the best symbol so far and those that fit of the slot that has the place with an index.
+/// Makes the best symbol so far the first of it and those that fit of the slot that has the place with an index.
 fn first_in_place<'c, T: SymbolTest<'c>>(
     cells: &'c UnitCells,
     test: &T,
     ep: usize,
     endpoint: &EndpointConfig,
     index: usize,
-    best: Option<SymbolStart>,
-) -> Option<SymbolStart>
+    best: &mut Option<SymbolStart>,
+)
     requires at { IsAt (endpoints_of cells.now) ep endpoint.now }
     requires index { index < cells_places cells.now ep }
-    ensures { Searched cells.now (T.fits test.now cells.now) (InPlace cells.now ep index) best result }
+    ensures { Searched cells.now (T.fits test.now cells.now) (InPlace cells.now ep index) best.old best.new }
 {
     let Some(start) = test.earliest_at(cells, ep, index) else {
-        return best;
+        return;
     };
-    if is_passed(&best, ep, start) {
-        return best;
+    if is_passed(best, ep, start) {
+        return;
     }
-    match cells.slot_at(ep, index) {
-        None => best,
-        Some(slot) => {
-            let place = SlotPlace {
-                ep,
-                endpoint,
-                index,
-                slot,
-            };
-            first_in_slot(cells, test, &place, best)
-        }
+    if let Some(slot) = cells.slot_at(ep, index) {
+        let place = SlotPlace {
+            ep,
+            endpoint,
+            index,
+            slot,
+        };
+        *best = first_in_slot(cells, test, &place, *best);
     }
 }
 
-/// The first of the best symbol so far and those of an endpoint that fit.
+/// Makes the best symbol so far the first of it and those of an endpoint that fit. It is written only where one comes before it.
 fn first_in_ring<'c, T: SymbolTest<'c>>(
     cells: &'c UnitCells,
     test: &T,
     ep: usize,
-    best: Option<SymbolStart>,
-) -> Option<SymbolStart>
+    best: &mut Option<SymbolStart>,
+)
     requires { ep < length (endpoints_of cells.now) }
-    ensures { Searched cells.now (T.fits test.now cells.now) (OfEndpoint ep) best result }
+    ensures { Searched cells.now (T.fits test.now cells.now) (OfEndpoint ep) best.old best.new }
 {
     let Some(start) = test.earliest(cells, ep) else {
-        return best;
+        return;
     };
-    if is_passed(&best, ep, start) {
-        return best;
+    if is_passed(best, ep, start) {
+        return;
     }
     let endpoint = cells.endpoint(ep);
-    let mut first = best;
     for index in 0..cells.places(ep) {
-        first = first_in_place(cells, test, ep, endpoint, index, first);
+        first_in_place(cells, test, ep, endpoint, index, best);
     }
-    first
 }
 
 /// The endpoint with which a search begins: the one whose symbols may fit first. So most others are passed over.
@@ -144,31 +139,32 @@ fn first_in_lead<'c, T: SymbolTest<'c>>(
     ensures fitting { IfSome result (IsFitting cells.now (T.fits test.now cells.now)) }
     ensures lead { HasLead cells.now (T.fits test.now cells.now) lead result }
 {
-    match lead {
-        None => None,
-        Some(ep) => first_in_ring(cells, test, ep, None),
+    let mut first = None;
+    if let Some(ep) = lead {
+        first_in_ring(cells, test, ep, &mut first);
     }
+    first
 }
 
-/// The first of the best symbol so far and those of an endpoint that fit, where those of the endpoint with which the search began
-/// were looked at.
+/// Makes the best symbol so far the first of it and those of an endpoint that fit, where those of the endpoint with which the search
+/// began were looked at.
 fn first_in_turn<'c, T: SymbolTest<'c>>(
     cells: &'c UnitCells,
     test: &T,
     lead: Option<usize>,
     ep: usize,
-    best: Option<SymbolStart>,
-) -> Option<SymbolStart>
+    best: &mut Option<SymbolStart>,
+)
     requires within { ep < length (endpoints_of cells.now) }
-    requires lead { HasLead cells.now (T.fits test.now cells.now) lead best }
-    ensures { Searched cells.now (T.fits test.now cells.now) (OfEndpoint ep) best result }
+    requires lead { HasLead cells.now (T.fits test.now cells.now) lead best.old }
+    ensures { Searched cells.now (T.fits test.now cells.now) (OfEndpoint ep) best.old best.new }
 {
     if let Some(first) = lead {
         if first == ep {
-            return best;
+            return;
         }
     }
-    first_in_ring(cells, test, ep, best)
+    first_in_ring(cells, test, ep, best);
 }
 
 /// The first symbol that fits: by its start, and at one tick by endpoint, slot and symbol.
@@ -178,7 +174,7 @@ pub fn first_symbol<'c, T: SymbolTest<'c>>(cells: &'c UnitCells, test: &T) -> Op
     let lead = lead(cells, test);
     let mut first = first_in_lead(cells, test, lead);
     for ep in 0..cells.endpoints() {
-        first = first_in_turn(cells, test, lead, ep, first);
+        first_in_turn(cells, test, lead, ep, &mut first);
     }
     first
 }

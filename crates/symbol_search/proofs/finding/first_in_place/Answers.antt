@@ -11,7 +11,7 @@ pub returns-then-is_passed : goal.returns-then-is_passed
 returns-then-is_passed g c =
     let v = c.args.cells.now in
     let fits = g.T.SymbolTest.fits c.args.test.now v in
-    searched_from v fits (InPlace v c.args.ep c.args.index) c.args.best c.args.ep c.in-Some.start (λ m o. o.0)
+    searched_from v fits (InPlace v c.args.ep c.args.index) c.args.best.now c.args.ep c.in-Some.start (λ m o. o.0)
     (subst (λ (o : Option Ticks). FitsFrom v fits (InPlace v c.args.ep c.args.index) o) c.in-Some.is c.earliest_at.ensures)
     (sym c.is_passed.ensures ∙ c.if-is_passed.true)
 

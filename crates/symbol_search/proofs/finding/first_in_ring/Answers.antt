@@ -10,13 +10,13 @@ use Rattle.symbol_search.proofs.finding.first_in_ring.Goals as goal
 pub loop-index-preserved : goal.loop-index-preserved
 loop-index-preserved g c =
     searched_below_more c.args.cells.now (g.T.SymbolTest.fits c.args.test.now c.args.cells.now) (OfEndpoint c.args.ep) (InPlace c.args.cells.now c.args.ep c.loop-index.index)
-    (λ (m : SymbolStart). cells_index c.args.cells.now c.args.ep m.slot) c.loop-index.index c.args.best c.loop-index.first c.first_in_place-first.result
-    (λ m p e. (p, e)) c.loop-index.invariant c.first_in_place-first.ensures
+    (λ (m : SymbolStart). cells_index c.args.cells.now c.args.ep m.slot) c.loop-index.index c.args.best.now c.loop-index.best c.first_in_place.new.best
+    (λ m p e. (p, e)) c.loop-index.invariant c.first_in_place.ensures
 
 pub returns-then-is_passed : goal.returns-then-is_passed
 returns-then-is_passed g c =
     let v = c.args.cells.now in
     let fits = g.T.SymbolTest.fits c.args.test.now v in
-    searched_from v fits (OfEndpoint c.args.ep) c.args.best c.args.ep c.in-Some.start (λ m o. o)
+    searched_from v fits (OfEndpoint c.args.ep) c.args.best.now c.args.ep c.in-Some.start (λ m o. o)
     (subst (λ (o : Option Ticks). FitsFrom v fits (OfEndpoint c.args.ep) o) c.in-Some.is c.earliest.ensures)
     (sym c.is_passed.ensures ∙ c.if-is_passed.true)

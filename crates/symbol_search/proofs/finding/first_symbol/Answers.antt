@@ -5,9 +5,9 @@ use Rattle.symbol_search.proofs.SearchLemmas.{first_of_all, searched_below_more}
 use Rattle.symbol_search.proofs.finding.first_symbol.Goals as goal
 
 pub loop-ep-preserved : goal.loop-ep-preserved
-loop-ep-preserved g c = let s = c.first_in_turn-first.ensures in record {
+loop-ep-preserved g c = let s = c.first_in_turn.ensures in record {
   searched = searched_below_more c.args.cells.now (g.T.SymbolTest.fits c.args.test.now c.args.cells.now) (λ m. Unit {0}) (OfEndpoint c.loop-ep.ep) (λ (m : SymbolStart). m.ep)
-      c.loop-ep.ep c.first_in_lead-first.result c.loop-ep.first c.first_in_turn-first.result (λ m p e. e) c.loop-ep.invariant.searched s;
+      c.loop-ep.ep c.first_in_lead-first.result c.loop-ep.first c.first_in_turn.new.best (λ m p e. e) c.loop-ep.invariant.searched s;
   lead = λ m w is. s.keeps m (c.loop-ep.invariant.lead m w is);
 }
 
