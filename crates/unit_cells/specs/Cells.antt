@@ -17,7 +17,7 @@ use Rattle.unit_model.specs.declared.cells.Cell.{Cell}
 use Rattle.unit_model.specs.declared.cells.Claim.{Claim}
 use Rattle.unit_model.specs.Lists.{some}
 use Rattle.unit_model.specs.Sides.{IsLiveOn}
-use Rattle.slot_rings.specs.Places.{is_due}
+use Rattle.slot_rings.specs.Places.{is_due, is_in_use}
 use Rattle.slot_rings.specs.Rings.{RingValue, has_slot, place_index, ring_block, ring_claim, ring_reported, ring_uplink}
 use Rattle.slot_rings.specs.Symbols.{lent_block, lent_claim, lent_reported}
 use Rattle.slot_rings.specs.declared.symbol_cells.SymbolCells.{SymbolCells}
@@ -142,6 +142,9 @@ pub record AreUnitCellsOf (v : CellsValue) (ep : ℕ) (slot : Slot) (symbol : �
   pub claims : (prb re : ℕ) → lent_claim cells prb re ≡ cells_claim v (cell_at ep true slot symbol prb) re
   pub blocks : (prb : ℕ) → lent_block cells prb ≡ cells_block v (cell_at ep true slot symbol prb)
   pub reported : (prb : ℕ) → lent_reported cells prb ≡ cells_reported v (cell_at ep true slot symbol prb)
+  pub within : (e : EndpointConfig) → IsAt (endpoints_of v) ep e → cells.span.end ≤ e.prbs
+  pub unused : (e : EndpointConfig) (prb : ℕ) → IsAt (endpoints_of v) ep e → prb < e.prbs → (cells.span.first ≤ prb → cells.span.end ≤ prb)
+      → is_in_use (lent_claim cells prb) ≡ false
 
 -- ---- what is due
 
