@@ -1,21 +1,23 @@
 -- The report of a symbol's lent cells as far as a PRB, one PRB more, and what it says of the rings.
-use Rattle.std.proofs.Common.{◌≡◌, ℕ, ◌+◌, ◌-◌, ◌<◌, Bool, List, [], ◌∷◌, ◌++◌, map, sym, ap, ◌∙◌, subst, arith, append_assoc, Option, Result, Ok, Err}
+use Rattle.std.proofs.Common.{◌≡◌, ℕ, ◌+◌, ◌-◌, ◌<◌, ◌≤◌, ◌==◌, Bool, true, false, not, inl, inr, refl, List, [], ◌∷◌, ◌++◌, map, sym, ap, ◌∙◌, subst, arith, append_assoc, append-nil, Option, Result, Ok, Err}
 use Rattle.std.specs.Prelude.{OnOk, if◌then◌else◌}
+use Rattle.std.proofs.lemmas.Bool.{cases_Bool}
 use Rattle.std.proofs.lemmas.List.{map-append}
 use Rattle.air_source.specs.declared.events.AirCell.{AirCell}
 use Rattle.air_source.specs.declared.events.Event.{Event}
 use Rattle.air_source.specs.declared.events.Event.TheVariants.{Cell as Reported}
 use Rattle.air_source.specs.declared.events.Side.TheVariants.{Ru}
-use Rattle.symbol_search.specs.unit_model.specs.Lists.{each}
-use Rattle.symbol_search.specs.unit_model.specs.Radiated.{report_of}
-use Rattle.symbol_search.specs.unit_model.specs.declared.cells.Block.{Block}
-use Rattle.symbol_search.specs.unit_model.specs.declared.cells.Claim.{Claim}
-use Rattle.symbol_search.specs.unit_model.specs.declared.symbol_start.SymbolStart.{SymbolStart}
-use Rattle.symbol_search.specs.unit_model.proofs.SweepLaws.{each_more, each_split, each_zero}
+use Rattle.unit_model.specs.Lists.{each}
+use Rattle.unit_model.specs.Radiated.{report_of, used_mask}
+use Rattle.unit_model.specs.declared.cells.Block.{Block}
+use Rattle.unit_model.specs.declared.cells.Claim.{Claim}
+use Rattle.unit_model.specs.declared.symbol_start.SymbolStart.{SymbolStart}
+use Rattle.unit_model.proofs.SweepLaws.{each_more, each_none, each_split}
 use Rattle.symbol_search.specs.unit_laws.proofs.ListLemmas.{each_same}
-use Rattle.symbol_search.specs.slot_rings.specs.Symbols.{lent_block, lent_claim}
-use Rattle.symbol_search.specs.slot_rings.specs.declared.symbol_cells.SymbolCells.{SymbolCells}
-use Rattle.symbol_search.specs.unit_cells.specs.Cells.{AreUnitCellsOf, CellsValue, cells_claim, cells_reported}
+use Rattle.slot_rings.specs.Places.{is_in_use}
+use Rattle.slot_rings.specs.Symbols.{lent_block, lent_claim, lent_reported}
+use Rattle.slot_rings.specs.declared.symbol_cells.SymbolCells.{SymbolCells}
+use Rattle.unit_cells.specs.Cells.{AreUnitCellsOf, CellsValue, cells_claim, cells_reported}
 use Rattle.ru_reports.specs.Symbols.{CountsTold, ReportsTold, StopsAtCell, cell_in, left_at, left_told}
 use Rattle.ru_reports.specs.Tellings.{StopsAtPrb, StopsInOne, lent_below, lent_told}
 use Rattle.ru_reports.proofs.CountLemmas.{counts_none, counts_then}
@@ -23,8 +25,8 @@ use Rattle.ru_reports.proofs.CountLemmas.{counts_none, counts_then}
 -- ---- one PRB more
 
 module _ {A : Type 0} (grew : A → List Event → A → Type 0) (cells : SymbolCells) (m : SymbolStart) where
-  pub heard_none : (a : A) → grew a [] a → grew a (map Reported (lent_below cells m 0)) a
-  heard_none a none = subst (λ (told : List AirCell). grew a (map Reported told) a) (sym (each_zero 0 (lent_told cells m))) none
+  pub heard_none : (n : ℕ) (a : A) → lent_below cells m n ≡ [] → grew a [] a → grew a (map Reported (lent_below cells m n)) a
+  heard_none n a empty none = subst (λ (told : List AirCell). grew a (map Reported told) a) (sym empty) none
 
   pub heard_more : (more : (a b c : A) (first second : List Event) → grew a first b → grew b second c → grew a (first ++ second) c)
       (n : ℕ) (a b c : A) → grew a (map Reported (lent_below cells m n)) b → grew b (map Reported (lent_told cells m n)) c → grew a (map Reported (lent_below cells m (n + 1))) c
@@ -44,13 +46,46 @@ module _ {A : Type 0} (grew : A → List Event → A → Type 0) (cells : Symbol
     stop = stop.stop;
   }
 
-pub counts_zero : (cells : SymbolCells) (m : SymbolStart) (counts : List ℕ) → CountsTold (lent_below cells m 0) counts counts
-counts_zero cells m counts = subst (λ (told : List AirCell). CountsTold told counts counts) (sym (each_zero 0 (lent_told cells m))) (counts_none counts)
+pub counts_zero : (told : List AirCell) (counts : List ℕ) → told ≡ [] → CountsTold told counts counts
+counts_zero told counts empty = subst (λ (xs : List AirCell). CountsTold xs counts counts) (sym empty) (counts_none counts)
 
 pub counts_more : (cells : SymbolCells) (m : SymbolStart) (n : ℕ) (old middle new : List ℕ) → CountsTold (lent_below cells m n) old middle → CountsTold (lent_told cells m n) middle new
     → CountsTold (lent_below cells m (n + 1)) old new
 counts_more cells m n old middle new before told =
     subst (λ (xs : List AirCell). CountsTold xs old new) (sym (each_more n (lent_told cells m))) (counts_then (lent_below cells m n) (lent_told cells m n) old middle new before told)
+
+-- ---- the PRBs outside of which no cell is in use
+
+not_used : (b : Bool) → not b ≡ false → b ≡ true
+not_used true e = refl
+not_used false e = cc
+
+none_told : (from n : ℕ) (f : ℕ → List AirCell) → ((k : ℕ) → from ≤ k → k < from + n → f k ≡ []) → each from n f ≡ []
+none_told from n f none = each_same from n f (λ k. []) none ∙ each_none from n (λ k. []) (λ k. refl)
+
+module _ (cells : SymbolCells) (m : SymbolStart) (within : cells.span.end ≤ m.endpoint.prbs)
+    (unused : (prb : ℕ) → prb < m.endpoint.prbs → (cells.span.first ≤ prb → cells.span.end ≤ prb) → is_in_use (lent_claim cells prb) ≡ false) where
+  outside_none : (prb : ℕ) → prb < m.endpoint.prbs → (cells.span.first ≤ prb → cells.span.end ≤ prb) → lent_told cells m prb ≡ []
+  outside_none prb below outside = elim (cases_Bool (lent_reported cells prb)) [
+    | inl reported ↦ rw reported refl
+    | inr fresh ↦
+        let idle : (used_mask (lent_claim cells prb) == 0) ≡ true = not_used (used_mask (lent_claim cells prb) == 0) (unused prb below outside) in
+        rw (fresh, idle) refl
+  ]
+
+  pub none_before : (n : ℕ) → n ≤ cells.span.first → n ≤ cells.span.end → lent_below cells m n ≡ []
+  none_before n low high = none_told 0 n (lent_told cells m) (λ k above below.
+      outside_none k (omega (arith, below, high, within)) (λ from. omega (arith, from, below, low)))
+
+  pub none_behind : (n : ℕ) → cells.span.end ≤ n → n ≤ m.endpoint.prbs → lent_below cells m n ≡ lent_below cells m m.endpoint.prbs
+  none_behind n low high =
+      let count : m.endpoint.prbs ≡ n + (m.endpoint.prbs - n) = omega (arith, high) in
+      sym (ap (λ (k : ℕ). lent_below cells m k) count
+      ∙ each_split 0 n (m.endpoint.prbs - n) (lent_told cells m)
+      ∙ ap (λ (xs : List AirCell). lent_below cells m n ++ xs)
+      (none_told (0 + n) (m.endpoint.prbs - n) (lent_told cells m) (λ k above below.
+      outside_none k (omega (arith, below, high)) (λ from. omega (arith, above, low))))
+      ∙ append-nil (lent_below cells m n))
 
 -- ---- what was lent is what the rings answer
 

@@ -1,9 +1,11 @@
 // The report of a symbol.
-ghost use Rattle.std.specs.Prelude.{◌≡◌, ◌<◌, ◌≤◌, [], ◌∷◌, IfErr, OnOk, map, option_to_list};
+ghost use Rattle.std.specs.Prelude.{◌≡◌, ℕ, ◌<◌, ◌≤◌, [], ◌∷◌, IfErr, OnOk, false, map, option_to_list};
 ghost use Rattle.air_source.specs.Causes.{HasAirCause};
 ghost use Rattle.air_source.specs.declared.events.Event.TheVariants.{Cell as Reported};
 ghost use Rattle.ru_reports.specs.Symbols.{CountsTold, ReportsTold, StopsAtCell, left_at};
 ghost use Rattle.symbol_search.specs.Symbols.{IsSymbol};
+ghost use Rattle.slot_rings.specs.Places.{is_in_use};
+ghost use Rattle.slot_rings.specs.Symbols.{lent_claim};
 ghost use Rattle.ru_reports.specs.Tellings.{StopsAtPrb, StopsInOne, lent_below, lent_told};
 
 use air_source::{Air, AirCell, AirFault, Side};
@@ -67,13 +69,16 @@ fn tell_cell<A: Air>(
     }
 }
 
-/// Hands an air the cells of a symbol, and counts those that it heard.
+/// Hands an air the cells of a symbol, and counts those that it heard. It looks at no PRB outside of those where cells are in use.
 fn tell_cells<A: Air>(
     cells: &SymbolCells<'_>,
     counters: &mut Counters,
     m: &SymbolStart,
     air: &mut A,
 ) -> Telling
+    requires span { cells.now.span.end ≤ m.now.endpoint.prbs }
+    requires unused { (prb : ℕ) → prb < m.now.endpoint.prbs → (cells.now.span.first ≤ prb → cells.now.span.end ≤ prb)
+        → is_in_use (lent_claim cells.now prb) ≡ false }
     ensures within { result.prbs ≤ m.now.endpoint.prbs }
     ensures all { OnOk result.answer (result.prbs ≡ m.now.endpoint.prbs) }
     ensures heard { OnOk result.answer (A.grew air.old (map Reported (lent_below cells.now m.now result.prbs)) air.new) }
@@ -82,8 +87,9 @@ fn tell_cells<A: Air>(
     ensures same { A.same air.old air.new }
     ensures cause { HasAirCause (A.faults air.old) (A.faults air.new) result.answer }
 {
-    let prbs = m.endpoint.prbs;
-    for prb in 0..prbs {
+    let end = cells.span.end;
+    let first = cells.span.first.min(end);
+    for prb in first..end {
         match tell_cell(cells, counters, m, prb, air) {
             Ok(()) => {}
             Err(fault) => {
@@ -95,7 +101,7 @@ fn tell_cells<A: Air>(
         }
     }
     Telling {
-        prbs,
+        prbs: m.endpoint.prbs,
         answer: Ok(()),
     }
 }

@@ -18,6 +18,12 @@ set_used_reported-requires-clause-cells g c = record {
   prbs = omega (arith, c.tell_cells-told.ensures.within);
 }
 
+pub tell_cells-told-requires-clause-span : goal.tell_cells-told-requires-clause-span
+tell_cells-told-requires-clause-span g c = c.symbol_cells-lent.ensures.within c.args.m.now.endpoint c.requires.at
+
+pub tell_cells-told-requires-clause-unused : goal.tell_cells-told-requires-clause-unused
+tell_cells-told-requires-clause-unused g c prb below outside = c.symbol_cells-lent.ensures.unused c.args.m.now.endpoint prb c.requires.at below outside
+
 -- those that the air heard are set as reported
 was_reported : (g : Over) (c : After-set_used_reported g) → ReportsTold c.args.m.now (left_below c.args.cells.now c.args.m.now c.tell_cells-told.result.prbs) c.args.cells.now c.set_used_reported.new.self
 was_reported g c = record {
