@@ -90,7 +90,23 @@ fn first_in_place<'c, T: SymbolTest<'c>>(
     }
 }
 
-/// Makes the best symbol so far the first of it and those of an endpoint that fit. It is written only where one comes before it.
+/// Makes the best symbol so far the first of it and those of an endpoint that fit, by a look at each of its places.
+fn first_in_places<'c, T: SymbolTest<'c>>(
+    cells: &'c UnitCells,
+    test: &T,
+    ep: usize,
+    best: &mut Option<SymbolStart>,
+)
+    requires { ep < length (endpoints_of cells.now) }
+    ensures { Searched cells.now (T.fits test.now cells.now) (OfEndpoint ep) best.old best.new }
+{
+    let endpoint = cells.endpoint(ep);
+    for index in 0..cells.places(ep) {
+        first_in_place(cells, test, ep, endpoint, index, best);
+    }
+}
+
+/// The same, by a look at no place where none of the endpoint's symbols comes before the best one.
 fn first_in_ring<'c, T: SymbolTest<'c>>(
     cells: &'c UnitCells,
     test: &T,
@@ -106,10 +122,7 @@ fn first_in_ring<'c, T: SymbolTest<'c>>(
     if is_passed(best, ep, start) {
         return;
     }
-    let endpoint = cells.endpoint(ep);
-    for index in 0..cells.places(ep) {
-        first_in_place(cells, test, ep, endpoint, index, best);
-    }
+    first_in_places(cells, test, ep, best);
 }
 
 /// The endpoint with which a search begins: the one whose symbols may fit first. So most others are passed over.
