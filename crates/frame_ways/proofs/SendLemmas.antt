@@ -5,6 +5,7 @@ use Rattle.std.proofs.lemmas.List.Elements.{All-head, All-nil, All-tail}
 use Rattle.std.specs.Borrow.{Bor}
 use Rattle.std.specs.Int.Signed.{≤ℤ_refl}
 use Rattle.air_source.specs.declared.events.Side.{Side}
+use Rattle.frame_deliveries.specs.Copies.{DeliveriesTo, deliveries_to}
 use Rattle.frame_deliveries.specs.Landing.{arrival_at, copies_among, copies_in, injected_to, landing_at}
 use Rattle.frame_deliveries.specs.Leaving.{Delayed, Leaving, SentCounts, counted, delayed, none_sent}
 use Rattle.frame_deliveries.specs.fh_document.specs.Proper.{IsDocument}
@@ -23,7 +24,7 @@ use Rattle.frame_ways.specs.Counts.{IsTally}
 use Rattle.frame_ways.specs.Flying.{AreFlyingFrom, IsSentBefore, flying_at, flying_copies, put_all}
 use Rattle.frame_ways.specs.Landed.{bytes_of}
 use Rattle.frame_ways.specs.Listed.{AreFrom, frame_at, injected_frame, injections_in, injections_to, landings_left, time_of}
-use Rattle.frame_ways.specs.Ways.{HasLanded, Keeps, Lands, LandsFrom, LandsNext, OnWay, StandsFor, coming_at, copies_on, counts_on, having_sent, landings_on, nothing_sent}
+use Rattle.frame_ways.specs.Ways.{HasLanded, Keeps, Lands, LandsFrom, LandsNext, OnWay, StandsFor, coming_at, copies_on, counts_on, having_sent, landings_on, nothing_sent, side_of}
 use Rattle.frame_ways.proofs.ComingLemmas.{all_come}
 use Rattle.frame_ways.proofs.FlightLemmas.{are_put, copies_from, landing-append, put_later}
 use Rattle.frame_ways.proofs.LandLemmas.{flying_here, flying_later, flying_none, later_from, left_first, left_later, left_none, refused_from, taken_all}
@@ -35,19 +36,18 @@ use Rattle.fh_time.specs.declared.nanoseconds.TheConstants.{NANOSECOND}
 
 -- all but what is on its way, and how many were sent, is as it was
 pub record IsSameBut (w x : Way) : Type 0 where
-  pub unit : x.side ≡ w.side
   pub deliveries : x.deliveries ≡ w.deliveries
   pub injections : x.injections ≡ w.injections
 
 -- ---- nothing was sent
 
-pub starts : (d : Document) (side : Side) (times : List Ticks) (w : Way) → IsDocument d → w.deliveries ≡ d → w.side ≡ side → injections_in w.injections.items ≡ injections_to side d
+pub starts : (d : Document) (side : Side) (times : List Ticks) (w : Way) → IsDocument d → w.deliveries ≡ deliveries_to d side → injections_in w.injections.items ≡ injections_to side d
     → times ≡ map time_of (injections_in w.injections.items) → ((t : ℤ) → at_time t w.listed ≡ at_time t (enumerated times)) → All (IsPlaced times) w.listed → w.in_flight ≡ []
     → IsTally none_sent w.tally → (now : ℤ) → now ≤ℤ pos 0 → StandsFor (nothing_sent d side) now w
-starts d side times w doc deliveries unit injections are same placed empty tally now early = record {
+starts d side times w doc deliveries injections are same placed empty tally now early = record {
   read = doc;
-  document = deliveries;
-  unit = unit;
+  document = ap (λ (x : DeliveriesTo). x.document) deliveries;
+  unit = ap (λ (x : DeliveriesTo). x.side) deliveries;
   injections = injections;
   tally = tally;
   flies = λ t low. ap (flying_at t) empty ∙ sym (ap (λ (xs : List Delayed). landing_at (copies_among xs) t) (none_behind d side none_sent));
@@ -64,7 +64,7 @@ starts d side times w doc deliveries unit injections are same placed empty tally
 pub record HasLeft (d : Document) (side : Side) (m : SentCounts) (f : Leaving) (w x : Way) : Type 0 where
   pub departure : Departure
   pub delays : List ℤ
-  pub unit : departure.side ≡ w.side
+  pub unit : departure.side ≡ side_of w
   pub at : departure.at.0 ≡ f.at
   pub place : departure.place ≡ w.place
   pub short : length f.frame < 2 ^ 32
@@ -97,8 +97,8 @@ goes_out v now f w x lands h g =
     let place : x.place ≡ y.place + 1 = g.next ∙ ap (λ (p : ℕ). p + 1) (sym g.place) in
     record {
       read = h.read;
-      document = g.same.deliveries ∙ h.document;
-      unit = g.same.unit ∙ h.unit;
+      document = ap (λ (x : DeliveriesTo). x.document) g.same.deliveries ∙ h.document;
+      unit = ap (λ (x : DeliveriesTo). x.side) g.same.deliveries ∙ h.unit;
       injections = ap (λ v. injections_in v.items) g.same.injections ∙ h.injections;
       tally = subst (λ (n : SentCounts). IsTally n x.tally) (sym (counted_one v f)) g.tally;
       flies = λ t low.
@@ -174,8 +174,8 @@ sent_lands v tick gone a w x same tally place listed is due l =
     (All-head (IsSentBefore v.side w.place 0) a x.in_flight sent).short
     (record {
       read = h.read;
-      document = same.deliveries ∙ h.document;
-      unit = same.unit ∙ h.unit;
+      document = ap (λ (x : DeliveriesTo). x.document) same.deliveries ∙ h.document;
+      unit = ap (λ (x : DeliveriesTo). x.side) same.deliveries ∙ h.unit;
       injections = ap (λ v. injections_in v.items) same.injections ∙ h.injections;
       tally = subst (IsTally (counts_on v)) (sym tally) h.tally;
       flies = λ t low. sym (ap (flying_at t) is ∙ flying_later tick.0 t a x.in_flight at low) ∙ h.flies t low;
@@ -202,8 +202,8 @@ listed_lands v tick gone index r bytes w x same tally place flying later is foun
     (subst (λ (xs : List ℕ). length xs < 2 ^ 32) (sym lent) (short_at d v.side index r.now h.read here))
     (record {
       read = h.read;
-      document = same.deliveries ∙ h.document;
-      unit = same.unit ∙ h.unit;
+      document = ap (λ (x : DeliveriesTo). x.document) same.deliveries ∙ h.document;
+      unit = ap (λ (x : DeliveriesTo). x.side) same.deliveries ∙ h.unit;
       injections = ap (λ v. injections_in v.items) same.injections ∙ h.injections;
       tally = subst (IsTally (counts_on v)) (sym tally) h.tally;
       flies = λ t low. ap (flying_at t) flying ∙ h.flies t low;
@@ -226,8 +226,8 @@ none_lands v tick gone w x same tally place flying later listed up other l =
       all = l.parts ∙ ap₂ (λ (xs ys : List Arrival). gone ++ (xs ++ ys)) (flying_none tick.0 w.in_flight empty) (left_none d v.side tick.0 w.listed wait) ∙ append-nil gone;
       stands = record {
         read = h.read;
-        document = same.deliveries ∙ h.document;
-        unit = same.unit ∙ h.unit;
+        document = ap (λ (x : DeliveriesTo). x.document) same.deliveries ∙ h.document;
+        unit = ap (λ (x : DeliveriesTo). x.side) same.deliveries ∙ h.unit;
         injections = ap (λ v. injections_in v.items) same.injections ∙ h.injections;
         tally = subst (IsTally (counts_on v)) (sym tally) h.tally;
         flies = λ t low. ap (flying_at t) flying ∙ h.flies t low;

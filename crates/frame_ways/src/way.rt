@@ -21,7 +21,6 @@ use std::alloc::Global;
 /// `specs/Ways.antt`): what lands of them, and of what the document injects, is `landings_on`.
 #[derive(Drop)]
 pub struct Way<'a> {
-    side: Side,
     deliveries: FrameDeliveries<'a>,
     /// The frames that the document injects to the unit, in its order.
     injections: Vec<&'a Injection>,
@@ -52,14 +51,13 @@ impl<'a> Way<'a> {
         requires { IsDocument doc.now }
         ensures { IfOk result (λ w. (now : ℤ) → now ≤ℤ pos 0 → StandsFor (nothing_sent doc.now side) now w) }
     {
-        let deliveries = FrameDeliveries::make(alloc, doc)?;
+        let deliveries = FrameDeliveries::make(alloc, doc, side)?;
         let times = times_to(alloc, doc, side)?;
         let listed = LandingQueue::make(alloc, times.as_slice())?;
         // before the list of frames is made: only inside of `times_to` both are held
         drop(times);
         let injections = injections_to(alloc, doc, side)?;
         Ok(Way {
-            side,
             deliveries,
             injections,
             listed,
@@ -122,9 +120,9 @@ impl<'a> Way<'a> {
             return Err(NoMemory);
         };
         let k = self.tally.count(class);
-        let delays = self.deliveries.copies(self.side, class, k);
+        let delays = self.deliveries.copies(class, k);
         let departure = Departure {
-            side: self.side,
+            side: self.deliveries.side(),
             at,
             place: self.place,
         };

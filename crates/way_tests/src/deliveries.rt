@@ -10,7 +10,8 @@ fn copies_are_those_of_the_line(rt: HostRuntime) -> Result<(), Fail> {
         deliver dl u 7 9 4 4\ndeliver ul u 7 1\ndeliver dl u 6 0\ndeliver dl c 7\ndeliver ul c 7 2 3\n\
         deliver dl m 7 1 3000000000\ndeliver dl u 9999999 1 2 3 4 5 6 7 8\ndeliver dl u 2 20\n";
     let document = read(rt.alloc(), text.as_slice()).expect(&rt, "read");
-    let deliveries = FrameDeliveries::make(rt.alloc(), &document)?;
+    let down = FrameDeliveries::make(rt.alloc(), &document, Side::Ru)?;
+    let up = FrameDeliveries::make(rt.alloc(), &document, Side::Du)?;
     let cases: [(Side, TrafficClass, u32, &[i64]); 16] = [
         (Side::Ru, TrafficClass::U, 7, &[9, 4, 4]),
         (Side::Ru, TrafficClass::U, 6, &[0]),
@@ -35,7 +36,11 @@ fn copies_are_those_of_the_line(rt: HostRuntime) -> Result<(), Fail> {
         (Side::Ru, TrafficClass::U, 4_294_967_295, &[51]),
     ];
     for (side, class, k, times) in cases {
-        assert_eq!(rt; deliveries.copies(side, class, k), times);
+        let deliveries = match side {
+            Side::Ru => &down,
+            Side::Du => &up,
+        };
+        assert_eq!(rt; deliveries.copies(class, k), times);
     }
     Ok(())
 }
@@ -43,10 +48,10 @@ fn copies_are_those_of_the_line(rt: HostRuntime) -> Result<(), Fail> {
 #[test]
 fn a_frame_comes_once_where_no_line_stands(rt: HostRuntime) -> Result<(), Fail> {
     let document = read(rt.alloc(), b"fronthaul 1\n".as_slice()).expect(&rt, "read");
-    let deliveries = FrameDeliveries::make(rt.alloc(), &document)?;
     for side in [Side::Ru, Side::Du] {
+        let deliveries = FrameDeliveries::make(rt.alloc(), &document, side)?;
         for class in [TrafficClass::C, TrafficClass::U, TrafficClass::M] {
-            assert_eq!(rt; deliveries.copies(side, class, 1), [50_000].as_slice());
+            assert_eq!(rt; deliveries.copies(class, 1), [50_000].as_slice());
         }
     }
     Ok(())
