@@ -12,7 +12,7 @@ use Rattle.owed_bytes.proofs.Telling.{front_before}
 use Rattle.fh_document.specs.Proper.{IsDocument}
 use Rattle.fh_document.specs.declared.delivered.TrafficClass.{TrafficClass}
 use Rattle.fh_document.specs.declared.document.Document.{Document}
-use Rattle.frame_deliveries.specs.Copies.{copies_of}
+use Rattle.frame_deliveries.specs.Copies.{DeliveriesTo, copies_of, deliveries_to}
 use Rattle.fragment_laws.specs.Apart.{IsIn}
 use Rattle.frame_order.specs.Queues.{Gives, StandsFor}
 use Rattle.frame_order.specs.declared.queue.Queue.{Queue}
@@ -120,15 +120,15 @@ module _ (d : Document) (is : IsDocument d) (valid : IsValid d.config d.plan) (t
       subst (λ (c : TrafficClass). HasCounted c t new k → IsTally (with_frame n.f s.counts) new × (k ≡ number_of n.f (with_frame n.f s.counts))) (sym (class_is ∙ same_class)) (λ h. h s.counts s.tally) has
 
   -- the line that is told is the frame's
-  line_told : (class : TrafficClass) (new : Tally) (k : ℕ) (frame : FrameLine) (e : Document) (copies : List ℤ) → class ≡ turn_class turn → HasCounted class t new k → frame ≡ line_for d k n.f
-      → e ≡ d → copies ≡ copies_of e Ru class k → frame_line_text frame copies ≡ row_text (row_of d (with_frame n.f s.counts) n.f)
+  line_told : (class : TrafficClass) (new : Tally) (k : ℕ) (frame : FrameLine) (e : DeliveriesTo) (copies : List ℤ) → class ≡ turn_class turn → HasCounted class t new k → frame ≡ line_for d k n.f
+      → e ≡ deliveries_to d Ru → copies ≡ copies_of e.document e.side class k → frame_line_text frame copies ≡ row_text (row_of d (with_frame n.f s.counts) n.f)
   line_told class new k frame e copies class_is has frame_is of_d copies_is =
       let number = (counted_is class new k class_is has).1 in
       ap₂ (λ (x : FrameLine) (cs : List ℤ). frame_line_text x cs) (frame_is ∙ ap (λ (i : ℕ). line_for d i n.f) number)
-      (copies_is ∙ ap (λ (x : Document). copies_of x Ru class k) of_d ∙ ap₂ (λ (c : TrafficClass) (i : ℕ). copies_of d Ru c i) (class_is ∙ same_class) number)
+      (copies_is ∙ ap (λ (x : DeliveriesTo). copies_of x.document x.side class k) of_d ∙ ap₂ (λ (c : TrafficClass) (i : ℕ). copies_of d Ru c i) (class_is ∙ same_class) number)
 
-  pub text_told : (class : TrafficClass) (new : Tally) (k : ℕ) (frame : FrameLine) (e : Document) (copies : List ℤ) → class ≡ turn_class turn → HasCounted class t new k
-      → ((f : SentFrame) → IsTurnFor d f turn → frame ≡ line_for d k f) → e ≡ d → copies ≡ copies_of e Ru class k
+  pub text_told : (class : TrafficClass) (new : Tally) (k : ℕ) (frame : FrameLine) (e : DeliveriesTo) (copies : List ℤ) → class ≡ turn_class turn → HasCounted class t new k
+      → ((f : SentFrame) → IsTurnFor d f turn → frame ≡ line_for d k f) → e ≡ deliveries_to d Ru → copies ≡ copies_of e.document e.side class k
       → frame_line_text frame copies ≡ row_text (row_of d (with_frame n.f s.counts) n.f)
   text_told class new k frame e copies class_is has frame_is of_d copies_is = line_told class new k frame e copies class_is has (frame_is n.f turn_for) of_d copies_is
 

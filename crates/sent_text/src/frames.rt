@@ -1,6 +1,5 @@
 // What is told of a frame, and its copies.
 ghost use Rattle.std.specs.Prelude.{◌≡◌, ◌≢◌, ◌≤◌, min, length, slice_index};
-ghost use Rattle.air_source.specs.declared.events.Side.TheVariants.{Ru};
 ghost use Rattle.fh_document.specs.Proper.{IsDocument};
 ghost use Rattle.fh_document.specs.declared.delivered.TrafficClass.TheVariants.{M};
 ghost use Rattle.frame_deliveries.specs.Copies.{copies_of as copies_in};
@@ -10,7 +9,6 @@ ghost use Rattle.sent_text.specs.Frames.{IsTabled, IsTurnFor, turn_class};
 ghost use Rattle.sent_text.specs.Rows.{line_for};
 
 use crate::sizes::{line_at, piece_of};
-use air_source::Side;
 use fh_base::List;
 use fh_document::{Document, TrafficClass};
 use frame_deliveries::FrameDeliveries;
@@ -93,9 +91,9 @@ pub(crate) fn copies_of<'a>(
     class: TrafficClass,
     number: u64,
 ) -> &'a [i64]
-    requires { IsDocument deliveries.now }
-    ensures times { result.now ≡ copies_in deliveries.now Ru class number }
+    requires { IsDocument deliveries.now.document }
+    ensures times { result.now ≡ copies_in deliveries.now.document deliveries.now.side class number }
     ensures few { length result.now ≤ 8 }
 {
-    deliveries.copies(Side::Ru, class, capped(number))
+    deliveries.copies(class, capped(number))
 }

@@ -2,10 +2,12 @@
 ghost use Rattle.std.specs.Prelude.{◌≡◌, ◌≤◌, ◌++◌, length, map, OnErr, OnOk};
 ghost use Rattle.std.specs.Io.KnownBytes.{append_known};
 ghost use Rattle.std.specs.List.{flat_map};
+ghost use Rattle.air_source.specs.declared.events.Side.TheVariants.{Ru};
 ghost use Rattle.document_traffic.specs.Sending.{lines_of, sent_for};
 ghost use Rattle.fh_base.specs.Causes.{Counts, HasSinkCause, has_failed};
 ghost use Rattle.fh_base.specs.Told.{WritesFront, WritesPart};
 ghost use Rattle.fh_document.specs.Proper.{IsDocument};
+ghost use Rattle.frame_deliveries.specs.Copies.{deliveries_to};
 ghost use Rattle.frame_order.specs.Queues.{IsQueue, StandsFor};
 ghost use Rattle.owed_bytes.specs.Owed.{Carried};
 ghost use Rattle.plan_model.specs.Valid.{IsValid};
@@ -18,6 +20,7 @@ ghost use Rattle.sent_text.specs.Text.{row_text, sent_text};
 
 use crate::frames::{class_of, copies_of, told};
 use crate::tally::Tally;
+use air_source::Side;
 use du_scheduler::planned_lines;
 use fh_base::{Sink, SinkFault};
 use fh_document::Document;
@@ -58,7 +61,7 @@ fn tell_frames<K: Sink>(
     requires document { IsDocument document.now }
     requires valid { IsValid document.now.config document.now.plan }
     requires table { IsTable document.now.config (lines_of document.now) table.now }
-    requires deliveries { deliveries.now ≡ document.now }
+    requires deliveries { deliveries.now ≡ deliveries_to document.now Ru }
     requires queue { IsQueue queue.old }
     requires stands { StandsFor queue.old (map turn_of (sent_for document.now)) }
     ensures carried { OnOk result (Carried (K.written out.old) owed.old (flat_map row_text (rows_of document.now)) (K.written out.new) owed.new) }
@@ -93,7 +96,7 @@ fn tell_plan<K: Sink>(
 {
     let lines = planned_lines(alloc, document.config.endpoints.as_slice(), &document.plan)?;
     let (table, mut queue) = Table::make(alloc, &document.config, &lines)?;
-    let deliveries = FrameDeliveries::make(alloc, document)?;
+    let deliveries = FrameDeliveries::make(alloc, document, Side::Ru)?;
     tell_frames(document, &table, &deliveries, &mut queue, owed, out)
 }
 
