@@ -12,7 +12,7 @@ mod spacing;
 mod symbols;
 mod values;
 
-pub use carrier::{CARRIER_PRBS, prb_span};
+pub use carrier::{CARRIER_PRBS, PrbSpan, is_outside, prb_span};
 pub use frames::{FIRST_CLOCK, FRAME, HALF_CYCLE, resolve};
 pub use nanoseconds::{END_OF_TIME, LAST_TIME, NANOSECOND, of_ns};
 pub use numerology::Numerology;
