@@ -15,6 +15,7 @@ mod jobs;
 mod meeting;
 mod samples;
 mod slots;
+mod spans;
 mod symbol_start;
 mod takes_frames;
 mod uplink;
