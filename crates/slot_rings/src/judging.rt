@@ -19,29 +19,21 @@ use unit_model::{Allocation, CommandVerdict, SLOT_SECTIONS};
 pub(crate) fn first_prb(a: &Allocation) -> usize
     ensures { result ≡ first_prb a.now }
 {
-    if a.num_prb == 0 {
-        0
-    } else {
-        a.start_prb as usize
-    }
+    a.prbs().first as usize
 }
 
 /// How many PRBs it covers.
 pub(crate) fn prb_count(a: &Allocation) -> usize
     ensures { result ≡ prb_count a.now }
 {
-    if a.num_prb == 0 {
-        a.endpoint.prbs as usize
-    } else {
-        a.num_prb as usize
-    }
+    a.prbs().count as usize
 }
 
 /// Whether it goes past its carrier.
 fn is_outside(a: &Allocation) -> bool
     ensures { result ≡ is_outside a.now.endpoint.prbs a.now.start_prb a.now.num_prb }
 {
-    a.num_prb != 0 && u32::from(a.endpoint.prbs) < u32::from(a.start_prb) + u32::from(a.num_prb)
+    fh_time::is_outside(a.start_prb, a.num_prb, a.endpoint.prbs)
 }
 
 /// Whether the radio unit sends data for it.

@@ -176,14 +176,10 @@ pub(crate) fn row_at(rows: &[Row], symbol: usize) -> Row
 fn run_of(a: &Allocation) -> Run
     ensures { result ≡ claimed_run a.now }
 {
-    let count = if a.num_prb == 0 {
-        a.endpoint.prbs
-    } else {
-        u16::from(a.num_prb)
-    };
+    let prbs = a.prbs();
     Run {
-        first: if a.num_prb == 0 { 0 } else { a.start_prb },
-        count,
+        first: prbs.first,
+        count: prbs.count,
         id: a.section,
         claimed: a.mask,
     }
