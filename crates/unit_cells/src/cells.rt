@@ -25,7 +25,7 @@ ghost use Rattle.unit_model.specs.declared.uplink.TheConstants.{SLOT_SECTIONS};
 
 use crate::heading::DataHeading;
 use crate::rings::{fill, fill_run, make_ring, set_used_reported, take};
-use crate::sections::{data_class, data_slot, first_prb, prb_at, prb_count};
+use crate::sections::{data_class, data_slot, prb_at};
 use air_source::Side;
 use bfp_codec::{Method, Wide};
 use fh_base::NoMemory;
@@ -175,9 +175,8 @@ impl UnitCells {
             (λ prb. is_some (ring_block r (cell_at heading.now.ep true (data_slot (data_under heading.now [])) heading.now.section.symbol prb))) }
     {
         let slot = data_slot(heading);
-        let first = first_prb(heading);
-        let count = prb_count(heading);
-        self.rings[heading.ep].has_all(slot, heading.section.symbol, first, count)
+        let prbs = heading.prbs();
+        self.rings[heading.ep].has_all(slot, heading.section.symbol, prbs.first, prbs.count)
     }
 
     /// Gives a cell the samples of the PRB with number `k` of a section of data, 0 for its first one, where the section is on time

@@ -7,28 +7,20 @@ ghost use Rattle.unit_cells.specs.Headings.{IsSoundHeading, data_under};
 
 use crate::heading::DataHeading;
 use air_source::Side;
-use fh_time::{Slot, Ticks, air, resolve};
+use fh_time::{PrbSpan, Slot, Ticks, air, resolve};
 use window_config::{Class, Delays, class, class_up, data_window};
 
-/// The first PRB that a section has.
-pub(crate) fn first_prb(h: &DataHeading) -> u16
-    ensures { result ≡ first_data_prb (data_under h.now []) }
-{
-    if h.section.num_prb == 0 {
-        0
-    } else {
-        h.section.start_prb
-    }
-}
-
-/// How many PRBs it has.
-pub(crate) fn prb_count(h: &DataHeading) -> u16
-    ensures { result ≡ data_prb_count (data_under h.now []) }
-{
-    if h.section.num_prb == 0 {
-        h.endpoint.prbs
-    } else {
-        u16::from(h.section.num_prb)
+impl DataHeading {
+    /// The PRBs of its carrier that it has.
+    pub fn prbs(&self) -> PrbSpan
+        ensures first { result.first ≡ first_data_prb (data_under self.now []) }
+        ensures count { result.count ≡ data_prb_count (data_under self.now []) }
+    {
+        PrbSpan::named(
+            self.section.start_prb,
+            self.section.num_prb,
+            self.endpoint.prbs,
+        )
     }
 }
 
@@ -43,7 +35,7 @@ pub(crate) fn prb_at(h: &DataHeading, k: u16) -> u16
 {
     // the proof needs the range of this number
     let _carrier = h.endpoint.prbs;
-    first_prb(h) + k
+    h.prbs().first + k
 }
 
 /// The slot that it names, by the frame nearest to its last arrival.

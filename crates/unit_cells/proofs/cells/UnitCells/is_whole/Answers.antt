@@ -17,7 +17,7 @@ returns c r is =
     let there = ring_read c.self.inside.side c.self.inside.delays c.self.inside.rings.items c.args.self.now h.ep h.endpoint read c.self.view_is c.requires.endpoint c.index.ensures in
     let same : read ≡ r = some_equal read r (sym there ∙ is) in
     c.has_all.ensures h.ep
-    ∙ ap (λ (n : ℕ). every n c.prb_count-count.result (λ prb. is_some (ring_block read (cell_at h.ep true c.data_slot-slot.result h.section.symbol prb)))) c.first_prb-first.ensures
-    ∙ ap (λ (n : ℕ). every (first_data_prb (data_under h [])) n (λ prb. is_some (ring_block read (cell_at h.ep true c.data_slot-slot.result h.section.symbol prb)))) c.prb_count-count.ensures
+    ∙ ap (λ (n : ℕ). every n c.prbs-prbs.result.count (λ prb. is_some (ring_block read (cell_at h.ep true c.data_slot-slot.result h.section.symbol prb)))) c.prbs-prbs.ensures.first
+    ∙ ap (λ (n : ℕ). every (first_data_prb (data_under h [])) n (λ prb. is_some (ring_block read (cell_at h.ep true c.data_slot-slot.result h.section.symbol prb)))) c.prbs-prbs.ensures.count
     ∙ ap (λ (s : Slot). every (first_data_prb (data_under h [])) (data_prb_count (data_under h [])) (λ prb. is_some (ring_block read (cell_at h.ep true s h.section.symbol prb)))) c.data_slot-slot.ensures.value
     ∙ ap (λ (x : RingValue). every (first_data_prb (data_under h [])) (data_prb_count (data_under h [])) (λ prb. is_some (ring_block x (cell_at h.ep true (data_slot (data_under h [])) h.section.symbol prb)))) same
