@@ -23,16 +23,6 @@ use unit_model::data_counter;
 use uplane_messages::DataWalk;
 use uplane_sections::UFeed;
 
-/// How many PRBs a section has.
-fn prb_count(heading: &DataHeading) -> u16
-    ensures { result ≡ data_prb_count (data_under heading.now []) }
-{
-    match heading.section.num_prb {
-        0 => heading.endpoint.prbs,
-        n => u16::from(n),
-    }
-}
-
 /// Gives the cell of PRB number `k` of a section its block, which comes next.
 fn fill_one(cells: &mut UnitCells, heading: &DataHeading, k: u16, walk: &mut DataWalk<'_>)
     requires heading { IsProperHeading cells.old.side (endpoints_of cells.old) heading.now }
@@ -81,7 +71,7 @@ fn fill_section(cells: &mut UnitCells, heading: &DataHeading, walk: &mut DataWal
     ensures delays { cells.new.delays ≡ cells.old.delays }
     ensures endpoints { endpoints_of cells.new ≡ endpoints_of cells.old }
 {
-    let count = prb_count(heading);
+    let count = heading.prbs().count;
     let mut k = 0;
     while k < count {
         k += fill_next(cells, heading, k, walk);
