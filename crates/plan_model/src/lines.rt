@@ -1,10 +1,11 @@
 // A line of a plan at its endpoint.
 ghost use Rattle.std.specs.Prelude.{◌≡◌, All, IfSome};
+ghost use Rattle.unit_model.specs.Claims.{first_prb, prb_count};
 ghost use Rattle.unit_model.specs.Proper.{IsAt};
 ghost use Rattle.plan_model.specs.Lines.{line_allocation, is_down_kind, is_idle_kind, planned_at};
 ghost use Rattle.plan_model.specs.Validity.{is_out_of_range};
 
-use fh_time::shape;
+use fh_time::{PrbSpan, is_outside, shape};
 use unit_model::Allocation;
 use window_config::{EndpointConfig, PlanKind, PlanLine};
 
@@ -17,6 +18,16 @@ pub struct PlannedLine {
     pub ep: usize,
     pub endpoint: EndpointConfig,
     pub line: PlanLine,
+}
+
+impl PlannedLine {
+    /// The PRBs of its carrier that it names.
+    pub fn prbs(&self) -> PrbSpan
+        ensures first { result.first ≡ first_prb (line_allocation self.now) }
+        ensures count { result.count ≡ prb_count (line_allocation self.now) }
+    {
+        PrbSpan::named(self.line.start_prb, self.line.num_prb, self.endpoint.prbs)
+    }
 }
 
 /// The line with this place in the list, at the endpoint with its eAxC id. None exactly where no endpoint has it.
@@ -89,7 +100,6 @@ pub fn is_out_of_range(e: &EndpointConfig, line: &PlanLine) -> bool
     shape.slots <= line.slot.slot
         || line.count == 0
         || u16::from(shape.symbols) < u16::from(line.symbol) + u16::from(line.count)
-        || (line.num_prb != 0
-            && u32::from(e.prbs) < u32::from(line.start_prb) + u32::from(line.num_prb))
+        || is_outside(line.start_prb, line.num_prb, e.prbs)
         || line.mask == 0
 }

@@ -5,6 +5,7 @@ ghost use Rattle.unit_model.specs.Terms.{piece_count};
 ghost use Rattle.plan_model.specs.Streams.{section_size};
 
 use bfp_codec::block_len;
+use fh_time::PrbSpan;
 use window_config::EndpointConfig;
 
 /// The bytes of a U-plane section with its headers and its PRBs, where numPrbu is this (O-RAN.WG4.CUS, U-plane sections).
@@ -14,12 +15,9 @@ pub fn section_size(e: &EndpointConfig, num_prb: u8) -> usize
     ensures small { result ≤ 13383 }
 {
     let headers = if e.format.dynamic { 6 } else { 4 };
-    let prbs = if num_prb == 0 {
-        e.prbs as usize
-    } else {
-        num_prb as usize
-    };
-    headers + prbs * block_len(e.format.method)
+    // (where they start makes no difference)
+    let prbs = PrbSpan::named(0, num_prb, e.prbs).count;
+    headers + prbs as usize * block_len(e.format.method)
 }
 
 /// How many frames carry a message of so many application bytes, each of which has `fragment` of them but the last.
