@@ -1,9 +1,8 @@
 -- Going over numbers, one at a time: what is left to go over, and what was passed.
-use Rattle.std.proofs.Common.{rules, ◌≡◌, ◌≢◌, ℕ, zero, suc, ◌+◌, ◌-◌, ◌<◌, ◌≤◌, arith, Bool, true, false, refl, sym, ap, subst, ◌∙◌}
+use Rattle.std.proofs.Common.{rules, ◌≡◌, ℕ, zero, suc, ◌+◌, ◌-◌, ◌<◌, ◌≤◌, arith, Bool, true, false, refl, sym, ap, subst, ◌∙◌}
 use Rattle.std.specs.Prelude.{◌==◌, if◌then◌else◌, ◌||◌, ◌&&◌, not, nat_lt, Option, Some, None, List}
 use Rattle.fh_time.specs.Carrier.{count_of, first_of, is_outside}
 use Rattle.std.specs.Option.{option_map}
-use Rattle.std.proofs.lemmas.Bool.{eqb-true}
 use Rattle.earlier_sections.specs.Blocks.{fresh_count, giver_of}
 use Rattle.earlier_sections.specs.declared.blocks.Given.{Given}
 use Rattle.explain_model.specs.Judged.{clash_at, clash_in, first_at, passing}
@@ -194,10 +193,3 @@ ends_within prbs start num within = by (num == 0) refl (nat_lt prbs (start + num
     by true zero_is past past_is h = omega (arith)
     by false zero_is true past_is h = search rules
     by false zero_is false past_is h = grind arith
-
-pub ends_some : (prbs start num : ℕ) → is_outside prbs start num ≡ false → num ≢ 0 → start + num ≤ prbs
-ends_some prbs start num within some_prbs = by (num == 0) refl (ends_within prbs start num within)
-  where
-    by : (none : Bool) → (num == 0) ≡ none → (if none then 0 else start) + (if none then prbs else num) ≤ prbs → start + num ≤ prbs
-    by true zero_is h = absurd (some_prbs (eqb-true num 0 zero_is))
-    by false zero_is h = h

@@ -1,8 +1,7 @@
 // What a section overlaps.
-ghost use Rattle.std.specs.Prelude.{◌≡◌, ◌+◌, ◌<◌, ◌∷◌, [], false, map, IfOk, OnOk};
+ghost use Rattle.std.specs.Prelude.{◌≡◌, ◌<◌, ◌∷◌, [], map, IfOk, OnOk};
 ghost use Rattle.std.specs.Option.{option_map};
 ghost use Rattle.earlier_sections.specs.Claims.{allocation_chain, first_id, is_clashing, slot_chain};
-ghost use Rattle.fh_time.specs.Carrier.{is_outside};
 ghost use Rattle.unit_model.specs.Lists.{onto};
 ghost use Rattle.explain_model.specs.Judged.{clash_at, clash_in, first_at};
 ghost use Rattle.unit_model.specs.Claims.{cell_of, claim_at, covers, first_prb, in_mask, is_overlapped, names, prb_count, same_way};
@@ -29,41 +28,11 @@ fn slot_chain(slot: &Slot) -> usize
     (frame * 16 + subframe) * 8 + (slot.slot % 8) as usize
 }
 
-// The first PRB of a section.
-fn first_prb(a: &Allocation) -> u16
-    ensures { result ≡ first_prb a.now }
-{
-    if a.num_prb == 0 { 0 } else { a.start_prb }
-}
-
-// How many PRBs it has.
-fn prb_count(a: &Allocation) -> u16
-    ensures { result ≡ prb_count a.now }
-{
-    if a.num_prb == 0 {
-        a.endpoint.prbs
-    } else {
-        u16::from(a.num_prb)
-    }
-}
-
-// The PRB behind its last one.
-#[tactic(auto, using(crate::proofs::RestLemmas::ends_some))]
-fn prb_end(a: &Allocation) -> u16
-    requires { is_outside a.now.endpoint.prbs a.now.start_prb a.now.num_prb ≡ false }
-    ensures { result ≡ first_prb a.now + prb_count a.now }
-{
-    if a.num_prb == 0 {
-        a.endpoint.prbs
-    } else {
-        a.start_prb + u16::from(a.num_prb)
-    }
-}
-
 // Whether an accepted section covers a cell of another one.
 fn covers(accepted: &Allocation, a: &Allocation, symbol: u8, prb: u16) -> bool
     ensures { result ≡ covers accepted.now (cell_of a.now symbol prb) }
 {
+    let prbs = accepted.prbs();
     accepted.ep == a.ep
         && accepted.down == a.down
         && same_slot(&accepted.slot, &a.slot)
@@ -72,7 +41,7 @@ fn covers(accepted: &Allocation, a: &Allocation, symbol: u8, prb: u16) -> bool
             u16::from(accepted.num_symbol),
             u16::from(symbol),
         )
-        && is_from(first_prb(accepted), prb_count(accepted), prb)
+        && is_from(prbs.first, prbs.count, prb)
 }
 
 // Whether a mask has an element.
@@ -211,14 +180,16 @@ impl Claims {
     }
 
     // The first cell of a symbol of a section that the section cannot have.
+    #[tactic(auto, using(crate::proofs::RestLemmas::ends_within))]
     fn clash_in(&self, a: &Allocation, symbol: u8) -> Option<Clash>
         requires { IsSoundAllocation a.now }
         ensures { result ≡ first_at (first_prb a.now) (prb_count a.now) (λ n. clash_at self.now a.now symbol n) }
     {
-        let first = first_prb(a);
-        let end = prb_end(a);
-        for k in 0..end - first {
-            if let Some(clash) = self.clash_at(a, symbol, first + k) {
+        // (the proof needs the range of this number)
+        let _carrier = a.endpoint.prbs;
+        let prbs = a.prbs();
+        for k in 0..prbs.count {
+            if let Some(clash) = self.clash_at(a, symbol, prbs.first + k) {
                 return Some(clash);
             }
         }

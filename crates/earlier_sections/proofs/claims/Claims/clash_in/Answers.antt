@@ -4,22 +4,19 @@ use Rattle.earlier_sections.proofs.RestLemmas.{first_ends_at, first_found, first
 use Rattle.unit_model.specs.Claims.{first_prb, prb_count}
 use Rattle.earlier_sections.proofs.claims.Claims.clash_in.Goals as goal
 
-pub overflow_add-first : goal.overflow_add-first
-overflow_add-first c = omega (arith, c.loop-k-test.true, c.prb_end-end.type_inv)
-
 pub returns-in-Some : goal.returns-in-Some
 returns-in-Some c =
     first_found (λ n. clash_at c.args.self.now c.args.a.now c.args.symbol n) (first_prb c.args.a.now) (prb_count c.args.a.now) c.loop-k.k _ c.in-Some.clash
-    (omega (arith, c.loop-k-test.true, c.prb_end-end.ensures, c.first_prb-first.ensures)) c.loop-k.invariant
-    (ap (λ (n : ℕ). clash_at c.args.self.now c.args.a.now c.args.symbol (n + c.loop-k.k)) (sym c.first_prb-first.ensures) ∙ sym c.in-Some.ensures)
+    (omega (arith, c.loop-k-test.true, c.prbs-prbs.ensures.count)) c.loop-k.invariant
+    (ap (λ (n : ℕ). clash_at c.args.self.now c.args.a.now c.args.symbol (n + c.loop-k.k)) (sym c.prbs-prbs.ensures.first) ∙ sym c.in-Some.ensures)
 
 pub loop-k-preserved : goal.loop-k-preserved
 loop-k-preserved c =
     first_goes (λ n. clash_at c.args.self.now c.args.a.now c.args.symbol n) (first_prb c.args.a.now) (prb_count c.args.a.now) c.loop-k.k _
-    (omega (arith, c.loop-k-test.true, c.prb_end-end.ensures, c.first_prb-first.ensures)) c.loop-k.invariant
-    (ap (λ (n : ℕ). clash_at c.args.self.now c.args.a.now c.args.symbol (n + c.loop-k.k)) (sym c.first_prb-first.ensures) ∙ sym c.in_default.ensures)
+    (omega (arith, c.loop-k-test.true, c.prbs-prbs.ensures.count)) c.loop-k.invariant
+    (ap (λ (n : ℕ). clash_at c.args.self.now c.args.a.now c.args.symbol (n + c.loop-k.k)) (sym c.prbs-prbs.ensures.first) ∙ sym c.in_default.ensures)
 
 pub returns : goal.returns
 returns c =
     first_ends_at (λ n. clash_at c.args.self.now c.args.a.now c.args.symbol n) (first_prb c.args.a.now) (prb_count c.args.a.now) c.loop-k.k _
-    (omega (arith, c.loop-k-test.false, c.loop-k.auto.k-end, c.prb_end-end.ensures, c.first_prb-first.ensures)) c.loop-k.invariant
+    (omega (arith, c.loop-k-test.false, c.loop-k.auto.k-end, c.prbs-prbs.ensures.count)) c.loop-k.invariant
