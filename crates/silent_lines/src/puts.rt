@@ -3,7 +3,6 @@ ghost use Rattle.std.specs.Prelude.{◌≡◌, ◌-◌, ◌<◌, ◌^◌, length
 ghost use Rattle.std.specs.List.{AllByRecursion};
 ghost use Rattle.std.specs.Option.{option_to_list};
 ghost use Rattle.air_source.specs.Causes.{HasAirCause};
-ghost use Rattle.unit_model.specs.Claims.{first_prb, prb_count};
 ghost use Rattle.plan_model.specs.Lines.{line_allocation};
 ghost use Rattle.explain_reasons.specs.Silent.{is_dl};
 ghost use Rattle.line_runs.specs.Runs.{HasPut, StopsPutting};
@@ -61,28 +60,6 @@ fn put_prb<W: LineSink>(
     }
 }
 
-/// The first PRB of a line.
-fn first_prb(p: &PlannedLine) -> u16
-    ensures { result ≡ first_prb (line_allocation p.now) }
-{
-    if p.line.num_prb == 0 {
-        0
-    } else {
-        p.line.start_prb
-    }
-}
-
-/// How many PRBs a line has.
-fn prb_count(p: &PlannedLine) -> u16
-    ensures { result ≡ prb_count (line_allocation p.now) }
-{
-    if p.line.num_prb == 0 {
-        p.endpoint.prbs
-    } else {
-        u16::from(p.line.num_prb)
-    }
-}
-
 /// Puts the PRBs of a symbol of a line.
 fn put_symbol<W: LineSink>(
     of: &LineSymbol,
@@ -97,8 +74,8 @@ fn put_symbol<W: LineSink>(
     ensures same { W.same out.old out.new }
     ensures cause { HasAirCause (W.faults out.old) (W.faults out.new) result }
 {
-    let first = first_prb(&of.planned);
-    for prb in first..first + prb_count(&of.planned) {
+    let prbs = of.planned.prbs();
+    for prb in prbs.first..prbs.first + prbs.count {
         match put_prb(of, commanded, cells, prb, lines, out) {
             Ok(()) => {}
             Err(fault) => return Err(fault),

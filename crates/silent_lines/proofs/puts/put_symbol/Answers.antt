@@ -9,7 +9,7 @@ use Rattle.silent_lines.proofs.puts.put_symbol.Goals as goal
 
 pub loop-prb-init : goal.loop-prb-init
 loop-prb-init g c = record {
-  put = each_none silent_related silent_line_of g.W.LineSink.grew c.first_prb-first.result (silent_items_at c.args.commanded.now c.args.cells.now c.args.of.now) c.first_prb-first.result refl c.args.lines.now c.args.out.now;
+  put = each_none silent_related silent_line_of g.W.LineSink.grew c.prbs-prbs.result.first (silent_items_at c.args.commanded.now c.args.cells.now c.args.of.now) c.prbs-prbs.result.first refl c.args.lines.now c.args.out.now;
   same = g.met.W.LineSink.same_none c.args.out.now;
   still = refl;
 }
@@ -17,7 +17,7 @@ loop-prb-init g c = record {
 pub loop-prb-preserved : goal.loop-prb-preserved
 loop-prb-preserved g c = record {
   put =
-      each_put silent_related silent_line_of g.W.LineSink.grew c.first_prb-first.result c.loop-prb.prb (silent_items_at c.args.commanded.now c.args.cells.now c.args.of.now) c.loop-prb.auto.prb
+      each_put silent_related silent_line_of g.W.LineSink.grew c.prbs-prbs.result.first c.loop-prb.prb (silent_items_at c.args.commanded.now c.args.cells.now c.args.of.now) c.loop-prb.auto.prb
       c.args.lines.now c.loop-prb.lines c.put_prb.new.lines c.args.out.now c.loop-prb.out c.put_prb.new.out c.loop-prb.invariant.put c.in-Ok.ensures.ok;
   same = g.met.W.LineSink.same_more _ _ _ c.loop-prb.invariant.same c.in-Ok.ensures.same;
   still = c.in-Ok.ensures.cause ∙ c.loop-prb.invariant.still;
@@ -25,9 +25,9 @@ loop-prb-preserved g c = record {
 
 pub returns-in-Err-clause-stop : goal.returns-in-Err-clause-stop
 returns-in-Err-clause-stop g c =
-    let e = ap₂ (λ first n. each first n (silent_items_at c.args.commanded.now c.args.cells.now c.args.of.now)) c.first_prb-first.ensures c.prb_count.ensures in
+    let e = ap₂ (λ first n. each first n (silent_items_at c.args.commanded.now c.args.cells.now c.args.of.now)) c.prbs-prbs.ensures.first c.prbs-prbs.ensures.count in
     subst (λ (xs : List SilentItem). StopsPutting silent_related silent_line_of g.W.LineSink.grew (g.W.LineSink.stopped c.in-Err.fault) xs c.args.lines.now c.args.out.now c.put_prb.new.out) e
-    (each_stop silent_related silent_line_of g.W.LineSink.grew (g.W.LineSink.stopped c.in-Err.fault) c.first_prb-first.result c.loop-prb.prb c.prb_count.result (silent_items_at c.args.commanded.now c.args.cells.now c.args.of.now) c.loop-prb.auto.prb c.loop-prb-test.true
+    (each_stop silent_related silent_line_of g.W.LineSink.grew (g.W.LineSink.stopped c.in-Err.fault) c.prbs-prbs.result.first c.loop-prb.prb c.prbs-prbs.result.count (silent_items_at c.args.commanded.now c.args.cells.now c.args.of.now) c.loop-prb.auto.prb c.loop-prb-test.true
     c.args.lines.now c.loop-prb.lines c.args.out.now c.loop-prb.out c.put_prb.new.out c.loop-prb.invariant.put c.in-Err.ensures.stop)
 
 pub returns-clause-ok : goal.returns-clause-ok
@@ -35,6 +35,6 @@ returns-clause-ok g c =
     let low = c.loop-prb.auto.prb in
     let most = c.loop-prb.auto.prb-end (omega arith) in
     let past = c.loop-prb-test.false in
-    let count : c.loop-prb.prb - c.first_prb-first.result ≡ c.prb_count.result = omega (arith, low, most, past) in
-    let e = ap₂ (λ first n. each first n (silent_items_at c.args.commanded.now c.args.cells.now c.args.of.now)) c.first_prb-first.ensures (count ∙ c.prb_count.ensures) in
+    let count : c.loop-prb.prb - c.prbs-prbs.result.first ≡ c.prbs-prbs.result.count = omega (arith, low, most, past) in
+    let e = ap₂ (λ first n. each first n (silent_items_at c.args.commanded.now c.args.cells.now c.args.of.now)) c.prbs-prbs.ensures.first (count ∙ c.prbs-prbs.ensures.count) in
     subst (λ (xs : List SilentItem). HasPut silent_related silent_line_of g.W.LineSink.grew xs c.args.lines.now c.args.out.now c.loop-prb.lines c.loop-prb.out) e c.loop-prb.invariant.put

@@ -6,7 +6,7 @@ use Rattle.silent_lines.proofs.puts.put_symbol.Given as goal
 
 abbrev pub invariant-loop-prb : goal.invariant-loop-prb
 invariant-loop-prb g l = record {
-  put : HasPut silent_related silent_line_of g.W.LineSink.grew (each l.first (l.prb - l.first) (silent_items_at l.commanded l.cells l.of)) l.initial.lines l.initial.out l.lines l.out;
+  put : HasPut silent_related silent_line_of g.W.LineSink.grew (each l.initial.prb (l.prb - l.initial.prb) (silent_items_at l.commanded l.cells l.of)) l.initial.lines l.initial.out l.lines l.out;
   same : g.W.LineSink.same l.initial.out l.out;
   still : g.W.LineSink.faults l.out ≡ g.W.LineSink.faults l.initial.out;
 }
