@@ -72,16 +72,12 @@ fn line_of(p: &PlannedLine) -> UplinkLine
     ensures { result ≡ line_of (line_allocation p.now) }
 {
     let line = &p.line;
-    let all = line.num_prb == 0;
+    let prbs = p.prbs();
     UplinkLine {
         ep: p.ep,
         slot: line.slot,
-        first_prb: if all { 0 } else { line.start_prb },
-        prbs: if all {
-            p.endpoint.prbs
-        } else {
-            u16::from(line.num_prb)
-        },
+        first_prb: prbs.first,
+        prbs: prbs.count,
         mask: line.mask,
         section: line.section,
         symbol: line.symbol,
