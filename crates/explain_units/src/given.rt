@@ -9,7 +9,7 @@ ghost use Rattle.unit_memory.specs.Judgements.{Given as GivenData};
 
 use earlier_sections::{Blocks, Given};
 use fh_base::NoMemory;
-use heard_lines::{first_given, given_count, heading_slot};
+use heard_lines::heading_slot;
 use unit_cells::DataHeading;
 use unit_model::DataVerdict;
 
@@ -30,12 +30,13 @@ fn given_of(number: u32, heading: &DataHeading) -> Given
     ensures within { result.first + result.count ≤ 65535 }
 {
     let _prbs = heading.endpoint.prbs;
+    let prbs = heading.prbs();
     Given {
         id: heading.endpoint.id,
         slot: heading_slot(heading),
         symbol: heading.section.symbol,
-        first: first_given(heading),
-        count: given_count(heading),
+        first: prbs.first,
+        count: prbs.count,
         number,
     }
 }

@@ -9,7 +9,7 @@ ghost use Rattle.unit_model.specs.Sound.{IsSoundCommand};
 ghost use Rattle.window_config.specs.Limits.{IsWithinLimits};
 
 use crate::naming::whole_symbol;
-use crate::timings::{control_timing, data_timing, first_given, given_count, heading_slot};
+use crate::timings::{control_timing, data_timing, heading_slot};
 use air_source::Side;
 use cplane_sections::CBody;
 use ecpri_fragments::SeqField;
@@ -168,12 +168,13 @@ pub fn data_line(
     requires sound { IsSoundHeading heading.now }
     ensures { result ≡ data_with side delays.now number heading.now verdict fresh }
 {
+    let prbs = heading.prbs();
     DataLine {
         number,
         place: data_place(heading),
         section: heading.section.id,
-        prb: first_given(heading),
-        num: given_count(heading),
+        prb: prbs.first,
+        num: prbs.count,
         verdict,
         timing: data_timing(side, delays, heading),
         fresh,

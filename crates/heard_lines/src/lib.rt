@@ -8,4 +8,4 @@ mod timings;
 
 pub use building::{control_line, data_line, fragment_line, message_line, whole_line};
 pub use naming::{symbol_named, whole_symbol};
-pub use timings::{control_timing, data_timing, first_given, given_count, heading_slot};
+pub use timings::{control_timing, data_timing, heading_slot};

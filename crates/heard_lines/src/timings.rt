@@ -1,6 +1,5 @@
 // How far a section is from the two ends of its window.
 ghost use Rattle.std.specs.Prelude.{◌≡◌, pos, neg_ℤ, ◌^◌, ◌≤ℤ◌, ◌-ℤ◌};
-ghost use Rattle.explain_model.specs.Judged.{first_given, given_count};
 ghost use Rattle.explain_model.specs.Timings.{whole_ns, opens, closes, timing_by, control_timing, window_at, bare, heading_slot, data_timing};
 ghost use Rattle.unit_cells.specs.Headings.{IsSoundHeading};
 ghost use Rattle.unit_model.specs.Commands.{command_slot, command_start};
@@ -154,26 +153,4 @@ pub fn data_timing(side: Side, delays: &Delays, heading: &DataHeading) -> Timing
         heading.last,
         start,
     )
-}
-
-/// The first PRB that a section of data covers.
-pub fn first_given(heading: &DataHeading) -> u16
-    ensures { result ≡ first_given heading.now }
-{
-    if heading.section.num_prb == 0 {
-        0
-    } else {
-        heading.section.start_prb
-    }
-}
-
-/// How many PRBs it covers.
-pub fn given_count(heading: &DataHeading) -> u16
-    ensures { result ≡ given_count heading.now }
-{
-    if heading.section.num_prb == 0 {
-        heading.endpoint.prbs
-    } else {
-        u16::from(heading.section.num_prb)
-    }
 }
