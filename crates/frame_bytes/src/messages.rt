@@ -4,6 +4,7 @@ ghost use Rattle.bfp_codec.specs.Layout.{HasWidth};
 ghost use Rattle.frame_bytes.specs.Messages.{section_size, message_size};
 
 use bfp_codec::{Format, Method, block_len};
+use fh_time::PrbSpan;
 use uplane_sections::UHead;
 
 /// A section of a U-plane message that is to be written (O-RAN.WG4.CUS, clause 8.3.2), as its
@@ -44,10 +45,8 @@ pub fn section_size(carrier: &Carrier, num_prb: u8) -> usize
     ensures value { result ≡ section_size carrier.now num_prb }
     ensures short { result ≤ 2 ^ 22 }
 {
-    let count = match num_prb {
-        0 => carrier.prbs,
-        some => some as u16,
-    };
+    // (where they start makes no difference)
+    let count = PrbSpan::named(0, num_prb, carrier.prbs).count;
     let header = if carrier.format.dynamic { 6 } else { 4 };
     header + count as usize * block_len(carrier.format.method)
 }

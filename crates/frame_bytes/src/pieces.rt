@@ -16,6 +16,7 @@ use crate::parts::Part;
 use crate::transport::{TRANSPORT_LEN, transport};
 use bfp_codec::{Format, Iq, Method, block_len, pack, pack_into};
 use ecpri_fragments::SeqField;
+use fh_time::PrbSpan;
 use uplane_sections::{USection, put_head, put_section};
 
 /// Bytes of a message: those from one place, from 0, up to another.
@@ -55,10 +56,8 @@ fn prbs_of(carrier: &Carrier, section: &DataSection) -> (u16, u16)
     ensures count { result.1 ≡ count_of carrier.now.prbs section.now.num_prb }
     ensures within { result.0 + result.1 ≤ carrier.now.prbs }
 {
-    match section.num_prb {
-        0 => (0, carrier.prbs),
-        some => (section.start_prb, some as u16),
-    }
+    let span = PrbSpan::named(section.start_prb, section.num_prb, carrier.prbs);
+    (span.first, span.count)
 }
 
 /// Which of `count` blocks of `size` bytes each, from a place on, a span touches: those from the
