@@ -1,7 +1,7 @@
 -- The order of arrivals, as callers meet it.
-use Rattle.std.proofs.Common.{◌≡◌, ℕ, ℤ, ◌<◌, ◌<ℤ◌, ◌≤ℤ◌, Bool, true, false, refl, arith, ap, sym, ◌∙◌}
+use Rattle.std.proofs.Common.{◌≡◌, ℤ, ◌<◌, ◌<ℤ◌, ◌≤ℤ◌, Bool, true, false, refl, arith, ap, sym, ◌∙◌}
 use Rattle.std.specs.Cmp.{IsTotalOrder, then_total, on_total, nat_cmp_total, int_cmp_total, bool_cmp_total, tied_itself, upto}
-use Rattle.std.specs.Ordering.{nat_cmp, int_cmp, is_lt, is_gt, ordering_then, ordering_reverse}
+use Rattle.std.specs.Ordering.{int_cmp, is_lt, is_gt, ordering_then, ordering_reverse}
 use Rattle.std.specs.declared.cmp.Ordering.{Ordering}
 use Rattle.std.specs.declared.cmp.Ordering.TheVariants.{Less, Equal, Greater}
 use Rattle.std.proofs.lemmas.Bool.Decides.{nat_tests}
@@ -74,10 +74,6 @@ later_is_after a b h = rw (int_less a.at.0 b.at.0 h) refl
 pub earlier_is_not_after : (a b : Arrival) → a.at.0 <ℤ b.at.0 → is_after a b ≡ false
 earlier_is_not_after a b h = not_after a b (later_is_after a b h)
 
--- one that is not after another has no later time
-pub not_after_time : (a b : Arrival) → is_after a b ≡ false → a.at.0 ≤ℤ b.at.0
-not_after_time a b h = int_le a.at.0 b.at.0 (first_le _ _ (sym (after_turned a b) ∙ h))
-
 -- at one time and unit, and both injected or both sent, the one of the later place is after
 pub later_place_is_after : (a b : Arrival) → a.at ≡ b.at → a.side ≡ b.side → a.key.injected ≡ b.key.injected → a.key.place < b.key.place → is_after b a ≡ true
 later_place_is_after a b time unit way later =
@@ -86,12 +82,3 @@ later_place_is_after a b time unit way later =
 -- and the one of the earlier place is not
 pub earlier_place_is_not_after : (a b : Arrival) → a.at ≡ b.at → a.side ≡ b.side → a.key.injected ≡ b.key.injected → a.key.place < b.key.place → is_after a b ≡ false
 earlier_place_is_not_after a b time unit way later = not_after a b (later_place_is_after a b time unit way later)
-
--- at one time and unit, one that was injected is after one that was sent
-injected_is_after : (a b : Arrival) → a.at ≡ b.at → a.side ≡ b.side → a.key.injected ≡ false → b.key.injected ≡ true → is_after b a ≡ true
-injected_is_after a b time unit sent injected =
-    rw (time, unit, sent, injected) (rw (tied_itself int_cmp_total b.at.0, tied_itself bool_cmp_total (is_to_du b.side)) refl)
-
--- and the one that was sent is not
-pub sent_is_not_after : (a b : Arrival) → a.at ≡ b.at → a.side ≡ b.side → a.key.injected ≡ false → b.key.injected ≡ true → is_after a b ≡ false
-sent_is_not_after a b time unit sent injected = not_after a b (injected_is_after a b time unit sent injected)

@@ -1,62 +1,11 @@
 -- What it does to the arrivals of a network to put one more in, for callers.
-use Rattle.std.proofs.Common.{◌≡◌, ℕ, ◌+◌, ◌<◌, ◌<ℤ◌, Bool, true, false, List, [], ◌∷◌, ◌++◌, All, refl, ap, sym, ◌∙◌, arith}
+use Rattle.std.proofs.Common.{◌≡◌, Bool, true, false, List, [], ◌∷◌, ◌++◌, All, refl, ap, sym, ◌∙◌, arith}
 use Rattle.std.specs.Prelude.{if◌then◌else◌, slice_index_or}
-use Rattle.std.specs.List.{count_by, sum_by, filter}
-use Rattle.std.proofs.lemmas.List.Sums.{sum_by-cons}
+use Rattle.std.specs.List.{filter}
 use Rattle.std.proofs.lemmas.List.Elements.{All-cons, All-tail, All-head}
 use Rattle.frame_network.specs.declared.arrivals.Arrival.{Arrival}
 use Rattle.frame_network.specs.Network.{is_after, put_in, IsInOrder}
-use Rattle.frame_network.proofs.Order.{not_after, after_not_after_chain, not_after_chain, later_is_after, earlier_place_is_not_after}
-
--- one more arrival stands in a list between what is not after it and the rest
-pub record StandsIn (a : Arrival) (old new : List Arrival) : Type 0 where
-  pub front : List Arrival
-  pub back : List Arrival
-  pub before : All (λ x. is_after x a ≡ false) front
-  pub was : old ≡ front ++ back
-  pub is : new ≡ front ++ a ∷ back
-
-stands_first : (a : Arrival) (xs : List Arrival) → StandsIn a xs (a ∷ xs)
-stands_first a xs = record { front = []; back = xs; before = λ k d lt. absurd (omega arith); was = refl; is = refl }
-
-stands_behind : (a b : Arrival) (xs ys : List Arrival) → is_after b a ≡ false → StandsIn a xs ys → StandsIn a (b ∷ xs) (b ∷ ys)
-stands_behind a b xs ys h s = record {
-  front = b ∷ s.front;
-  back = s.back;
-  before = All-cons (λ x. is_after x a ≡ false) b s.front h s.before;
-  was = ap (λ zs. b ∷ zs) s.was;
-  is = ap (λ zs. b ∷ zs) s.is;
-}
-
-stands_at : (a b : Arrival) (bs : List Arrival) (t : Bool) → is_after b a ≡ t → StandsIn a bs (put_in a bs)
-    → StandsIn a (b ∷ bs) (if t then a ∷ b ∷ bs else b ∷ put_in a bs)
-stands_at a b bs true h s = stands_first a (b ∷ bs)
-stands_at a b bs false h s = stands_behind a b bs (put_in a bs) h s
-
--- all that were held stay in their order, and the new one stands among them once
-pub put_in_stands : (a : Arrival) (xs : List Arrival) → StandsIn a xs (put_in a xs)
-put_in_stands a [] = stands_first a []
-put_in_stands a (b ∷ bs) = stands_at a b bs (is_after b a) refl (put_in_stands a bs)
-
-sum_behind : (f : Arrival → ℕ) (a b : Arrival) (bs ys : List Arrival) → sum_by f ys ≡ f a + sum_by f bs → sum_by f (b ∷ ys) ≡ f a + sum_by f (b ∷ bs)
-sum_behind f a b bs ys h =
-    let first = sum_by-cons f b ys in
-    let next = sum_by-cons f b bs in
-    omega arith
-
-sum_at : (f : Arrival → ℕ) (a b : Arrival) (bs : List Arrival) (t : Bool) → sum_by f (put_in a bs) ≡ f a + sum_by f bs
-    → sum_by f (if t then a ∷ b ∷ bs else b ∷ put_in a bs) ≡ f a + sum_by f (b ∷ bs)
-sum_at f a b bs true h = sum_by-cons f a (b ∷ bs)
-sum_at f a b bs false h = sum_behind f a b bs (put_in a bs) h
-
--- so any sum over the arrivals grows by the new one's share
-pub sum_by-put_in : (f : Arrival → ℕ) (a : Arrival) (xs : List Arrival) → sum_by f (put_in a xs) ≡ f a + sum_by f xs
-sum_by-put_in f a [] = sum_by-cons f a []
-sum_by-put_in f a (b ∷ bs) = sum_at f a b bs (is_after b a) (sum_by-put_in f a bs)
-
--- and whatever is counted, there is as much of it as in the list with the new one before it
-pub count_by-put_in : (p : Arrival → Bool) (a : Arrival) (xs : List Arrival) → count_by p (put_in a xs) ≡ count_by p (a ∷ xs)
-count_by-put_in p a xs = sum_by-put_in (λ x. if p x then 1 else 0) a xs ∙ sym (sum_by-cons (λ x. if p x then 1 else 0) a xs)
+use Rattle.frame_network.proofs.Order.{not_after, after_not_after_chain, not_after_chain}
 
 all_at : (P : Arrival → Type 0) (a b : Arrival) (bs : List Arrival) (t : Bool) → P a → All P (b ∷ bs) → All P (put_in a bs)
     → All P (if t then a ∷ b ∷ bs else b ∷ put_in a bs)
@@ -67,26 +16,6 @@ all_at P a b bs false here rest more = All-cons P b (put_in a bs) (All-head P b 
 pub All-put_in : (P : Arrival → Type 0) (a : Arrival) (xs : List Arrival) → P a → All P xs → All P (put_in a xs)
 All-put_in P a [] here rest = All-cons P a [] here rest
 All-put_in P a (b ∷ bs) here rest = all_at P a b bs (is_after b a) here rest (All-put_in P a bs here (All-tail P b bs rest))
-
--- behind arrivals that are not after it, it stands last
-pub put_in_last : (a : Arrival) (xs : List Arrival) → All (λ x. is_after x a ≡ false) xs → put_in a xs ≡ xs ++ a ∷ []
-put_in_last a [] h = refl
-put_in_last a (b ∷ bs) h =
-    rw (All-head (λ x. is_after x a ≡ false) b bs h) (ap (λ zs. b ∷ zs) (put_in_last a bs (All-tail (λ x. is_after x a ≡ false) b bs h)))
-
--- whether one comes to the same unit at the same time in the same way, from an earlier place
-abbrev pub IsOfEarlierPlace : Arrival → Arrival → Type 0
-IsOfEarlierPlace a x = (x.at ≡ a.at) × (x.side ≡ a.side) × (x.key.injected ≡ a.key.injected) × (x.key.place < a.key.place)
-
--- so does one that comes as all that are held, from a later place
-pub put_in_last_place : (a : Arrival) (xs : List Arrival) → All (IsOfEarlierPlace a) xs → put_in a xs ≡ xs ++ a ∷ []
-put_in_last_place a xs h =
-    put_in_last a xs (λ k d lt. let e = h k d lt in earlier_place_is_not_after (slice_index_or xs k d) a e.0 e.1 e.2 e.3)
-
--- before arrivals that are all of later times, it stands first
-pub put_in_first : (a : Arrival) (xs : List Arrival) → All (λ x. a.at.0 <ℤ x.at.0) xs → put_in a xs ≡ a ∷ xs
-put_in_first a [] h = refl
-put_in_first a (b ∷ bs) h = rw (later_is_after a b (All-head (λ x. a.at.0 <ℤ x.at.0) b bs h)) refl
 
 -- ---- a list in order
 

@@ -1,5 +1,5 @@
 -- How a queue's landings of a time stand to those of the list, and what each call means for them.
-use Rattle.std.proofs.Common.{◌≡◌, ◌≢◌, ℕ, suc, ◌+◌, ◌<◌, ◌≤◌, ℤ, ◌≤ℤ◌, ◌<ℤ◌, ◌↔◌, Bool, true, false, not, ◌&&◌, cond, if◌then◌else◌, List, [], ◌∷◌, ◌++◌, length, get_or, take, take-suc, length-take-le, refl, ap, ap₂, sym, ◌∙◌, subst, arith, Option, Some, None, IfSome, int_lt}
+use Rattle.std.proofs.Common.{◌≡◌, ℕ, suc, ◌+◌, ◌<◌, ◌≤◌, ℤ, ◌≤ℤ◌, ◌<ℤ◌, ◌↔◌, Bool, true, false, not, ◌&&◌, cond, List, [], ◌∷◌, ◌++◌, length, get_or, take, take-suc, length-take-le, refl, ap, ap₂, sym, ◌∙◌, subst, arith, Option, Some, None, IfSome, int_lt}
 use Rattle.std.specs.List.{All, AllByRecursion, filter, slice_get}
 use Rattle.std.specs.List.Sorted.{IsPermutation, IsSortedByKey, IsStableByKey, ties}
 use Rattle.std.specs.Ordering.{int_cmp, int_eq, is_eq, is_lt, MatchOrdering}
@@ -9,7 +9,7 @@ use Rattle.std.specs.Cmp.{int_ranks}
 use Rattle.std.proofs.lemmas.Int.{ints}
 use Rattle.std.proofs.lemmas.Bool.Decides.{Decides-int_eq}
 use Rattle.std.proofs.lemmas.Cmp.{int_cmp_total}
-use Rattle.std.proofs.lemmas.List.Elements.{All-from_recursion, All-head, All-tail}
+use Rattle.std.proofs.lemmas.List.Elements.{All-from_recursion, All-tail}
 use Rattle.std.proofs.lemmas.List.Sorted.{All-permutation, ranks_by, sorted_far}
 use Rattle.std.proofs.lemmas.Option.{slice_get_within}
 use Rattle.fh_time.specs.declared.values.Ticks.{Ticks}
@@ -98,46 +98,12 @@ later : (t u : ℤ) (ls : List Landing) → t <ℤ u → AllByRecursion (λ m. u
 later t u [] lt h = tt
 later t u (l ∷ ls) lt h = let le = h.0 in (omega (arith, ints), later t u ls lt h.1)
 
--- after `take_at` gave a place
-pub at_time_taken : (at : Ticks) (index : ℕ) (before now : List Landing) → Took at (Some index) before now
-    → (t : ℤ) → at_time t before ≡ (if int_eq at.0 t then landing_of at index ∷ at_time t now else at_time t now)
-at_time_taken at index before now is t = ap (at_time t) is
-
--- no frame is left
-pub at_time_empty : (ls : List Landing) → first_time ls ≡ None → (t : ℤ) → at_time t ls ≡ []
-at_time_empty [] e t = refl
-at_time_empty (l ∷ ls) e t = cc
-
--- before the next time
-pub at_time_before : (ls : List Landing) → AreRising ls → (u : Ticks) → first_time ls ≡ Some u → (t : ℤ) → t <ℤ u.0 → at_time t ls ≡ []
-at_time_before [] up u e t lt = refl
-at_time_before (l ∷ ls) up u e t lt =
-    let first : t <ℤ l.at.0 = subst (λ o. IfSome o (λ x. t <ℤ x.0)) (sym e) lt in
-    none_below t (l ∷ ls) (first, later t l.at.0 ls first up.0)
-
--- `take_at` gave none, and the next time is not earlier
-pub at_time_refused : (at : Ticks) (before now : List Landing) → AreRising before → Took at None before now
-    → ((u : Ticks) → first_time before ≡ Some u → at.0 ≤ℤ u.0) → at_time at.0 before ≡ []
-at_time_refused at [] now up took least = refl
-at_time_refused at (l ∷ ls) now up took least =
-    let le : at.0 ≤ℤ l.at.0 = least l.at refl in
-    let other : l.at.0 ≢ at.0 = λ e. took.1 (ap (λ z. Some (record { 0 = z })) e) in
-    at_time_before (l ∷ ls) up l.at refl at.0 (omega (arith, ints))
-
 -- ---- what a taken frame is, and what is left
-
--- a taken frame stands at its place of the list
-pub taken_placed : (times : List Ticks) (at : Ticks) (index : ℕ) (before now : List Landing) → Took at (Some index) before now → All (IsPlaced times) before → IsPlaced times (landing_of at index)
-taken_placed times at index before now is h = All-head (IsPlaced times) (landing_of at index) now (subst (All (IsPlaced times)) is h)
 
 -- what holds of each landing holds of each that is left
 pub taken_all : (P : Landing → Type 0) (at : Ticks) (result : Option ℕ) (before now : List Landing) → Took at result before now → All P before → All P now
 taken_all P at (Some index) before now is h = All-tail P (landing_of at index) now (subst (All P) is h)
 taken_all P at None before now took h = subst (All P) (sym took.0) h
-
--- one fewer is left
-pub taken_length : (at : Ticks) (index : ℕ) (before now : List Landing) → Took at (Some index) before now → length before ≡ suc (length now)
-taken_length at index before now is = ap length is
 
 -- `next_time` gave none exactly where no frame is left
 pub none_left : (ls : List Landing) → (first_time ls ≡ None) ↔ (ls ≡ [])
@@ -151,19 +117,3 @@ none_left ls = (nothing ls, λ e. ap first_time e)
 pub first_left : (ls : List Landing) (u : Ticks) → first_time ls ≡ Some u → (index : ℕ) × (rest : List Landing) × (ls ≡ landing_of u index ∷ rest)
 first_left [] u e = cc
 first_left (l ∷ ls) u e = (l.index, ls, ap (λ t. landing_of t l.index ∷ ls) (subst (λ o. IfSome o (λ x. l.at ≡ x)) e refl))
-
--- the next time is then not earlier than the one taken at
-pub next_after_taken : (at : Ticks) (index : ℕ) (before now : List Landing) → AreRising before → Took at (Some index) before now → (u : Ticks) → first_time now ≡ Some u → at.0 ≤ℤ u.0
-next_after_taken at index before now up is u e = first_behind (landing_of at index) now (subst AreRising is up) u e
-  where
-    first_behind : (l : Landing) (ls : List Landing) → AreRising (l ∷ ls) → (u : Ticks) → first_time ls ≡ Some u → l.at.0 ≤ℤ u.0
-    first_behind l [] up u e = cc
-    first_behind l (m ∷ ls) up u e = subst (λ o. IfSome o (λ x. l.at.0 ≤ℤ x.0)) e up.0.0
-
--- the next time is later than one at which nothing was left to take
-pub next_after_refused : (at : Ticks) (before now : List Landing) → Took at None before now → ((u : Ticks) → first_time before ≡ Some u → at.0 ≤ℤ u.0) → (u : Ticks) → first_time now ≡ Some u → at.0 <ℤ u.0
-next_after_refused at before now took least u e =
-    let first : first_time before ≡ Some u = ap first_time (sym took.0) ∙ e in
-    let le : at.0 ≤ℤ u.0 = least u first in
-    let other : u.0 ≢ at.0 = λ same. took.1 (first ∙ ap (λ z. Some (record { 0 = z })) same) in
-    omega (arith, ints)

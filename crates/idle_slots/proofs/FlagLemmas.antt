@@ -1,9 +1,9 @@
 -- Flags of slots, set and cleared.
-use Rattle.std.proofs.Common.{◌≡◌, ℕ, ◌+◌, ◌-◌, ◌*◌, ◌/◌, ◌%◌, ◌<◌, ◌≤◌, Bool, true, false, not, ◌&&◌, ◌||◌, ◌==◌, List, [], ◌∷◌, ◌++◌, length, get_or, take, Some, refl, sym, ap, ap₂, ◌∙◌, arith, inl, inr, set}
+use Rattle.std.proofs.Common.{◌≡◌, ℕ, ◌+◌, ◌-◌, ◌*◌, ◌/◌, ◌%◌, ◌<◌, ◌≤◌, Bool, true, false, not, ◌&&◌, ◌||◌, List, [], ◌∷◌, ◌++◌, length, get_or, take, Some, refl, sym, ap, ap₂, ◌∙◌, arith, inl, inr, set}
 use Rattle.std.specs.Prelude.{nat_le, nat_lt, slice_get}
 use Rattle.std.specs.Cmp.{both_ways as same_truth}
 use Rattle.std.specs.List.{list_any}
-use Rattle.std.proofs.lemmas.Bool.{and_parts, cases_eq, eq-eqb, false_from_ne_true, le-leb, leb-true, ne_eqb}
+use Rattle.std.proofs.lemmas.Bool.{and_parts, cases_eq, eq-eqb, le-leb, leb-true}
 use Rattle.std.proofs.lemmas.Bool.Decides.{nat_tests}
 use Rattle.std.proofs.lemmas.List.{get_or-set_other, get_or-set_same, take_more}
 use Rattle.std.proofs.lemmas.List.Folds.{list_any-append}
@@ -84,14 +84,6 @@ or_true : (b t : Bool) → t ≡ true → true ≡ (b || t)
 or_true true t e = refl
 or_true false t e = sym e
 
--- none is set yet
-pub none_set : (a b k : ℕ) (old : Bool) → old ≡ (old || is_set a b a k)
-none_set a b k old = or_false old (is_set a b a k) (false_from_ne_true _ (λ e.
-    let both = and_parts (nat_le a k) _ e in
-    let low : a ≤ k = leb-true a k both.0 in
-    let high : k < a = under k a (and_parts (nat_lt k a) _ both.1).0 in
-    omega (arith, low, high)))
-
 -- one more was set
 pub one_set : (a b at k : ℕ) (flags : List Bool) (old : Bool) → a ≤ at → at < b → at < length flags → get_or flags k false ≡ (old || is_set a b at k)
     → get_or (set flags at true) k false ≡ (old || is_set a b (at + 1) k)
@@ -118,18 +110,6 @@ pub of_slot_known : (e : EndpointConfig) (slot : Slot) (line : PlanLine) (same :
 of_slot_known e slot line same id down is =
     ap₂ (λ (a b : Bool). a && (b && same_slot line.slot slot)) (eq-eqb line.id e.id id) down ∙ is
 
--- another line is of no slot of it
-pub of_slot_other : (e : EndpointConfig) (slot : Slot) (line : PlanLine) → (line.id ≡ e.id → ⊥) → is_of_slot e slot line ≡ false
-of_slot_other e slot line other = ap (λ (a : Bool). a && (is_down_kind line.kind && same_slot line.slot slot)) (ne_eqb line.id e.id other)
-
-pub of_slot_up : (e : EndpointConfig) (slot : Slot) (line : PlanLine) → is_down_kind line.kind ≡ false → is_of_slot e slot line ≡ false
-of_slot_up e slot line up =
-    ap (λ (b : Bool). (line.id == e.id) && (b && same_slot line.slot slot)) up ∙ and_false (line.id == e.id)
-  where
-    and_false : (a : Bool) → (a && false) ≡ false
-    and_false true = refl
-    and_false false = refl
-
 neither : (a b c : Bool) → ((a && not b) && not c) ≡ (a && not (b || c))
 neither true true c = refl
 neither true false c = refl
@@ -152,7 +132,3 @@ one_cleared test lines i line old middle new index below is before now same =
     (sym (list_any-append test (take i lines) (line ∷ []))
     ∙ ap (λ (l : PlanLine). list_any test (take i lines ++ l ∷ [])) (sym (get_or_from_slice_get lines i line line is))
     ∙ ap (list_any test) (sym (take_more lines i line below)))
-
-pub none_cleared : (test : PlanLine → Bool) (lines : List PlanLine) (old : Bool) → old ≡ (old && not (list_any test (take 0 lines)))
-none_cleared test lines true = refl
-none_cleared test lines false = refl
