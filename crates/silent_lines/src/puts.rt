@@ -3,7 +3,6 @@ ghost use Rattle.std.specs.Prelude.{◌≡◌, ◌-◌, ◌<◌, ◌^◌, length
 ghost use Rattle.std.specs.List.{AllByRecursion};
 ghost use Rattle.std.specs.Option.{option_to_list};
 ghost use Rattle.air_source.specs.Causes.{HasAirCause};
-ghost use Rattle.plan_model.specs.Lines.{line_allocation};
 ghost use Rattle.explain_reasons.specs.Silent.{is_dl};
 ghost use Rattle.line_runs.specs.Runs.{HasPut, StopsPutting};
 ghost use Rattle.line_runs.specs.Stops.{StopsInLine};
