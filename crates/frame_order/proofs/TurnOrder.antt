@@ -1,5 +1,5 @@
 -- The order of frames.
-use Rattle.std.proofs.Common.{◌≡◌, min, ℕ, ℤ, pos, ◌+◌, ◌*◌, ◌≤◌, ◌+ℤ◌, ◌≤ℤ◌, true, false, refl, arith, ap, ◌∙◌}
+use Rattle.std.proofs.Common.{◌≡◌, min, ℕ, ℤ, pos, ◌+◌, ◌*◌, ◌+ℤ◌, ◌≤ℤ◌, true, false, refl, arith, ap, sym, ◌∙◌}
 use Rattle.std.specs.Cmp.{upto}
 use Rattle.std.specs.Int.{int_min}
 use Rattle.std.specs.Ordering.{nat_cmp, int_cmp, is_lt, is_gt, is_eq, ordering_then, ordering_reverse}
@@ -9,9 +9,12 @@ use Rattle.std.proofs.lemmas.Bool.Decides.{nat_tests}
 use Rattle.std.proofs.lemmas.Int.{ints}
 use Rattle.frame_order.specs.declared.turns.Turn.{Turn}
 use Rattle.frame_order.specs.declared.turns.Run.{Run}
-use Rattle.frame_order.specs.Turns.{turn_cmp, IsUpTo, is_turn, leaves, turn_at}
+use Rattle.frame_order.specs.Turns.{stream_place, turn_cmp, IsUpTo, is_turn, leaves, turn_at}
 use Rattle.frame_order.specs.Queues.{run_cmp}
-use Rattle.frame_order.specs.TurnLaws.{turn_total}
+use denote.Enum.Bare.{tag_one}
+use Rattle.frame_order.specs.TurnLaws.{place_is, turn_total}
+use Rattle.plan_model.specs.contracts.streams.Stream.{the_type}
+use Rattle.plan_model.specs.declared.streams.Stream.{Stream}
 use Rattle.fh_time.proofs.Orders.{nat_up}
 
 -- ---- answers of comparisons
@@ -51,19 +54,22 @@ int_up x y h = grind (arith, ints, nat_tests)
 
 -- ---- turns
 
-unfoldable pub made : ℤ → ℕ → ℕ → ℕ → ℕ → Turn
+unfoldable pub made : ℤ → ℕ → Stream → ℕ → ℕ → Turn
 made at endpoint stream number sub = record { at = record { 0 = at }; endpoint = endpoint; stream = stream; number = number; sub = sub }
+
+same_stream : (a b : Stream) → stream_place a ≡ stream_place b → a ≡ b
+same_stream a b e = tag_one the_type tt a b (place_is a ∙ e ∙ sym (place_is b))
 
 pub same_turn : (a b : Turn) → is_turn a b ≡ true → a ≡ b
 unfolding made
 same_turn a b h =
     let first = both_equal (int_cmp a.at.0 b.at.0) _ h in
     let second = both_equal (nat_cmp a.endpoint b.endpoint) _ first.second in
-    let third = both_equal (nat_cmp a.stream b.stream) _ second.second in
+    let third = both_equal (nat_cmp (stream_place a.stream) (stream_place b.stream)) _ second.second in
     let fourth = both_equal (nat_cmp a.number b.number) _ third.second in
     ap (λ x. made x a.endpoint a.stream a.number a.sub) (int_same a.at.0 b.at.0 first.first)
     ∙ ap (λ x. made b.at.0 x a.stream a.number a.sub) (nat_same a.endpoint b.endpoint second.first)
-    ∙ ap (λ x. made b.at.0 b.endpoint x a.number a.sub) (nat_same a.stream b.stream third.first)
+    ∙ ap (λ x. made b.at.0 b.endpoint x a.number a.sub) (same_stream a.stream b.stream (nat_same (stream_place a.stream) (stream_place b.stream) third.first))
     ∙ ap (λ x. made b.at.0 b.endpoint b.stream x a.sub) (nat_same a.number b.number fourth.first)
     ∙ ap (λ x. made b.at.0 b.endpoint b.stream b.number x) (nat_same a.sub b.sub fourth.second)
 
@@ -109,7 +115,7 @@ pub frames_up : (gap : ℕ) (r : Run) (k : ℕ) → IsUpTo (turn_at gap r k) (tu
 frames_up gap r k =
     then_up (int_cmp (leaves gap r k) (leaves gap r (k + 1))) _ (int_up (leaves gap r k) (leaves gap r (k + 1)) (leaves_up gap r k))
     (then_up (nat_cmp r.turn.endpoint r.turn.endpoint) _ (nat_up r.turn.endpoint r.turn.endpoint (omega arith))
-    (then_up (nat_cmp r.turn.stream r.turn.stream) _ (nat_up r.turn.stream r.turn.stream (omega arith))
+    (then_up (nat_cmp (stream_place r.turn.stream) (stream_place r.turn.stream)) _ (nat_up (stream_place r.turn.stream) (stream_place r.turn.stream) (omega arith))
     (then_up (nat_cmp r.turn.number r.turn.number) _ (nat_up r.turn.number r.turn.number (omega arith))
     (nat_up (r.turn.sub + k) (r.turn.sub + (k + 1)) (omega arith)))))
 

@@ -1,16 +1,32 @@
 -- When the frames of a message leave, and their order: this project's profile.
-use Rattle.std.specs.Prelude.{◌≡◌, ⊤, ℕ, zero, suc, ℤ, pos, ◌+◌, ◌-◌, ◌*◌, ◌<◌, ◌≤◌, ◌^◌, ◌+ℤ◌, ◌≤ℤ◌, ◌<ℤ◌, min, Bool, false, if◌then◌else◌, nat_lt, List, [], ◌∷◌, Option, Some, None}
+use Rattle.std.specs.Prelude.{◌≡◌, ⊤, ℕ, zero, suc, ℤ, pos, ◌+◌, ◌-◌, ◌*◌, ◌<◌, ◌≤◌, ◌^◌, ◌+ℤ◌, ◌≤ℤ◌, ◌<ℤ◌, min, Bool, true, false, if◌then◌else◌, nat_lt, List, [], ◌∷◌, Option, Some, None}
 use Rattle.std.specs.List.{AllByRecursion}
 use Rattle.std.specs.Int.{int_min}
 use Rattle.std.specs.Ordering.{nat_cmp, int_cmp, on, then_cmp, is_gt, is_eq}
 use Rattle.std.specs.declared.cmp.Ordering.{Ordering}
+use Rattle.plan_model.specs.declared.streams.Stream.{Stream}
+use Rattle.plan_model.specs.declared.streams.Stream.TheVariants.{DownCommands, UpCommands, DownData, UpData}
 use Rattle.frame_order.specs.declared.turns.Turn.{Turn}
 use Rattle.frame_order.specs.declared.turns.Run.{Run}
+
+-- the place of a stream among those of its endpoint
+abbrev pub stream_place : Stream → ℕ
+stream_place DownCommands = 0
+stream_place UpCommands = 1
+stream_place DownData = 2
+stream_place UpData = 3
+
+-- its messages are C-plane commands
+abbrev pub is_command : Stream → Bool
+is_command DownCommands = true
+is_command UpCommands = true
+is_command DownData = false
+is_command UpData = false
 
 -- the order of frames that leave together: endpoint, stream, number, subsequence
 abbrev pub one_time_cmp : Turn → Turn → Ordering
 one_time_cmp = then_cmp (on (λ t. t.endpoint) nat_cmp)
-    (then_cmp (on (λ t. t.stream) nat_cmp)
+    (then_cmp (on (λ t. stream_place t.stream) nat_cmp)
     (then_cmp (on (λ t. t.number) nat_cmp)
     (on (λ t. t.sub) nat_cmp)))
 

@@ -6,6 +6,7 @@ ghost use Rattle.std.proofs.Common.{refl};
 ghost use Rattle.frame_order.specs.Turns.{IsRun, next_of};
 
 use fh_time::Ticks;
+use plan_model::Stream;
 use std::cmp::Ordering;
 
 /// Which frame it is and when it leaves. Frames are ordered by time, endpoint, stream, number and subsequence id; the fields stand
@@ -16,9 +17,7 @@ pub struct Turn {
     pub at: Ticks,
     /// The place of its endpoint in the configuration.
     pub endpoint: u8,
-    /// The place of its stream among those of its endpoint: commands for the downlink, commands for
-    /// the uplink, data.
-    pub stream: u8,
+    pub stream: Stream,
     /// Its subsequence id.
     pub sub: u8,
     /// The number of its message in the stream.
@@ -26,14 +25,24 @@ pub struct Turn {
 }
 
 impl Turn {
-    ghost use Rattle.frame_order.specs.Turns.{one_time_cmp};
+    ghost use Rattle.frame_order.specs.Turns.{is_command, one_time_cmp};
+
+    /// Whether its frame is a C-plane command.
+    pub fn is_command(&self) -> bool
+        ensures { result ≡ is_command self.now.stream }
+    {
+        match self.stream {
+            Stream::DownCommands | Stream::UpCommands => true,
+            Stream::DownData | Stream::UpData => false,
+        }
+    }
 
     /// The order of frames that leave together.
     fn cmp_at_one_time(&self, other: &Turn) -> Ordering
         ensures { result ≡ one_time_cmp self.now other.now }
     {
         match self.endpoint.cmp(&other.endpoint) {
-            Ordering::Equal => match self.stream.cmp(&other.stream) {
+            Ordering::Equal => match (self.stream as u8).cmp(&(other.stream as u8)) {
                 Ordering::Equal => match self.number.cmp(&other.number) {
                     Ordering::Equal => self.sub.cmp(&other.sub),
                     unequal => unequal,

@@ -21,7 +21,8 @@ use Rattle.schedule_laws.specs.plan_model.proofs.ListLemmas.{in_either, of_filte
 use Rattle.schedule_laws.specs.plan_model.proofs.TickLemmas.{nat_same, int_same}
 use Rattle.frame_order.specs.Turns.{AreRising, IsUpTo}
 use Rattle.schedule_laws.proofs.ListLemmas.{of_each, of_joined, of_map}
-use Rattle.sent_order.specs.Runs.{stream_place, turn_of}
+use Rattle.frame_order.specs.Turns.{stream_place}
+use Rattle.sent_order.specs.Runs.{turn_of}
 use Rattle.fh_time.proofs.Orders.{nat_up, nat_less, int_less}
 use Rattle.schedule_laws.specs.unit_model.specs.Terms.{joined}
 

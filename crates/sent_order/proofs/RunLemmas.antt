@@ -15,7 +15,7 @@ use Rattle.frame_order.specs.Turns.{leaves, rest_of, turn_at, turns}
 use Rattle.frame_order.specs.declared.turns.Turn.{Turn}
 use Rattle.frame_order.specs.declared.turns.Run.{Run}
 use Rattle.frame_order.proofs.TurnOrder.{leaves_in_time, made}
-use Rattle.sent_order.specs.Runs.{endpoint_runs, gap_ticks, stream_place, rests_of, run_of, runs_from, stream_runs, turn_of}
+use Rattle.sent_order.specs.Runs.{endpoint_runs, gap_ticks, rests_of, run_of, runs_from, stream_runs, turn_of}
 use Rattle.schedule_laws.specs.unit_model.specs.Terms.{joined}
 
 first_at : (start : ℤ) (i gap spread : ℕ) → start +ℤ pos (min ((i + 0) * gap) spread) ≡ start +ℤ pos (min (i * gap) spread)
@@ -30,7 +30,7 @@ turn_is c stream ep e n k =
     let time : leaves (gap_ticks c) (run_of c stream ep n) k ≡ sent_at c stream n k =
     leaves_in_time (gap_ticks c) (run_of c stream ep n) start d.spread n.before k (first_at start n.before d.gap d.spread) refl in
     let sub : 0 + k ≡ k = omega arith in
-    ap₂ (λ at s. made at ep (stream_place stream) n.number s) time sub
+    ap₂ (λ at s. made at ep stream n.number s) time sub
 
 turns_are : (c : Config) (stream : Stream) (ep : ℕ) (e : EndpointConfig) (n : Numbered Part) (k count : ℕ)
     → turns (gap_ticks c) (run_of c stream ep n) k count ≡ map turn_of (each k count (λ sub. frame_of c stream ep e n sub ∷ []))

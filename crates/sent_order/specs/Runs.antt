@@ -15,22 +15,15 @@ use Rattle.schedule_laws.specs.plan_model.specs.Streams.{Part, frames_in, messag
 use Rattle.schedule_laws.specs.plan_model.specs.Valid.{IsValid}
 use Rattle.schedule_laws.specs.plan_model.specs.declared.lines.PlannedLine.{PlannedLine}
 use Rattle.schedule_laws.specs.plan_model.specs.declared.streams.Stream.{Stream}
-use Rattle.schedule_laws.specs.plan_model.specs.declared.streams.Stream.TheVariants.{DownCommands, UpCommands, DownData, UpData}
+use Rattle.schedule_laws.specs.plan_model.specs.declared.streams.Stream.TheVariants.{DownCommands, UpCommands, DownData}
 use Rattle.frame_order.specs.Turns.{AreRising, IsRun, rest_of, times}
 use Rattle.frame_order.specs.declared.turns.Run.{Run}
 use Rattle.frame_order.specs.declared.turns.Turn.{Turn}
 use Rattle.schedule_laws.specs.unit_model.specs.Terms.{joined}
 
--- the place of a stream among those of its endpoint
-abbrev pub stream_place : Stream → ℕ
-stream_place DownCommands = 0
-stream_place UpCommands = 1
-stream_place DownData = 2
-stream_place UpData = 3
-
 -- a frame, as the order sees it
 abbrev pub turn_of : SentFrame → Turn
-turn_of f = record { at = record { 0 = f.at }; endpoint = f.ep; stream = stream_place f.stream; number = f.number; sub = f.sub }
+turn_of f = record { at = record { 0 = f.at }; endpoint = f.ep; stream = f.stream; number = f.number; sub = f.sub }
 
 -- the gap between the frames of a symbol, in ticks
 abbrev pub gap_ticks : Config → ℕ
@@ -43,7 +36,7 @@ latest c stream n = (start_of_part n.message.first +ℤ (departures_of c stream)
 -- a message with all its frames
 abbrev pub run_of : Config → Stream → ℕ → Numbered Part → Run
 run_of c stream ep n = record {
-  turn = record { at = record { 0 = sent_at c stream n 0 }; endpoint = ep; stream = stream_place stream; number = n.number; sub = 0 };
+  turn = record { at = record { 0 = sent_at c stream n 0 }; endpoint = ep; stream = stream; number = n.number; sub = 0 };
   last = record { 0 = latest c stream n };
   left = frames_in c stream n.message;
 }
