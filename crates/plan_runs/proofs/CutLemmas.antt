@@ -10,7 +10,7 @@ use Rattle.plan_parts.specs.plan_model.specs.declared.streams.Stream.{Stream}
 use Rattle.plan_parts.specs.plan_model.specs.declared.streams.Stream.TheVariants.{DownCommands, UpCommands, DownData, UpData}
 use Rattle.sent_order.specs.plan_model.proofs.PackLemmas.{symbol_alike, before_alike, sum_more, length_more, wait_more}
 use Rattle.frame_order.specs.declared.turns.Run.{Run}
-use Rattle.sent_order.specs.Runs.{stream_place, run_of}
+use Rattle.sent_order.specs.Runs.{run_of}
 use Rattle.plan_parts.specs.Parts.{timed}
 use Rattle.plan_runs.specs.Runs.{PartsMakeRuns, limits_of, first_sections, stream_begins}
 use Rattle.plan_runs.specs.Walks.{first_message, frames_needed, run_grown, run_next_to, run_from, same_place, run_takes_more, run_wait, walk, walked, later_begins, begins}
@@ -88,7 +88,7 @@ module _ (c : Config) (stream : Stream) (ep : ℕ) where
     where
       made : ℤ → ℤ → ℕ → ℕ → Run
       made at start number left = record {
-        turn = record { at = record { 0 = at }; endpoint = ep; stream = stream_place stream; number = number; sub = 0 };
+        turn = record { at = record { 0 = at }; endpoint = ep; stream = stream; number = number; sub = 0 };
         last = record { 0 = (start +ℤ l.departures.from.0) +ℤ pos l.departures.spread };
         left = left;
       }

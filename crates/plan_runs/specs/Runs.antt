@@ -8,7 +8,7 @@ use Rattle.plan_parts.specs.plan_model.specs.Streams.{part_fields, most_parts, p
 use Rattle.plan_parts.specs.plan_model.specs.declared.lines.PlannedLine.{PlannedLine}
 use Rattle.plan_parts.specs.plan_model.specs.declared.streams.Stream.{Stream}
 use Rattle.plan_parts.specs.plan_model.specs.declared.streams.Stream.TheVariants.{DownCommands, UpCommands, DownData, UpData}
-use Rattle.sent_order.specs.Runs.{stream_place, stream_runs}
+use Rattle.sent_order.specs.Runs.{stream_runs}
 use Rattle.plan_parts.specs.Parts.{timed}
 use Rattle.plan_runs.specs.Walks.{walked}
 use Rattle.plan_runs.specs.declared.limits.Limits.{Limits}
@@ -23,7 +23,7 @@ fragment_limit c UpData = Some c.fragment
 abbrev pub limits_of : Config → Stream → ℕ → Limits
 limits_of c stream ep = record {
   endpoint = ep;
-  stream = stream_place stream;
+  stream = stream;
   pack = most_parts c stream;
   fragment = fragment_limit c stream;
   departures = departures_of c stream;

@@ -9,8 +9,7 @@ use window_config::Config;
 pub struct Limits {
     /// The place of the endpoint in the configuration.
     pub endpoint: u8,
-    /// The place of the stream among those of its endpoint.
-    pub stream: u8,
+    pub stream: Stream,
     /// The most parts of a message.
     pub pack: usize,
     /// The most application bytes of a frame; None where a message goes in one frame.
@@ -31,15 +30,13 @@ impl Limits {
         ensures value { result ≡ limits_of config.now stream endpoint }
         ensures limits { IsLimits result }
     {
-        let (place, pack, fragment) = match stream {
-            Stream::DownCommands => (0, 1, None),
-            Stream::UpCommands => (1, 1, None),
-            Stream::DownData => (2, config.pack, Some(config.fragment)),
-            Stream::UpData => (3, config.pack, Some(config.fragment)),
+        let (pack, fragment) = match stream {
+            Stream::DownCommands | Stream::UpCommands => (1, None),
+            Stream::DownData | Stream::UpData => (config.pack, Some(config.fragment)),
         };
         Limits {
             endpoint,
-            stream: place,
+            stream,
             pack,
             fragment,
             departures: Departures::of(config, stream),
