@@ -19,7 +19,8 @@ use Rattle.frame_order.specs.Turns.{IsRun}
 use Rattle.frame_order.specs.declared.turns.Run.{Run}
 use Rattle.frame_order.specs.declared.turns.Turn.{Turn}
 use Rattle.plan_runs.specs.schedule_laws.proofs.SentLemmas.{IsSentStream, sent_is}
-use Rattle.plan_runs.specs.sent_order.specs.Runs.{IsOrderOf, endpoint_runs, gap_ticks, stream_place, rests_of, runs_from, runs_of, turn_of}
+use Rattle.frame_order.specs.Turns.{stream_place}
+use Rattle.plan_runs.specs.sent_order.specs.Runs.{IsOrderOf, endpoint_runs, gap_ticks, rests_of, runs_from, runs_of, turn_of}
 use Rattle.plan_runs.specs.sent_order.proofs.OrderLemmas.{in_order}
 use Rattle.plan_runs.specs.sent_order.proofs.ProperLemmas.{are_runs}
 use Rattle.plan_table.specs.Kept.{placed_line, HasMessage, message_in}
@@ -146,7 +147,7 @@ sent_place UpData s = absurd s
 
 pub record IsFrameOf (t : Table) (u : Turn) (f : SentFrame) : Type 0 where
   pub kept : StreamParts
-  pub at : slice_get t.streams.items (3 * u.endpoint + u.stream) ≡ Some kept
+  pub at : (place : ℕ) → place ≡ stream_place u.stream → slice_get t.streams.items (3 * u.endpoint + place) ≡ Some kept
   pub has : HasMessage kept u.number
   pub is : message_in kept u.number ≡ map placed_line (parts_of f.message)
 
@@ -159,7 +160,7 @@ frame_is c ps t u f table there u_is =
     let message : o.n.message ≡ f.message = sym (ap (λ (x : SentFrame). x.message) o.is) in
     subst (λ (w : Turn). IsFrameOf t w f) (sym u_is) (record {
       kept = k.kept;
-      at = k.at;
+      at = λ place is. ap (λ (n : ℕ). slice_get t.streams.items (3 * f.ep + n)) is ∙ k.at;
       has = subst (HasMessage k.kept) number m.has;
       is = ap (message_in k.kept) (sym number) ∙ m.is ∙ ap (λ (x : Message Part). map placed_line (parts_of x)) message;
     })

@@ -9,7 +9,8 @@ use Rattle.plan_runs.specs.plan_model.specs.declared.lines.PlannedLine.{PlannedL
 use Rattle.plan_runs.specs.plan_model.specs.declared.streams.Stream.{Stream}
 use Rattle.plan_runs.specs.plan_model.specs.declared.streams.Stream.TheVariants.{DownCommands, UpCommands, DownData}
 use Rattle.frame_order.specs.declared.turns.Turn.{Turn}
-use Rattle.plan_runs.specs.sent_order.specs.Runs.{stream_place, turn_of}
+use Rattle.frame_order.specs.Turns.{stream_place}
+use Rattle.plan_runs.specs.sent_order.specs.Runs.{turn_of}
 use Rattle.plan_table.specs.Kept.{IsStreamParts}
 use Rattle.plan_table.specs.declared.kept.StreamParts.{StreamParts}
 use Rattle.plan_table.specs.declared.tables.Table.{Table}

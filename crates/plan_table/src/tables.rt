@@ -6,6 +6,7 @@ ghost use Rattle.plan_runs.specs.plan_model.specs.Packs.{parts_of};
 ghost use Rattle.plan_runs.specs.plan_model.specs.Sent.{SentFrame, sent};
 ghost use Rattle.plan_runs.specs.plan_model.specs.declared.lines.PlannedLine.{PlannedLine as SpecLine};
 ghost use Rattle.frame_order.specs.Queues.{IsQueue, StandsFor, gap_of};
+ghost use Rattle.frame_order.specs.Turns.{stream_place};
 ghost use Rattle.fragment_laws.specs.Apart.{IsIn};
 ghost use Rattle.plan_runs.specs.sent_order.specs.Runs.{gap_ticks, turn_of};
 ghost use Rattle.plan_table.specs.Kept.{placed_line};
@@ -33,6 +34,13 @@ fn gap_ticks(config: &Config) -> u32
     ensures { result ≡ gap_ticks config.now }
 {
     Departures::of(config, Stream::DownData).gap as u32
+}
+
+/// The place of a stream among those of its endpoint.
+fn stream_place(stream: Stream) -> usize
+    ensures { result ≡ stream_place stream }
+{
+    stream as usize
 }
 
 impl Table {
@@ -69,7 +77,7 @@ impl Table {
             → result.now ≡ map placed_line (parts_of f.message) }
     {
         let streams: &[StreamParts] = &self.streams;
-        let stream = 3 * turn.endpoint as usize + turn.stream as usize;
+        let stream = 3 * turn.endpoint as usize + stream_place(turn.stream);
         streams[stream].message(turn.number as usize)
     }
 }
