@@ -1,5 +1,5 @@
 -- What is known of a frame that is sent for a valid plan, for its bytes to be written.
-use Rattle.std.proofs.Common.{◌≡◌, ℕ, ◌+◌, ◌≤◌, ◌<◌, ◌==◌, ◌%◌, ◌*◌, min, inl, inr, List, [], ◌∷◌, get_or, length, map, Some, refl, ap, ap₂, sym, ◌∙◌, subst, arith}
+use Rattle.std.proofs.Common.{true, false, ◌≡◌, ℕ, ◌+◌, ◌≤◌, ◌<◌, ◌==◌, ◌%◌, ◌*◌, min, inl, inr, List, [], ◌∷◌, get_or, length, map, Some, refl, ap, ap₂, sym, ◌∙◌, subst, arith}
 use Rattle.std.specs.Prelude.{All}
 use Rattle.std.specs.List.{slice_get, slice_index_or}
 use Rattle.std.specs.Option.{option_map_or}
@@ -35,7 +35,7 @@ use Rattle.sent_frames.specs.Commands.{command_head, command_section}
 use Rattle.sent_frames.specs.frame_bytes.specs.Commands.{command_frame}
 use Rattle.window_config.specs.Endpoints.{IsEndpoint}
 use Rattle.frame_order.specs.declared.turns.Turn.{Turn}
-use Rattle.plan_table.specs.sent_order.specs.Runs.{stream_place}
+use Rattle.frame_order.specs.Turns.{is_command}
 use Rattle.du_scheduler.specs.Frames.{IsFrameOf}
 use Rattle.du_scheduler.proofs.PartLemmas.{first_within, is_read, no_place}
 use Rattle.sent_frames.specs.Messages.{Source, data_head, data_section, message_bytes, message_samples}
@@ -158,15 +158,15 @@ module _ (c : Config) (lines : List PlanLine) (config : IsConfig c) (fit : All I
 
 -- ---- as it is written
 
-low_bytes : (s : Stream) (c : Config) (source : Source) (f : SentFrame) → f.stream ≡ s → stream_place s < 2 → command_bytes f ≡ sent_bytes c source f
+low_bytes : (s : Stream) (c : Config) (source : Source) (f : SentFrame) → f.stream ≡ s → is_command s ≡ true → command_bytes f ≡ sent_bytes c source f
 low_bytes DownCommands c source f e h = sym (ap (λ (s : Stream). bytes_in s c source f) e)
 low_bytes UpCommands c source f e h = sym (ap (λ (s : Stream). bytes_in s c source f) e)
-low_bytes DownData c source f e h = absurd (omega (arith, h))
-low_bytes UpData c source f e h = absurd (omega (arith, h))
+low_bytes DownData c source f e h = cc
+low_bytes UpData c source f e h = cc
 
-data_stream : (s : Stream) → IsSentStream s → 2 ≤ stream_place s → s ≡ DownData
-data_stream DownCommands t h = absurd (omega (arith, h))
-data_stream UpCommands t h = absurd (omega (arith, h))
+data_stream : (s : Stream) → IsSentStream s → is_command s ≡ false → s ≡ DownData
+data_stream DownCommands t h = cc
+data_stream UpCommands t h = cc
 data_stream DownData t h = refl
 data_stream UpData t h = absurd t
 
@@ -186,29 +186,29 @@ module _ (c : Config) (plan : List PlanLine) (f : SentFrame) (lines : List Plann
       let is = line_is p got in
       (subst (λ (q : PlannedLine). IsPlanLine q.line) (sym is) g.fits, subst (λ (q : PlannedLine). IsEndpoint q.endpoint) (sym is) g.endpoint)
 
-  pub command_is : (source : Source) (p : PlannedLine) (frame : List ℕ) → p ≡ get_or lines (get_or parts 0 no_place).line p → turn.stream < 2
+  pub command_is : (source : Source) (p : PlannedLine) (frame : List ℕ) → p ≡ get_or lines (get_or parts 0 no_place).line p → is_command turn.stream ≡ true
       → frame ≡ command_frame p.endpoint.id (turn.number % 256) (command_head p) (command_section p) → frame ≡ sent_bytes c source f
   command_is source p frame got low is =
       let part = frame_part c plan h.config h.fit h.valid f h.there in
       let number : turn.number ≡ f.number = ap (λ (t : Turn). t.number) h.turn_is in
       is ∙ ap (λ (q : PlannedLine). command_frame q.endpoint.id (turn.number % 256) (command_head q) (command_section q)) (line_is p got)
       ∙ ap₂ (λ (id n : ℕ). command_frame id (n % 256) (command_head f.message.first.planned) (command_section f.message.first.planned)) (ap (λ (d : EndpointConfig). d.id) part.endpoint_is) number
-      ∙ low_bytes f.stream c source f refl (subst (λ k. k < 2) (ap (λ (t : Turn). t.stream) h.turn_is) low)
+      ∙ low_bytes f.stream c source f refl (sym (ap (λ (t : Turn). is_command t.stream) h.turn_is) ∙ low)
 
-  is_data : 2 ≤ turn.stream → IsDataFrame c plan h.config h.fit h.valid f parts
+  is_data : is_command turn.stream ≡ false → IsDataFrame c plan h.config h.fit h.valid f parts
   is_data high =
       frame_data c plan h.config h.fit h.valid f parts h.there h.parts_are
-      (data_stream f.stream (sent_is c (planned c.endpoints plan) f h.there).is_sent (subst (λ k. 2 ≤ k) (ap (λ (t : Turn). t.stream) h.turn_is) high))
+      (data_stream f.stream (sent_is c (planned c.endpoints plan) f h.there).is_sent (sym (ap (λ (t : Turn). is_command t.stream) h.turn_is) ∙ high))
 
-  pub data_here : 2 ≤ turn.stream → IsData lines parts f.message
+  pub data_here : is_command turn.stream ≡ false → IsData lines parts f.message
   data_here high = subst (λ (ls : List PlannedLine). IsData ls parts f.message) (sym h.lines_are) (is_data high).writable
 
-  pub few_here : 2 ≤ turn.stream → turn.sub < piece_count fragment (message_size (carrier_of f.message.first.planned.endpoint) (message_sections f.message))
+  pub few_here : is_command turn.stream ≡ false → turn.sub < piece_count fragment (message_size (carrier_of f.message.first.planned.endpoint) (message_sections f.message))
   few_here high =
       subst (λ k. turn.sub < piece_count k (message_size (carrier_of f.message.first.planned.endpoint) (message_sections f.message))) (sym h.fragment_is)
       (subst (λ k. k < piece_count c.fragment (message_size (carrier_of f.message.first.planned.endpoint) (message_sections f.message))) (sym (ap (λ (t : Turn). t.sub) h.turn_is)) (is_data high).few)
 
-  pub data_is : (answer : RePlace → Wide) (frame : List ℕ) → 2 ≤ turn.stream
+  pub data_is : (answer : RePlace → Wide) (frame : List ℕ) → is_command turn.stream ≡ false
       → (AreAnswersIn f.message.first.planned f.message.first.symbol (length (parts_of f.message)) answer (message_samples (source_of c.endpoints answer) f.message)
       → frame ≡ data_frame f.message.first.planned f.message.first.symbol (message_sections f.message) (record { seq = turn.number % 256; sub = turn.sub; size = fragment }) (message_samples (source_of c.endpoints answer) f.message))
       → frame ≡ sent_bytes c (source_of c.endpoints answer) f

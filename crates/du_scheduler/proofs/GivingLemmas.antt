@@ -1,9 +1,6 @@
 -- What a plan that gave a frame has still to send.
-use Rattle.std.proofs.Common.{◌≡◌, ℕ, ◌≤◌, ◌<◌, arith, take, drop, append-nil, List, [], ◌∷◌, ◌++◌, length, map, inl, Some, None, refl, ap, sym, ◌∙◌, subst, append_assoc}
+use Rattle.std.proofs.Common.{◌≡◌, ℕ, ◌≤◌, arith, take, drop, append-nil, List, [], ◌∷◌, ◌++◌, length, map, inl, Some, None, refl, ap, sym, ◌∙◌, subst, append_assoc}
 use Rattle.std.proofs.lemmas.List.{drop_all, take_all}
-use Rattle.plan_check.specs.plan_model.specs.declared.streams.Stream.{Stream}
-use Rattle.plan_check.specs.plan_model.specs.declared.streams.Stream.TheVariants.{DownCommands, UpCommands, DownData, UpData}
-use Rattle.du_scheduler.specs.declared.plans.Plane.TheVariants.{C, U}
 use Rattle.sent_frames.specs.fragment_laws.specs.Apart.{IsIn}
 use Rattle.window_config.specs.declared.config.Config.{Config}
 use Rattle.window_config.specs.declared.plan.PlanLine.{PlanLine}
@@ -15,12 +12,12 @@ use Rattle.plan_check.specs.plan_model.proofs.ListLemmas.{in_right}
 use Rattle.frame_order.specs.Queues.{Gives, IsQueue, StandsFor}
 use Rattle.frame_order.specs.declared.queue.Queue.{Queue}
 use Rattle.frame_order.specs.declared.turns.Turn.{Turn}
-use Rattle.plan_table.specs.sent_order.specs.Runs.{stream_place, turn_of}
+use Rattle.plan_table.specs.sent_order.specs.Runs.{turn_of}
 use Rattle.plan_table.specs.Kept.{placed_line}
 use Rattle.plan_table.specs.Tables.{IsTable, IsTurnOf}
 use Rattle.plan_table.specs.declared.kept.PlacedLine.{PlacedLine}
 use Rattle.du_scheduler.specs.Frames.{IsFrameOf}
-use Rattle.du_scheduler.specs.Plans.{HasToSend, plane_of}
+use Rattle.du_scheduler.specs.Plans.{HasToSend}
 use Rattle.du_scheduler.specs.declared.plans.Plan.{Plan}
 
 -- the frame of the turn that the queue gave, and the others
@@ -109,16 +106,3 @@ written_over n new old n_is len =
 
 pub taken_over : (n : ℕ) (room new frame : List ℕ) → room ≡ new → take n new ≡ frame → take n room ≡ frame
 taken_over n room new frame is h = ap (λ (xs : List ℕ). take n xs) is ∙ h
-
--- the plane by the place of the stream
-pub low_plane : (s : Stream) (k : ℕ) → k ≡ stream_place s → k < 2 → C ≡ plane_of s
-low_plane DownCommands k e h = refl
-low_plane UpCommands k e h = refl
-low_plane DownData k e h = absurd (omega (arith, e, h))
-low_plane UpData k e h = absurd (omega (arith, e, h))
-
-pub high_plane : (s : Stream) (k : ℕ) → k ≡ stream_place s → 2 ≤ k → U ≡ plane_of s
-high_plane DownCommands k e h = absurd (omega (arith, e, h))
-high_plane UpCommands k e h = absurd (omega (arith, e, h))
-high_plane DownData k e h = refl
-high_plane UpData k e h = refl

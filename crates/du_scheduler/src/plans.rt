@@ -22,7 +22,7 @@ use fh_base::{List, NoMemory};
 use fh_time::{Slot, Ticks};
 use frame_order::Queue;
 use plan_check::{PlanRefusal, tested};
-use plan_model::PlannedLine;
+use plan_model::{PlannedLine, Stream};
 use plan_table::Table;
 use std::alloc::Global;
 use window_config::{Config, PlanLine};
@@ -34,6 +34,20 @@ pub enum Plane {
     C,
     /// U-plane: a fragment of a data message.
     U,
+}
+
+impl Plane {
+    ghost use Rattle.du_scheduler.specs.Plans.{plane_of};
+
+    /// The plane of a stream's frames.
+    fn of(stream: Stream) -> Plane
+        ensures { result ≡ plane_of stream }
+    {
+        match stream {
+            Stream::DownCommands | Stream::UpCommands => Plane::C,
+            Stream::DownData | Stream::UpData => Plane::U,
+        }
+    }
 }
 
 /// A frame that is sent.
@@ -143,7 +157,7 @@ impl Plan {
         );
         Some(Written {
             at: turn.at,
-            plane: if turn.stream < 2 { Plane::C } else { Plane::U },
+            plane: Plane::of(turn.stream),
             ep: turn.endpoint as usize,
             size,
         })

@@ -98,7 +98,7 @@ pub(crate) fn write_frame<F: Fn(RePlace) -> Wide>(
         → take result into.new ≡ sent_bytes c (source_of c.endpoints answer) f }
 {
     let seq = (turn.number % 256) as u8;
-    if turn.stream < 2 {
+    if turn.is_command() {
         command_frame(&lines[parts[0].line as usize], seq, into)
     } else {
         let fragment = Fragment {

@@ -1,3 +1,4 @@
+use Rattle.std.proofs.Common.{sym, ◌∙◌}
 use Rattle.du_scheduler.proofs.FrameLemmas.{command_is, data_here, data_is, few_here, line_good, within}
 use Rattle.sent_frames.specs.Sources.{source_of}
 use Rattle.du_scheduler.proofs.writing.write_frame.Goals as goal
@@ -16,13 +17,13 @@ command_frame-requires-clause-endpoint g c =
 pub write_data-requires-clause-data : goal.write_data-requires-clause-data
 write_data-requires-clause-data g c =
     let r = c.requires.frame in
-    (r.f.message, data_here r.c r.plan r.f c.args.lines.now c.args.parts.now c.args.turn.now c.args.fragment r.is c.if-turn-lt2.false, few_here r.c r.plan r.f c.args.lines.now c.args.parts.now c.args.turn.now c.args.fragment r.is c.if-turn-lt2.false)
+    (r.f.message, data_here r.c r.plan r.f c.args.lines.now c.args.parts.now c.args.turn.now c.args.fragment r.is (sym c.is_command.ensures ∙ c.if-is_command.false), few_here r.c r.plan r.f c.args.lines.now c.args.parts.now c.args.turn.now c.args.fragment r.is (sym c.is_command.ensures ∙ c.if-is_command.false))
 
-pub returns-then-turn-lt2-clause-bytes : goal.returns-then-turn-lt2-clause-bytes
-returns-then-turn-lt2-clause-bytes g c k plan f h answer by =
-    command_is k plan f c.args.lines.now c.args.parts.now c.args.turn.now c.args.fragment h (source_of k.endpoints answer) c.index-lines-parts.result _ c.index-lines-parts.is c.if-turn-lt2.true c.command_frame.ensures.bytes
+pub returns-then-is_command-clause-bytes : goal.returns-then-is_command-clause-bytes
+returns-then-is_command-clause-bytes g c k plan f h answer by =
+    command_is k plan f c.args.lines.now c.args.parts.now c.args.turn.now c.args.fragment h (source_of k.endpoints answer) c.index-lines-parts.result _ c.index-lines-parts.is (sym c.is_command.ensures ∙ c.if-is_command.true) c.command_frame.ensures.bytes
 
-pub returns-else-turn-lt2-clause-bytes : goal.returns-else-turn-lt2-clause-bytes
-returns-else-turn-lt2-clause-bytes g c k plan f h answer by =
-    let at = data_here k plan f c.args.lines.now c.args.parts.now c.args.turn.now c.args.fragment h c.if-turn-lt2.false in
-    data_is k plan f c.args.lines.now c.args.parts.now c.args.turn.now c.args.fragment h answer _ c.if-turn-lt2.false (λ a. c.write_data.ensures.bytes f.message at answer by _ a)
+pub returns-else-is_command-clause-bytes : goal.returns-else-is_command-clause-bytes
+returns-else-is_command-clause-bytes g c k plan f h answer by =
+    let at = data_here k plan f c.args.lines.now c.args.parts.now c.args.turn.now c.args.fragment h (sym c.is_command.ensures ∙ c.if-is_command.false) in
+    data_is k plan f c.args.lines.now c.args.parts.now c.args.turn.now c.args.fragment h answer _ (sym c.is_command.ensures ∙ c.if-is_command.false) (λ a. c.write_data.ensures.bytes f.message at answer by _ a)

@@ -1,8 +1,8 @@
 use Rattle.std.proofs.Common.{◌≡◌, ℕ, List, length, arith, map, refl, ap, ◌∙◌}
 use Rattle.plan_table.specs.sent_order.specs.Runs.{turn_of}
 use Rattle.frame_order.specs.declared.turns.Turn.{Turn}
-use Rattle.du_scheduler.proofs.GivingLemmas.{high_plane, low_plane, taken_over, written_over, next_asked, next_frame, next_left, next_of, next_there, none_left, same_left}
-use Rattle.du_scheduler.proofs.plans.Plan.write_next.Goals.{then-turn-lt2, else-turn-lt2}
+use Rattle.du_scheduler.specs.Plans.{plane_of}
+use Rattle.du_scheduler.proofs.GivingLemmas.{taken_over, written_over, next_asked, next_frame, next_left, next_of, next_there, none_left, same_left}
 use Rattle.du_scheduler.proofs.plans.Plan.write_next.Goals as goal
 
 pub returns-in_default-clause-leaves : goal.returns-in_default-clause-leaves
@@ -55,10 +55,7 @@ returns-clause-writes g c cf lines left h answer by =
       n.is,
       record {
         at = ap (λ (t : Turn). t.at.0) n.turn_is;
-        plane = elim c.if-turn-lt2.branch [
-          | then-turn-lt2 w ↦ w.result-is ∙ low_plane n.f.stream c.in-Some.turn.stream (ap (λ (t : Turn). t.stream) n.turn_is) w.if-turn-lt2.true
-          | else-turn-lt2 w ↦ w.result-is ∙ high_plane n.f.stream c.in-Some.turn.stream (ap (λ (t : Turn). t.stream) n.turn_is) w.if-turn-lt2.false
-        ];
+        plane = c.of.ensures ∙ ap (λ (t : Turn). plane_of t.stream) n.turn_is;
         ep = ap (λ (t : Turn). t.endpoint) n.turn_is;
         bytes = taken_over c.write_frame-size.result _ c.write_frame-size.new.into _ over bytes;
       },
