@@ -5,13 +5,13 @@ ghost use Rattle.plan_runs.specs.plan_parts.specs.Parts.{IsTimed};
 use fh_base::NoMemory;
 use fh_time::Ticks;
 use frame_order::{Queue, Run, Turn, frames_leave_in_time};
-use plan_model::Departures;
+use plan_model::{Departures, Stream};
 use plan_parts::TimedPart;
 use plan_runs::{Limits, parts_make_runs, stream_messages};
 use sent_order::{messages_are_runs, queue_of, sent_is_in_order};
 
 /// A frame that leaves at this time.
-fn turn(at: Ticks, endpoint: u8, stream: u8, number: u32, sub: u8) -> Turn
+fn turn(at: Ticks, endpoint: u8, stream: Stream, number: u32, sub: u8) -> Turn
     ensures at { result.at ≡ at }
     ensures sub { result.sub ≡ sub }
 {
@@ -48,7 +48,7 @@ fn part(start: Ticks, symbol: u8, size: u16) -> TimedPart
 /// A message of one stream, none of whose frames has left.
 fn run(at: i64, last: i64, number: u32, left: u8) -> Run {
     Run {
-        turn: turn(Ticks(at), 3, 2, number, 0),
+        turn: turn(Ticks(at), 3, Stream::DownData, number, 0),
         last: Ticks(last),
         left,
     }
@@ -59,7 +59,7 @@ fn parts_are_cut(rt: HostRuntime) -> Result<(), NoMemory> {
     // Fragments of 1,000 bytes, 60 ticks apart and at most 111 behind the first, which leaves 300 before its symbol.
     let limits = Limits {
         endpoint: 3,
-        stream: 2,
+        stream: Stream::DownData,
         pack: 2,
         fragment: Some(1000),
         departures: Departures {
@@ -120,34 +120,34 @@ fn messages_take_turns(rt: HostRuntime) -> Result<(), NoMemory> {
     assert_eq!(rt; queue.next_time(), None);
     // Two frames of symbol 0, and one of symbol 1, which starts between them.
     queue.add(Run {
-        turn: turn(Ticks(0), 0, 2, 0, 0),
+        turn: turn(Ticks(0), 0, Stream::DownData, 0, 0),
         last: Ticks(111),
         left: 2,
     });
     queue.add(Run {
-        turn: turn(Ticks(35), 0, 2, 1, 0),
+        turn: turn(Ticks(35), 0, Stream::DownData, 1, 0),
         last: Ticks(146),
         left: 1,
     });
     // Three frames whose last ones come at the end of the window, and an uplink command there.
     queue.add(Run {
-        turn: turn(Ticks(60), 1, 2, 7, 0),
+        turn: turn(Ticks(60), 1, Stream::DownData, 7, 0),
         last: Ticks(111),
         left: 3,
     });
     queue.add(Run {
-        turn: turn(Ticks(111), 1, 1, 3, 0),
+        turn: turn(Ticks(111), 1, Stream::UpCommands, 3, 0),
         last: Ticks(111),
         left: 1,
     });
     let wanted = [
-        turn(Ticks(0), 0, 2, 0, 0),
-        turn(Ticks(35), 0, 2, 1, 0),
-        turn(Ticks(60), 0, 2, 0, 1),
-        turn(Ticks(60), 1, 2, 7, 0),
-        turn(Ticks(111), 1, 1, 3, 0),
-        turn(Ticks(111), 1, 2, 7, 1),
-        turn(Ticks(111), 1, 2, 7, 2),
+        turn(Ticks(0), 0, Stream::DownData, 0, 0),
+        turn(Ticks(35), 0, Stream::DownData, 1, 0),
+        turn(Ticks(60), 0, Stream::DownData, 0, 1),
+        turn(Ticks(60), 1, Stream::DownData, 7, 0),
+        turn(Ticks(111), 1, Stream::UpCommands, 3, 0),
+        turn(Ticks(111), 1, Stream::DownData, 7, 1),
+        turn(Ticks(111), 1, Stream::DownData, 7, 2),
     ];
     for turn in wanted {
         assert_eq!(rt; queue.next_time(), Some(turn.at));
@@ -162,8 +162,8 @@ fn messages_take_turns(rt: HostRuntime) -> Result<(), NoMemory> {
 #[test]
 fn messages_are_queued(rt: HostRuntime) -> Result<(), NoMemory> {
     // Two frames of one symbol, the second at the end of its window, and one of another endpoint between them.
-    let first = turn(Ticks(100), 1, 2, 4, 0);
-    let between = turn(Ticks(120), 0, 0, 9, 0);
+    let first = turn(Ticks(100), 1, Stream::DownData, 4, 0);
+    let between = turn(Ticks(120), 0, Stream::DownCommands, 9, 0);
     let runs = [
         Run {
             turn: first,
@@ -177,7 +177,7 @@ fn messages_are_queued(rt: HostRuntime) -> Result<(), NoMemory> {
         },
     ];
     let mut queue = queue_of(rt.alloc(), 60, &runs)?;
-    let second = turn(Ticks(150), 1, 2, 4, 1);
+    let second = turn(Ticks(150), 1, Stream::DownData, 4, 1);
     for turn in [first, between, second] {
         assert_eq!(rt; queue.next(), Some(turn));
     }

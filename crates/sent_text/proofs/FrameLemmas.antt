@@ -1,5 +1,5 @@
 -- What is known of a frame that is sent for a document.
-use Rattle.std.proofs.Common.{◌≡◌, ℕ, zero, suc, ◌+◌, ◌-◌, ◌*◌, ◌/◌, ◌%◌, ◌<◌, ◌≤◌, min, inl, inr, List, [], ◌∷◌, get_or, length, map, length-append, Option, Some, None, refl, ap, ap₂, sym, ◌∙◌, subst, arith}
+use Rattle.std.proofs.Common.{◌≡◌, ℕ, zero, suc, ◌+◌, ◌-◌, ◌*◌, ◌/◌, ◌%◌, ◌<◌, ◌≤◌, min, inl, inr, List, [], ◌∷◌, get_or, length, map, length-append, Option, Some, None, refl, ap, ap₂, sym, ◌∙◌, subst, arith, true, false}
 use Rattle.std.specs.List.{slice_get}
 use Rattle.std.specs.Option.{option_to_list}
 use Rattle.std.specs.Prelude.{All, slice_index}
@@ -38,11 +38,12 @@ use Rattle.sent_frames.specs.Frames.{bytes_in, command_bytes, fragment_field}
 use Rattle.sent_frames.specs.Messages.{Source, message_bytes}
 use Rattle.sent_frames.proofs.MessageFacts.{IsGoodMessage, IsGoodPart, good_message, good_part, length_bytes, message_short}
 use Rattle.frame_order.specs.declared.turns.Turn.{Turn}
-use Rattle.sent_order.specs.Runs.{stream_place, turn_of}
+use Rattle.frame_order.specs.Turns.{is_command}
+use Rattle.sent_order.specs.Runs.{turn_of}
 use Rattle.document_traffic.specs.Sending.{class_of, lines_of, source_for}
 use Rattle.document_traffic.proofs.LineLemmas.{lines_fit}
 use Rattle.fh_document.specs.declared.delivered.TrafficClass.{TrafficClass}
-use Rattle.sent_text.specs.Frames.{IsPlaced, IsTurnFor, turn_class, turn_field}
+use Rattle.sent_text.specs.Frames.{IsPlaced, IsTurnFor, turn_field}
 use Rattle.fh_time.specs.declared.values.Ticks.{Ticks}
 use Rattle.sent_lines.specs.declared.lines.FrameLine.{FrameLine}
 use Rattle.sent_text.specs.Rows.{frame_for, line_for}
@@ -80,29 +81,23 @@ line_at_index es lines p m =
 
 -- ---- streams
 
-pub class_is : (s : Stream) (t : Turn) → t.stream ≡ stream_place s → IsSentStream s → turn_class t ≡ class_of s
-class_is DownCommands t e sent = rw e refl
-class_is UpCommands t e sent = rw e refl
-class_is DownData t e sent = rw e refl
-class_is UpData t e sent = absurd sent
-
-data_stream : (s : Stream) → IsSentStream s → 2 ≤ stream_place s → s ≡ DownData
-data_stream DownCommands t h = absurd (omega (arith, h))
-data_stream UpCommands t h = absurd (omega (arith, h))
+data_stream : (s : Stream) → IsSentStream s → is_command s ≡ false → s ≡ DownData
+data_stream DownCommands t h = cc
+data_stream UpCommands t h = cc
 data_stream DownData t h = refl
 data_stream UpData t h = absurd t
 
-command_frames : (s : Stream) (c : Config) (m : Message Part) → stream_place s < 2 → frames_in c s m ≡ 1
+command_frames : (s : Stream) (c : Config) (m : Message Part) → is_command s ≡ true → frames_in c s m ≡ 1
 command_frames DownCommands c m h = refl
 command_frames UpCommands c m h = refl
-command_frames DownData c m h = absurd (omega (arith, h))
-command_frames UpData c m h = absurd (omega (arith, h))
+command_frames DownData c m h = cc
+command_frames UpData c m h = cc
 
-low_bytes : (s : Stream) (c : Config) (source : Source) (f : SentFrame) → stream_place s < 2 → bytes_in s c source f ≡ command_bytes f
+low_bytes : (s : Stream) (c : Config) (source : Source) (f : SentFrame) → is_command s ≡ true → bytes_in s c source f ≡ command_bytes f
 low_bytes DownCommands c source f h = refl
 low_bytes UpCommands c source f h = refl
-low_bytes DownData c source f h = absurd (omega (arith, h))
-low_bytes UpData c source f h = absurd (omega (arith, h))
+low_bytes DownData c source f h = cc
+low_bytes UpData c source f h = cc
 
 -- ---- lengths
 
@@ -182,19 +177,19 @@ module _ (d : Document) (f : SentFrame) (t : Turn) (h : IsTurnFor d f t) where
   pub first_line : slice_get d.plan f.message.first.planned.index ≡ Some f.message.first.planned.line
   first_line = subst (λ (m : Message Part). slice_get d.plan m.first.planned.index ≡ Some m.first.planned.line) (sym same_message) (from_plan of_message.n.message.first (inl refl))
 
-  pub class_here : turn_class t ≡ class_of f.stream
-  class_here = class_is f.stream t (ap (λ (u : Turn). u.stream) h.is) sent_stream
+  pub class_here : class_of t.stream ≡ class_of f.stream
+  class_here = ap (λ (u : Turn). class_of u.stream) h.is
 
   -- ---- commands
 
-  low_stream : t.stream < 2 → stream_place f.stream < 2
-  low_stream low = subst (λ (n : ℕ). n < 2) (ap (λ (u : Turn). u.stream) h.is) low
+  low_stream : is_command t.stream ≡ true → is_command f.stream ≡ true
+  low_stream low = sym (ap (λ (u : Turn). is_command u.stream) h.is) ∙ low
 
-  pub command_field : t.stream < 2 → turn_field t 1 ≡ fragment_field d.config f
+  pub command_field : is_command t.stream ≡ true → turn_field t 1 ≡ fragment_field d.config f
   command_field low =
       ap (λ (u : Turn). turn_field u 1) h.is ∙ ap (λ (n : ℕ). turn_field (turn_of f) n) (sym (command_frames f.stream d.config f.message (low_stream low)))
 
-  pub command_long : (p : PlannedLine) (bytes : ℕ) → t.stream < 2 → p ≡ f.message.first.planned
+  pub command_long : (p : PlannedLine) (bytes : ℕ) → is_command t.stream ≡ true → p ≡ f.message.first.planned
       → bytes ≡ length (command_frame p.endpoint.id (t.number % 256) (command_head p) (command_section p)) → bytes ≡ length (frame_for d f)
   command_long p bytes low is long =
       long
@@ -205,8 +200,8 @@ module _ (d : Document) (f : SentFrame) (t : Turn) (h : IsTurnFor d f t) where
 
   -- ---- data
 
-  pub is_data : 2 ≤ t.stream → f.stream ≡ DownData
-  is_data high = data_stream f.stream sent_stream (subst (λ (n : ℕ). 2 ≤ n) (ap (λ (u : Turn). u.stream) h.is) high)
+  pub is_data : is_command t.stream ≡ false → f.stream ≡ DownData
+  is_data high = data_stream f.stream sent_stream (sym (ap (λ (u : Turn). is_command u.stream) h.is) ∙ high)
 
   pub record IsDataFrame : Type 0 where
     pub stream : f.stream ≡ DownData
@@ -215,7 +210,7 @@ module _ (d : Document) (f : SentFrame) (t : Turn) (h : IsTurnFor d f t) where
     pub below : t.sub < piece_count d.config.fragment (size_of part_fields f.message)
     pub stand : (x : Part) → IsIn x (parts_of f.message) → slice_get d.plan x.planned.index ≡ Some x.planned.line
 
-  pub data_frame : 2 ≤ t.stream → IsDataFrame
+  pub data_frame : is_command t.stream ≡ false → IsDataFrame
   data_frame high =
       let data_is = is_data high in
       let m = subst (λ (s : Stream). IsIn of_message.n (messages_of d.config ps s f.ep f.endpoint)) data_is of_message.there in
@@ -229,7 +224,7 @@ module _ (d : Document) (f : SentFrame) (t : Turn) (h : IsTurnFor d f t) where
         stand = subst (λ (n : Message Part). (x : Part) → IsIn x (parts_of n) → slice_get d.plan x.planned.index ≡ Some x.planned.line) (sym same_message) from_plan;
       }
 
-  pub is_placed : (p : PlannedLine) (parts : List PlacedLine) → 2 ≤ t.stream → p ≡ f.message.first.planned → parts ≡ map placed_line (parts_of f.message)
+  pub is_placed : (p : PlannedLine) (parts : List PlacedLine) → is_command t.stream ≡ false → p ≡ f.message.first.planned → parts ≡ map placed_line (parts_of f.message)
       → IsPlaced d.plan p.endpoint parts f.message
   is_placed p parts high is are =
       let data_is = data_frame high in
@@ -239,12 +234,12 @@ module _ (d : Document) (f : SentFrame) (t : Turn) (h : IsTurnFor d f t) where
         each = λ x i. record { line = data_is.stand x i; endpoint = (data_is.good.each x i).endpoint_is ∙ sym first };
       }
 
-  pub data_field : 2 ≤ t.stream → turn_field t (piece_count d.config.fragment (size_of part_fields f.message)) ≡ fragment_field d.config f
+  pub data_field : is_command t.stream ≡ false → turn_field t (piece_count d.config.fragment (size_of part_fields f.message)) ≡ fragment_field d.config f
   data_field high =
       ap (λ (u : Turn). turn_field u (piece_count d.config.fragment (size_of part_fields f.message))) h.is
       ∙ ap (λ (s : Stream). turn_field (turn_of f) (frames_in d.config s f.message)) (sym (is_data high))
 
-  pub data_long : 2 ≤ t.stream → 8 + min d.config.fragment (size_of part_fields f.message - t.sub * d.config.fragment) ≡ length (frame_for d f)
+  pub data_long : is_command t.stream ≡ false → 8 + min d.config.fragment (size_of part_fields f.message - t.sub * d.config.fragment) ≡ length (frame_for d f)
   data_long high =
       let data_is = data_frame high in
       let c = d.config in
@@ -285,7 +280,7 @@ module _ (d : Document) (f : SentFrame) (t : Turn) (h : IsTurnFor d f t) where
       ap₂ (λ (i k : ℕ). planned_of i k e line) place (ep ∙ sym first_part.ep_is) ∙ ap₂ (λ (x : EndpointConfig) (l : PlanLine). planned_of p.index p.ep x l) of_e of_line
 
   -- all that is told
-  pub line_is : (class : TrafficClass) (number : ℕ) (p : PlannedLine) (first : PlacedLine) (place : ℕ) (field : SeqField) (bytes : ℕ) → class ≡ turn_class t → p ≡ f.message.first.planned
+  pub line_is : (class : TrafficClass) (number : ℕ) (p : PlannedLine) (first : PlacedLine) (place : ℕ) (field : SeqField) (bytes : ℕ) → class ≡ class_of t.stream → p ≡ f.message.first.planned
       → first ≡ placed_line f.message.first → place ≡ slice_index d.plan_lines p.index → field ≡ fragment_field d.config f → bytes ≡ length (frame_for d f)
       → told_of class number t.at p.endpoint.id p first.symbol place field bytes ≡ line_for d number f
   line_is class number p first place field bytes class_is p_is first_is place_is field_is bytes_is =

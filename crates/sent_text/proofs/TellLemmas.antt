@@ -28,7 +28,7 @@ use Rattle.document_traffic.specs.Sending.{SentCounts, class_of, lines_of, none_
 use Rattle.document_traffic.proofs.LineLemmas.{lines_fit}
 use Rattle.sent_lines.specs.Lines.{frame_line_text}
 use Rattle.sent_lines.specs.declared.lines.FrameLine.{FrameLine}
-use Rattle.sent_text.specs.Frames.{IsTabled, IsTurnFor, turn_class}
+use Rattle.sent_text.specs.Frames.{IsTabled, IsTurnFor}
 use Rattle.sent_text.specs.Rows.{SentRow, line_for, number_of, row_of, rows_behind, rows_of, with_frame}
 use Rattle.sent_text.specs.Text.{end_text, row_text, sent_text}
 use Rattle.sent_text.specs.Told.{HasCounted, IsTally}
@@ -112,22 +112,22 @@ module _ (d : Document) (is : IsDocument d) (valid : IsValid d.config d.plan) (t
       let number = s.number in
       omega (arith, few, number)
 
-  same_class : turn_class turn ≡ class_of n.f.stream
+  same_class : class_of turn.stream ≡ class_of n.f.stream
   same_class = class_here d n.f turn turn_for
 
-  counted_is : (class : TrafficClass) (new : Tally) (k : ℕ) → class ≡ turn_class turn → HasCounted class t new k → IsTally (with_frame n.f s.counts) new × (k ≡ number_of n.f (with_frame n.f s.counts))
+  counted_is : (class : TrafficClass) (new : Tally) (k : ℕ) → class ≡ class_of turn.stream → HasCounted class t new k → IsTally (with_frame n.f s.counts) new × (k ≡ number_of n.f (with_frame n.f s.counts))
   counted_is class new k class_is has =
       subst (λ (c : TrafficClass). HasCounted c t new k → IsTally (with_frame n.f s.counts) new × (k ≡ number_of n.f (with_frame n.f s.counts))) (sym (class_is ∙ same_class)) (λ h. h s.counts s.tally) has
 
   -- the line that is told is the frame's
-  line_told : (class : TrafficClass) (new : Tally) (k : ℕ) (frame : FrameLine) (e : DeliveriesTo) (copies : List ℤ) → class ≡ turn_class turn → HasCounted class t new k → frame ≡ line_for d k n.f
+  line_told : (class : TrafficClass) (new : Tally) (k : ℕ) (frame : FrameLine) (e : DeliveriesTo) (copies : List ℤ) → class ≡ class_of turn.stream → HasCounted class t new k → frame ≡ line_for d k n.f
       → e ≡ deliveries_to d Ru → copies ≡ copies_of e.document e.side class k → frame_line_text frame copies ≡ row_text (row_of d (with_frame n.f s.counts) n.f)
   line_told class new k frame e copies class_is has frame_is of_d copies_is =
       let number = (counted_is class new k class_is has).1 in
       ap₂ (λ (x : FrameLine) (cs : List ℤ). frame_line_text x cs) (frame_is ∙ ap (λ (i : ℕ). line_for d i n.f) number)
       (copies_is ∙ ap (λ (x : DeliveriesTo). copies_of x.document x.side class k) of_d ∙ ap₂ (λ (c : TrafficClass) (i : ℕ). copies_of d Ru c i) (class_is ∙ same_class) number)
 
-  pub text_told : (class : TrafficClass) (new : Tally) (k : ℕ) (frame : FrameLine) (e : DeliveriesTo) (copies : List ℤ) → class ≡ turn_class turn → HasCounted class t new k
+  pub text_told : (class : TrafficClass) (new : Tally) (k : ℕ) (frame : FrameLine) (e : DeliveriesTo) (copies : List ℤ) → class ≡ class_of turn.stream → HasCounted class t new k
       → ((f : SentFrame) → IsTurnFor d f turn → frame ≡ line_for d k f) → e ≡ deliveries_to d Ru → copies ≡ copies_of e.document e.side class k
       → frame_line_text frame copies ≡ row_text (row_of d (with_frame n.f s.counts) n.f)
   text_told class new k frame e copies class_is has frame_is of_d copies_is = line_told class new k frame e copies class_is has (frame_is n.f turn_for) of_d copies_is
@@ -143,7 +143,7 @@ module _ (d : Document) (is : IsDocument d) (valid : IsValid d.config d.plan) (t
       s.rows ∙ ap (λ (fs : List SentFrame). s.told ++ rows_behind d s.counts fs) n.is
       ∙ sym (append_assoc s.told (row_of d (with_frame n.f s.counts) n.f ∷ []) (rows_behind d (with_frame n.f s.counts) n.rest))
 
-  pub told_next : (class : TrafficClass) (new : Tally) (k : ℕ) (text : List ℕ) (u : Option (List ℕ)) (r : List ℕ) → class ≡ turn_class turn → HasCounted class t new k
+  pub told_next : (class : TrafficClass) (new : Tally) (k : ℕ) (text : List ℕ) (u : Option (List ℕ)) (r : List ℕ) → class ≡ class_of turn.stream → HasCounted class t new k
       → new.commands + new.fragments ≡ t.commands + t.fragments + 1 → text ≡ row_text (row_of d (with_frame n.f s.counts) n.f) → Carried v p text u r → Stands d new next w o u r
   told_next class new k text u r class_is has more text_is told = record {
     counts = with_frame n.f s.counts;

@@ -1,12 +1,10 @@
 -- A frame that is sent for a document, as the queue gives it (this project's means).
-use Rattle.std.specs.Prelude.{◌≡◌, ℕ, ◌+◌, ◌%◌, ◌==◌, nat_lt, if◌then◌else◌, List, map, Some}
+use Rattle.std.specs.Prelude.{◌≡◌, ℕ, ◌+◌, ◌%◌, ◌==◌, List, map, Some}
 use Rattle.std.specs.List.{slice_get}
 use Rattle.ecpri_fragments.specs.declared.sequence.SeqField.{SeqField}
 use Rattle.window_config.specs.declared.endpoints.EndpointConfig.{EndpointConfig}
 use Rattle.window_config.specs.declared.plan.PlanLine.{PlanLine}
 use Rattle.fh_document.specs.Proper.{IsDocument}
-use Rattle.fh_document.specs.declared.delivered.TrafficClass.{TrafficClass}
-use Rattle.fh_document.specs.declared.delivered.TrafficClass.TheVariants.{C, U}
 use Rattle.fh_document.specs.declared.document.Document.{Document}
 use Rattle.fragment_laws.specs.Apart.{IsIn}
 use Rattle.frame_order.specs.declared.turns.Turn.{Turn}
@@ -20,10 +18,6 @@ use Rattle.plan_table.specs.declared.kept.PlacedLine.{PlacedLine}
 use Rattle.plan_table.specs.declared.tables.Table.{Table}
 use Rattle.sent_order.specs.Runs.{turn_of}
 use Rattle.document_traffic.specs.Sending.{lines_of, sent_for}
-
--- the class of a turn's frame: the first two streams of an endpoint are commands
-abbrev pub turn_class : Turn → TrafficClass
-turn_class t = if nat_lt t.stream 2 then C else U
 
 -- the sequence field of a turn's frame, where so many carry its message
 abbrev pub turn_field : Turn → ℕ → SeqField

@@ -1,11 +1,12 @@
 // What is told of a frame, and its copies.
 ghost use Rattle.std.specs.Prelude.{◌≡◌, ◌≢◌, ◌≤◌, min, length, slice_index};
+ghost use Rattle.document_traffic.specs.Sending.{class_of};
 ghost use Rattle.fh_document.specs.Proper.{IsDocument};
 ghost use Rattle.fh_document.specs.declared.delivered.TrafficClass.TheVariants.{M};
 ghost use Rattle.frame_deliveries.specs.Copies.{copies_of as copies_in};
 ghost use Rattle.plan_model.specs.Sent.{SentFrame};
 ghost use Rattle.plan_table.specs.Kept.{placed_line};
-ghost use Rattle.sent_text.specs.Frames.{IsTabled, IsTurnFor, turn_class};
+ghost use Rattle.sent_text.specs.Frames.{IsTabled, IsTurnFor};
 ghost use Rattle.sent_text.specs.Rows.{line_for};
 
 use crate::sizes::{line_at, piece_of};
@@ -13,19 +14,18 @@ use fh_base::List;
 use fh_document::{Document, TrafficClass};
 use frame_deliveries::FrameDeliveries;
 use frame_order::Turn;
-use plan_model::PlannedLine;
+use plan_model::{PlannedLine, Stream};
 use plan_table::{PlacedLine, Table};
 use sent_lines::FrameLine;
 
-/// The class of a turn's frame: the first two streams of an endpoint are commands.
-pub(crate) fn class_of(turn: &Turn) -> TrafficClass
-    ensures value { result ≡ turn_class turn.now }
+/// The class of a stream's frames.
+pub(crate) fn class_of(stream: Stream) -> TrafficClass
+    ensures value { result ≡ class_of stream }
     ensures counted { result ≢ M }
 {
-    if turn.stream < 2 {
-        TrafficClass::C
-    } else {
-        TrafficClass::U
+    match stream {
+        Stream::DownCommands | Stream::UpCommands => TrafficClass::C,
+        Stream::DownData | Stream::UpData => TrafficClass::U,
     }
 }
 
@@ -64,7 +64,7 @@ pub(crate) fn told(document: &Document, table: &Table, turn: &Turn, number: u64)
     let p = planned_line(document, turn, first);
     let piece = piece_of(document, &p, parts, turn);
     FrameLine {
-        class: class_of(turn),
+        class: class_of(turn.stream),
         number,
         at: turn.at,
         id: p.endpoint.id,

@@ -73,7 +73,7 @@ fn tell_frames<K: Sink>(
         fragments: 0,
     };
     while let Some(turn) = queue.next() {
-        let class = class_of(&turn);
+        let class = class_of(turn.stream);
         let number = tally.count(class);
         let frame = told(document, table, &turn, number);
         tell_line(&frame, copies_of(deliveries, class, number), owed, out)?;

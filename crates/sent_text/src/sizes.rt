@@ -118,7 +118,7 @@ pub(crate) fn piece_of(
     ensures field { (f : SentFrame) → IsFrameOf document.now f parts.now turn.now → p.now ≡ f.message.first.planned → result.field ≡ fragment_field document.now.config f }
     ensures bytes { (f : SentFrame) → IsFrameOf document.now f parts.now turn.now → p.now ≡ f.message.first.planned → result.bytes ≡ length (frame_for document.now f) }
 {
-    if turn.stream < 2 {
+    if turn.is_command() {
         command_piece(p, turn)
     } else {
         let bytes = message_size(&document.plan, &p.endpoint, parts);

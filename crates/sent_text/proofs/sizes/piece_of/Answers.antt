@@ -27,38 +27,38 @@ pub message_size-bytes-requires-clause-message : goal.message_size-bytes-require
 message_size-bytes-requires-clause-message c =
     let r = c.requires.frame in (
       r.0.message,
-      is_placed c.args.document.now r.0 c.args.turn.now r.1.turn c.args.p.now c.args.parts.now c.if-turn-lt2.false r.2 r.1.parts_are,
-      (data_frame c.args.document.now r.0 c.args.turn.now r.1.turn c.if-turn-lt2.false).short,
+      is_placed c.args.document.now r.0 c.args.turn.now r.1.turn c.args.p.now c.args.parts.now (sym c.is_command.ensures ∙ c.if-is_command.false) r.2 r.1.parts_are,
+      (data_frame c.args.document.now r.0 c.args.turn.now r.1.turn (sym c.is_command.ensures ∙ c.if-is_command.false)).short,
     )
 
 pub fragment_piece-requires-clause-bytes : goal.fragment_piece-requires-clause-bytes
 fragment_piece-requires-clause-bytes c =
     let r = c.requires.frame in
-    let size = c.message_size-bytes.ensures r.0.message (is_placed c.args.document.now r.0 c.args.turn.now r.1.turn c.args.p.now c.args.parts.now c.if-turn-lt2.false r.2 r.1.parts_are) in
-    subst (λ (n : ℕ). n ≤ MESSAGE_BYTES) (sym size) (data_frame c.args.document.now r.0 c.args.turn.now r.1.turn c.if-turn-lt2.false).short
+    let size = c.message_size-bytes.ensures r.0.message (is_placed c.args.document.now r.0 c.args.turn.now r.1.turn c.args.p.now c.args.parts.now (sym c.is_command.ensures ∙ c.if-is_command.false) r.2 r.1.parts_are) in
+    subst (λ (n : ℕ). n ≤ MESSAGE_BYTES) (sym size) (data_frame c.args.document.now r.0 c.args.turn.now r.1.turn (sym c.is_command.ensures ∙ c.if-is_command.false)).short
 
 pub fragment_piece-requires-clause-sub : goal.fragment_piece-requires-clause-sub
 fragment_piece-requires-clause-sub c =
     let r = c.requires.frame in
-    let size = c.message_size-bytes.ensures r.0.message (is_placed c.args.document.now r.0 c.args.turn.now r.1.turn c.args.p.now c.args.parts.now c.if-turn-lt2.false r.2 r.1.parts_are) in
-    subst (λ (n : ℕ). c.args.turn.now.sub < piece_count c.args.document.now.config.fragment n) (sym size) (data_frame c.args.document.now r.0 c.args.turn.now r.1.turn c.if-turn-lt2.false).below
+    let size = c.message_size-bytes.ensures r.0.message (is_placed c.args.document.now r.0 c.args.turn.now r.1.turn c.args.p.now c.args.parts.now (sym c.is_command.ensures ∙ c.if-is_command.false) r.2 r.1.parts_are) in
+    subst (λ (n : ℕ). c.args.turn.now.sub < piece_count c.args.document.now.config.fragment n) (sym size) (data_frame c.args.document.now r.0 c.args.turn.now r.1.turn (sym c.is_command.ensures ∙ c.if-is_command.false)).below
 
-pub returns-then-turn-lt2-clause-field : goal.returns-then-turn-lt2-clause-field
-returns-then-turn-lt2-clause-field c = λ f h is. c.command_piece.ensures.field ∙ command_field c.args.document.now f c.args.turn.now h.turn c.if-turn-lt2.true
+pub returns-then-is_command-clause-field : goal.returns-then-is_command-clause-field
+returns-then-is_command-clause-field c = λ f h is. c.command_piece.ensures.field ∙ command_field c.args.document.now f c.args.turn.now h.turn (sym c.is_command.ensures ∙ c.if-is_command.true)
 
-pub returns-then-turn-lt2-clause-bytes : goal.returns-then-turn-lt2-clause-bytes
-returns-then-turn-lt2-clause-bytes c = λ f h is.
-    command_long c.args.document.now f c.args.turn.now h.turn c.args.p.now c.command_piece.result.bytes c.if-turn-lt2.true is c.command_piece.ensures.bytes
+pub returns-then-is_command-clause-bytes : goal.returns-then-is_command-clause-bytes
+returns-then-is_command-clause-bytes c = λ f h is.
+    command_long c.args.document.now f c.args.turn.now h.turn c.args.p.now c.command_piece.result.bytes (sym c.is_command.ensures ∙ c.if-is_command.true) is c.command_piece.ensures.bytes
 
-pub returns-else-turn-lt2-clause-field : goal.returns-else-turn-lt2-clause-field
-returns-else-turn-lt2-clause-field c = λ f h is.
-    let size = c.message_size-bytes.ensures f.message (is_placed c.args.document.now f c.args.turn.now h.turn c.args.p.now c.args.parts.now c.if-turn-lt2.false is h.parts_are) in
+pub returns-else-is_command-clause-field : goal.returns-else-is_command-clause-field
+returns-else-is_command-clause-field c = λ f h is.
+    let size = c.message_size-bytes.ensures f.message (is_placed c.args.document.now f c.args.turn.now h.turn c.args.p.now c.args.parts.now (sym c.is_command.ensures ∙ c.if-is_command.false) is h.parts_are) in
     c.fragment_piece.ensures.field ∙ ap (λ (n : ℕ). turn_field c.args.turn.now (piece_count c.args.document.now.config.fragment n)) size
-    ∙ data_field c.args.document.now f c.args.turn.now h.turn c.if-turn-lt2.false
+    ∙ data_field c.args.document.now f c.args.turn.now h.turn (sym c.is_command.ensures ∙ c.if-is_command.false)
 
-pub returns-else-turn-lt2-clause-bytes : goal.returns-else-turn-lt2-clause-bytes
-returns-else-turn-lt2-clause-bytes c = λ f h is.
+pub returns-else-is_command-clause-bytes : goal.returns-else-is_command-clause-bytes
+returns-else-is_command-clause-bytes c = λ f h is.
     let fragment = c.args.document.now.config.fragment in
-    let size = c.message_size-bytes.ensures f.message (is_placed c.args.document.now f c.args.turn.now h.turn c.args.p.now c.args.parts.now c.if-turn-lt2.false is h.parts_are) in
+    let size = c.message_size-bytes.ensures f.message (is_placed c.args.document.now f c.args.turn.now h.turn c.args.p.now c.args.parts.now (sym c.is_command.ensures ∙ c.if-is_command.false) is h.parts_are) in
     c.fragment_piece.ensures.bytes ∙ ap (λ (n : ℕ). 8 + min fragment (n - c.args.turn.now.sub * fragment)) size
-    ∙ data_long c.args.document.now f c.args.turn.now h.turn c.if-turn-lt2.false
+    ∙ data_long c.args.document.now f c.args.turn.now h.turn (sym c.is_command.ensures ∙ c.if-is_command.false)
