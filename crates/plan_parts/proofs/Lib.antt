@@ -8,3 +8,4 @@ pub mod SymbolLemmas
 pub mod OrderedLemmas
 pub mod ListedLemmas
 pub mod PartLemmas
+pub mod OpenLemmas

@@ -6,3 +6,4 @@ pub mod Placing
 pub mod Sweeping
 pub mod Parts
 pub mod Keys
+pub mod OpenMessages

@@ -1,23 +1,24 @@
 -- Messages part by part are the packs of the definition, with their numbers, times and frames.
-use Rattle.std.proofs.Common.{◌≡◌, ℕ, ℤ, pos, ◌+◌, ◌*◌, ◌+ℤ◌, Bool, true, false, ◌&&◌, nat_lt, nat_le, min, if◌then◌else◌, List, [], ◌∷◌, length, map, refl, ap, ap₂, sym, ◌∙◌, zero-mul, arith}
+use Rattle.std.proofs.Common.{◌≡◌, ℕ, ℤ, pos, ◌+◌, ◌*◌, ◌+ℤ◌, Bool, true, false, min, if◌then◌else◌, List, [], ◌∷◌, length, map, refl, ap, ap₂, sym, ◌∙◌, arith}
 use Rattle.window_config.specs.declared.config.Config.{Config}
 use Rattle.window_config.specs.declared.endpoints.EndpointConfig.{EndpointConfig}
 use Rattle.plan_parts.specs.plan_model.specs.declared.lines.PlannedLine.{PlannedLine}
-use Rattle.plan_parts.specs.plan_model.specs.Departures.{start_of_part}
-use Rattle.plan_parts.specs.plan_model.specs.Packs.{Message, alone as message_alone, parts_of, with_part, size_of, same_symbol, takes, packs_behind, packs, frames_before, numbered_behind, numbered}
+use Rattle.plan_parts.specs.plan_model.specs.Departures.{departures_of, start_of_part}
+use Rattle.plan_parts.specs.plan_model.specs.Packs.{Message, alone as message_alone, parts_of, with_part, size_of, takes, packs_behind, packs, frames_before, numbered_behind, numbered}
 use Rattle.plan_parts.specs.plan_model.specs.Streams.{Part, frames_in, most_parts, part_fields, messages_of, parts_in}
 use Rattle.plan_parts.specs.plan_model.specs.declared.streams.Stream.{Stream}
 use Rattle.plan_parts.specs.plan_model.specs.declared.streams.Stream.TheVariants.{DownCommands, UpCommands, DownData, UpData}
-use Rattle.sent_order.specs.plan_model.proofs.PackLemmas.{symbol_alike, before_alike, sum_more, length_more, wait_more}
+use Rattle.plan_model.proofs.PackLemmas.{length_more}
+use Rattle.plan_parts.proofs.OpenLemmas.{IsOpenOf, first_is, grown_is, next_is, takes_is}
+use Rattle.plan_parts.specs.OpenMessages.{alone, grown, takes_more}
 use Rattle.frame_order.specs.declared.turns.Run.{Run}
 use Rattle.sent_order.specs.Runs.{run_of}
 use Rattle.plan_parts.specs.Parts.{timed}
 use Rattle.plan_runs.specs.Runs.{PartsMakeRuns, limits_of, first_sections, stream_begins}
-use Rattle.plan_runs.specs.Walks.{first_message, frames_needed, run_grown, run_next_to, run_from, same_place, run_takes_more, run_wait, walk, walked, later_begins, begins}
+use Rattle.plan_runs.specs.Walks.{frames_needed, run_next_to, run_from, walk, walked, later_begins, begins}
 use Rattle.plan_runs.specs.declared.limits.Limits.{Limits}
-use Rattle.plan_runs.specs.declared.open_messages.OpenMessage.{OpenMessage}
+use Rattle.plan_parts.specs.declared.open_messages.OpenMessage.{OpenMessage}
 use Rattle.plan_parts.specs.declared.parts.TimedPart.{TimedPart}
-use Rattle.plan_parts.specs.unit_model.specs.Terms.{MESSAGE_BYTES}
 
 -- ---- times and frames
 
@@ -27,14 +28,7 @@ frames_are c UpCommands ep m = refl
 frames_are c DownData ep m = refl
 frames_are c UpData ep m = refl
 
--- ---- an open message
-
-pub record IsOpenOf (c : Config) (stream : Stream) (ep : ℕ) (o : OpenMessage) (m : Message Part) (earlier : List (Message Part)) : Type 0 where
-  pub first : o.first ≡ timed stream m.first
-  pub parts : o.parts ≡ length (parts_of m)
-  pub bytes : o.bytes ≡ size_of part_fields m
-  pub number : o.number ≡ length earlier
-  pub wait : o.wait ≡ min (frames_before part_fields (frames_in c stream) m earlier * (limits_of c stream ep).departures.gap) (limits_of c stream ep).departures.spread
+-- ---- the messages, one after the other
 
 module _ (c : Config) (stream : Stream) (ep : ℕ) where
   abbrev l : Limits
@@ -43,48 +37,27 @@ module _ (c : Config) (stream : Stream) (ep : ℕ) where
   abbrev frames : Message Part → ℕ
   frames m = frames_in c stream m
 
-  takes_is : (o : OpenMessage) (m : Message Part) (earlier : List (Message Part)) (p : Part) → IsOpenOf c stream ep o m earlier
-      → run_takes_more l.pack o (timed stream p) ≡ takes part_fields (most_parts c stream) m p
-  takes_is o m earlier p i =
-      ap₂ (λ (x : TimedPart) (n : ℕ). same_place x (timed stream p) && (nat_lt n l.pack && nat_le (o.bytes + (timed stream p).size) MESSAGE_BYTES)) i.first i.parts
-      ∙ ap (λ (b : ℕ). same_place (timed stream m.first) (timed stream p) && (nat_lt (length (parts_of m)) l.pack && nat_le (b + (timed stream p).size) MESSAGE_BYTES)) i.bytes
+  abbrev IsOpen : OpenMessage → Message Part → List (Message Part) → Type 0
+  IsOpen = IsOpenOf stream (departures_of c stream) (frames_in c stream)
 
-  grown_is : (o : OpenMessage) (m : Message Part) (earlier : List (Message Part)) (p : Part) → IsOpenOf c stream ep o m earlier
-      → IsOpenOf c stream ep (run_grown o (timed stream p)) (with_part m p) earlier
-  grown_is o m earlier p i = record {
-    first = i.first;
-    parts = (let a = i.parts in let b = length_more m.more p in omega (arith, a, b));
-    bytes = (let a = i.bytes in let b = sum_more part_fields.size (parts_of m) p in omega (arith, a, b));
-    number = i.number;
-    wait = i.wait ∙ ap (λ (n : ℕ). min (n * l.departures.gap) l.departures.spread) (before_alike frames m (with_part m p) earlier (λ r. refl));
-  }
+  takes_here : (o : OpenMessage) (m : Message Part) (earlier : List (Message Part)) (p : Part) → IsOpen o m earlier → takes_more l.pack o (timed stream p) ≡ takes part_fields (most_parts c stream) m p
+  takes_here o m earlier p i = takes_is stream (departures_of c stream) (frames_in c stream) (most_parts c stream) o m earlier p i
 
-  next_is : (o : OpenMessage) (m : Message Part) (earlier : List (Message Part)) (p : Part) → IsOpenOf c stream ep o m earlier
-      → IsOpenOf c stream ep (run_next_to l o (timed stream p)) (message_alone p) (m ∷ earlier)
-  unfolding frames_before
-  next_is o m earlier p i = record { first = refl; parts = refl; bytes = omega arith; number = (let n = i.number in omega (arith, n)); wait = wait }
-    where
-      go : (t : Bool) → same_symbol part_fields p m.first ≡ t
-          → (let w : ℕ = if t then min (o.wait + frames_needed l.fragment o.bytes * l.departures.gap) l.departures.spread else 0 in w)
-          ≡ min ((let n : ℕ = if t then frames m + frames_before part_fields frames (message_alone p) earlier else 0 in n) * l.departures.gap) l.departures.spread
-      go false e = omega (arith, zero-mul l.departures.gap)
-      go true e =
-          ap₂ (λ (w f : ℕ). min (w + f * l.departures.gap) l.departures.spread) i.wait (ap (frames_needed l.fragment) i.bytes ∙ sym (frames_are c stream ep m))
-          ∙ wait_more (frames_before part_fields frames m earlier) (frames m) l.departures.gap l.departures.spread
-          ∙ ap (λ (n : ℕ). min ((frames m + n) * l.departures.gap) l.departures.spread) (before_alike frames m (message_alone p) earlier (λ r. sym (symbol_alike p m.first r e)))
+  grown_here : (o : OpenMessage) (m : Message Part) (earlier : List (Message Part)) (p : Part) → IsOpen o m earlier → IsOpen (grown o (timed stream p)) (with_part m p) earlier
+  grown_here o m earlier p i = grown_is stream (departures_of c stream) (frames_in c stream) o m earlier p i
 
-      wait : run_wait l o (timed stream p) ≡ min (frames_before part_fields frames (message_alone p) (m ∷ earlier) * l.departures.gap) l.departures.spread
-      wait = ap (λ (t : Bool). let w : ℕ = if t then min (o.wait + frames_needed l.fragment o.bytes * l.departures.gap) l.departures.spread else 0 in w)
-          (ap (same_place (timed stream p)) i.first) ∙ go (same_symbol part_fields p m.first) refl
+  next_here : (o : OpenMessage) (m : Message Part) (earlier : List (Message Part)) (p : Part) → IsOpen o m earlier → IsOpen (run_next_to l o (timed stream p)) (message_alone p) (m ∷ earlier)
+  next_here o m earlier p i =
+      next_is stream (departures_of c stream) (frames_in c stream) (frames_needed l.fragment o.bytes) o m earlier p (ap (frames_needed l.fragment) i.bytes ∙ sym (frames_are c stream ep m)) i
 
-  run_is : (o : OpenMessage) (m : Message Part) (earlier : List (Message Part)) → IsOpenOf c stream ep o m earlier
-      → run_of c stream ep (record { message = m; number = length earlier; before = frames_before part_fields frames m earlier }) ≡ run_from l o
+  run_is : (o : OpenMessage) (m : Message Part) (earlier : List (Message Part)) → IsOpen o m earlier
+      → run_of c stream ep (record { message = m; number = length earlier; before = frames_before part_fields frames m earlier }) ≡ run_from l (length earlier) o
   run_is o m earlier i =
       let none : frames_before part_fields frames m earlier + 0 ≡ frames_before part_fields frames m earlier = omega arith in
       ap (λ (n : ℕ). made ((start_of_part m.first +ℤ l.departures.from.0) +ℤ pos (min (n * l.departures.gap) l.departures.spread)) (start_of_part m.first) (length earlier) (frames m)) none
       ∙ ap (λ (w : ℕ). made ((start_of_part m.first +ℤ l.departures.from.0) +ℤ pos w) (start_of_part m.first) (length earlier) (frames m)) (sym i.wait)
       ∙ ap (λ (x : TimedPart). made ((x.start.0 +ℤ l.departures.from.0) +ℤ pos o.wait) x.start.0 (length earlier) (frames m)) (sym i.first)
-      ∙ ap₂ (λ (k f : ℕ). made ((o.first.start.0 +ℤ l.departures.from.0) +ℤ pos o.wait) o.first.start.0 k f) (sym i.number) (frames_are c stream ep m ∙ ap (frames_needed l.fragment) (sym i.bytes))
+      ∙ ap (made ((o.first.start.0 +ℤ l.departures.from.0) +ℤ pos o.wait) o.first.start.0 (length earlier)) (frames_are c stream ep m ∙ ap (frames_needed l.fragment) (sym i.bytes))
     where
       made : ℤ → ℤ → ℕ → ℕ → Run
       made at start number left = record {
@@ -93,59 +66,58 @@ module _ (c : Config) (stream : Stream) (ep : ℕ) where
         left = left;
       }
 
-  walk_is : (o : OpenMessage) (m : Message Part) (earlier : List (Message Part)) (ps : List Part) → IsOpenOf c stream ep o m earlier
-      → map (run_of c stream ep) (numbered_behind part_fields frames earlier (packs_behind part_fields (most_parts c stream) m ps)) ≡ walk l o (map (timed stream) ps)
+  walk_is : (o : OpenMessage) (m : Message Part) (earlier : List (Message Part)) (ps : List Part) → IsOpen o m earlier
+      → map (run_of c stream ep) (numbered_behind part_fields frames earlier (packs_behind part_fields (most_parts c stream) m ps)) ≡ walk l (length earlier) o (map (timed stream) ps)
   unfolding walk numbered_behind packs_behind
   walk_is o m earlier [] i = ap (λ (s : Run). s ∷ []) (run_is o m earlier i)
   walk_is o m earlier (p ∷ ps) i =
-      go (takes part_fields (most_parts c stream) m p) refl (walk_is (run_grown o (timed stream p)) (with_part m p) earlier ps (grown_is o m earlier p i))
-      (walk_is (run_next_to l o (timed stream p)) (message_alone p) (m ∷ earlier) ps (next_is o m earlier p i))
+      go (takes part_fields (most_parts c stream) m p) refl (walk_is (grown o (timed stream p)) (with_part m p) earlier ps (grown_here o m earlier p i))
+      (walk_is (run_next_to l o (timed stream p)) (message_alone p) (m ∷ earlier) ps (next_here o m earlier p i))
     where
       go : (t : Bool) → takes part_fields (most_parts c stream) m p ≡ t
-          → map (run_of c stream ep) (numbered_behind part_fields frames earlier (packs_behind part_fields (most_parts c stream) (with_part m p) ps)) ≡ walk l (run_grown o (timed stream p)) (map (timed stream) ps)
+          → map (run_of c stream ep) (numbered_behind part_fields frames earlier (packs_behind part_fields (most_parts c stream) (with_part m p) ps)) ≡ walk l (length earlier) (grown o (timed stream p)) (map (timed stream) ps)
           → map (run_of c stream ep) (numbered_behind part_fields frames (m ∷ earlier) (packs_behind part_fields (most_parts c stream) (message_alone p) ps))
-          ≡ walk l (run_next_to l o (timed stream p)) (map (timed stream) ps)
+          ≡ walk l (length (m ∷ earlier)) (run_next_to l o (timed stream p)) (map (timed stream) ps)
           → map (run_of c stream ep) (numbered_behind part_fields frames earlier (let ms : List (Message Part) = if takes part_fields (most_parts c stream) m p then packs_behind part_fields (most_parts c stream) (with_part m p) ps
           else m ∷ packs_behind part_fields (most_parts c stream) (message_alone p) ps in ms))
-          ≡ (let ss : List Run = if run_takes_more l.pack o (timed stream p) then walk l (run_grown o (timed stream p)) (map (timed stream) ps)
-          else run_from l o ∷ walk l (run_next_to l o (timed stream p)) (map (timed stream) ps) in ss)
-      go true e taken begun = let f = takes_is o m earlier p i in rw (f, e) taken
-      go false e taken begun = let f = takes_is o m earlier p i in rw (f, e) (ap₂ (λ (s : Run) (ss : List Run). s ∷ ss) (run_is o m earlier i) begun)
-
-  first_is : (p : Part) → IsOpenOf c stream ep (first_message (timed stream p)) (message_alone p) []
-  unfolding frames_before
-  first_is p = record { first = refl; parts = refl; bytes = omega arith; number = refl; wait = omega (arith, zero-mul l.departures.gap) }
+          ≡ (let ss : List Run = if takes_more l.pack o (timed stream p) then walk l (length earlier) (grown o (timed stream p)) (map (timed stream) ps)
+          else run_from l (length earlier) o ∷ walk l (length earlier + 1) (run_next_to l o (timed stream p)) (map (timed stream) ps) in ss)
+      go true e taken begun = let f = takes_here o m earlier p i in rw (f, e) taken
+      go false e taken begun =
+          let f = takes_here o m earlier p i in
+          let one : length (m ∷ earlier) ≡ length earlier + 1 = omega arith in
+          rw (f, e) (ap₂ (λ (s : Run) (ss : List Run). s ∷ ss) (run_is o m earlier i) (begun ∙ ap (λ (n : ℕ). walk l n (run_next_to l o (timed stream p)) (map (timed stream) ps)) one))
 
   pub walked_is : (ps : List Part) → map (run_of c stream ep) (numbered part_fields frames (packs part_fields (most_parts c stream) ps)) ≡ walked l (map (timed stream) ps)
   unfolding numbered_behind
   walked_is [] = refl
-  walked_is (p ∷ ps) = walk_is (first_message (timed stream p)) (message_alone p) [] ps (first_is p)
+  walked_is (p ∷ ps) = walk_is (alone (timed stream p) 0) (message_alone p) [] ps (first_is stream (departures_of c stream) (frames_in c stream) p)
 
-  begins_behind : (o : OpenMessage) (m : Message Part) (earlier : List (Message Part)) (ps : List Part) (from place : ℕ) → IsOpenOf c stream ep o m earlier → place ≡ from + length (parts_of m)
+  begins_behind : (o : OpenMessage) (m : Message Part) (earlier : List (Message Part)) (ps : List Part) (from place : ℕ) → IsOpen o m earlier → place ≡ from + length (parts_of m)
       → first_sections from (packs_behind part_fields (most_parts c stream) m ps) ≡ from ∷ later_begins l o place (map (timed stream) ps)
   unfolding later_begins packs_behind first_sections
   begins_behind o m earlier [] from place i e = refl
   begins_behind o m earlier (p ∷ ps) from place i e =
       go (takes part_fields (most_parts c stream) m p) refl
-      (begins_behind (run_grown o (timed stream p)) (with_part m p) earlier ps from (place + 1) (grown_is o m earlier p i) (let more = length_more m.more p in omega (arith, e, more)))
-      (begins_behind (run_next_to l o (timed stream p)) (message_alone p) (m ∷ earlier) ps (from + length (parts_of m)) (place + 1) (next_is o m earlier p i) (omega (arith, e)))
+      (begins_behind (grown o (timed stream p)) (with_part m p) earlier ps from (place + 1) (grown_here o m earlier p i) (let more = length_more m.more p in omega (arith, e, more)))
+      (begins_behind (run_next_to l o (timed stream p)) (message_alone p) (m ∷ earlier) ps (from + length (parts_of m)) (place + 1) (next_here o m earlier p i) (omega (arith, e)))
     where
       go : (t : Bool) → takes part_fields (most_parts c stream) m p ≡ t
-          → first_sections from (packs_behind part_fields (most_parts c stream) (with_part m p) ps) ≡ from ∷ later_begins l (run_grown o (timed stream p)) (place + 1) (map (timed stream) ps)
+          → first_sections from (packs_behind part_fields (most_parts c stream) (with_part m p) ps) ≡ from ∷ later_begins l (grown o (timed stream p)) (place + 1) (map (timed stream) ps)
           → first_sections (from + length (parts_of m)) (packs_behind part_fields (most_parts c stream) (message_alone p) ps)
           ≡ (from + length (parts_of m)) ∷ later_begins l (run_next_to l o (timed stream p)) (place + 1) (map (timed stream) ps)
           → first_sections from (let ms : List (Message Part) = if takes part_fields (most_parts c stream) m p then packs_behind part_fields (most_parts c stream) (with_part m p) ps
           else m ∷ packs_behind part_fields (most_parts c stream) (message_alone p) ps in ms)
-          ≡ from ∷ (let ns : List ℕ = if run_takes_more l.pack o (timed stream p) then later_begins l (run_grown o (timed stream p)) (place + 1) (map (timed stream) ps)
+          ≡ from ∷ (let ns : List ℕ = if takes_more l.pack o (timed stream p) then later_begins l (grown o (timed stream p)) (place + 1) (map (timed stream) ps)
           else place ∷ later_begins l (run_next_to l o (timed stream p)) (place + 1) (map (timed stream) ps) in ns)
-      go true h taken begun = let f = takes_is o m earlier p i in rw (f, h) taken
-      go false h taken begun = let f = takes_is o m earlier p i in rw (f, h)
+      go true h taken begun = let f = takes_here o m earlier p i in rw (f, h) taken
+      go false h taken begun = let f = takes_here o m earlier p i in rw (f, h)
           (ap (λ (ns : List ℕ). from ∷ ns) (begun ∙ ap (λ (n : ℕ). n ∷ later_begins l (run_next_to l o (timed stream p)) (place + 1) (map (timed stream) ps)) (sym e)))
 
   pub begins_are : (ps : List Part) → first_sections 0 (packs part_fields (most_parts c stream) ps) ≡ begins l (map (timed stream) ps)
   unfolding first_sections
   begins_are [] = refl
-  begins_are (p ∷ ps) = begins_behind (first_message (timed stream p)) (message_alone p) [] ps 0 1 (first_is p) refl
+  begins_are (p ∷ ps) = begins_behind (alone (timed stream p) 0) (message_alone p) [] ps 0 1 (first_is stream (departures_of c stream) (frames_in c stream) p) refl
 
 pub make_runs : PartsMakeRuns
 unfolding messages_of

@@ -2,7 +2,7 @@
 use Rattle.std.specs.Prelude.{ℕ, pos, neg_ℤ, ⊤, ◌^◌, ◌<◌, ◌≤◌, ◌≤ℤ◌, Option, Some, None}
 use Rattle.plan_parts.specs.Parts.{IsTimed}
 use Rattle.plan_runs.specs.declared.limits.Limits.{Limits}
-use Rattle.plan_runs.specs.declared.open_messages.OpenMessage.{OpenMessage}
+use Rattle.plan_parts.specs.declared.open_messages.OpenMessage.{OpenMessage}
 use Rattle.window_config.specs.declared.config.TheConstants.{MESSAGE_SECTIONS, MOST_FRAGMENT, LEAST_FRAGMENT}
 use Rattle.plan_parts.specs.unit_model.specs.Terms.{MESSAGE_BYTES}
 

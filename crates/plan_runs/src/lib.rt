@@ -4,7 +4,6 @@
 mod cutting;
 mod laws;
 mod limits;
-mod open_messages;
 
 pub use cutting::{Messages, stream_messages};
 pub use laws::parts_make_runs;

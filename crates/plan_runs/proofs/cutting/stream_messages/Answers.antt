@@ -19,11 +19,11 @@ returns-then-is_empty-clause-begins c = λ config lines stream ep e limits_is pa
 
 pub returns-clause-walked : goal.returns-clause-walked
 returns-clause-walked c =
-    so_far_end c.args.limits.now c.args.parts.now c.loop-k.k c.loop-k.message c.loop-k.messages.runs.items c.push-2.new.self.items c.run_from.result c.loop-k.invariant.0 c.loop-k-test.false c.run_from.ensures c.in_ok-push-2.ensures.items
+    so_far_end c.args.limits.now c.args.parts.now c.loop-k.k c.loop-k.message c.whole-number.result c.loop-k.messages.runs.items c.push-2.new.self.items c.run_from.result c.loop-k.invariant.0 c.loop-k-test.false c.whole-number.ensures c.run_from.ensures c.in_ok-push-2.ensures.items
 
 pub returns-clause-runs : goal.returns-clause-runs
 returns-clause-runs c = λ config lines stream ep e limits_is parts_is.
-    so_far_end c.args.limits.now c.args.parts.now c.loop-k.k c.loop-k.message c.loop-k.messages.runs.items c.push-2.new.self.items c.run_from.result c.loop-k.invariant.0 c.loop-k-test.false c.run_from.ensures c.in_ok-push-2.ensures.items
+    so_far_end c.args.limits.now c.args.parts.now c.loop-k.k c.loop-k.message c.whole-number.result c.loop-k.messages.runs.items c.push-2.new.self.items c.run_from.result c.loop-k.invariant.0 c.loop-k-test.false c.whole-number.ensures c.run_from.ensures c.in_ok-push-2.ensures.items
     ∙ ap₂ (λ (l : Limits) (ps : List TimedPart). walked l ps) limits_is parts_is ∙ make_runs config lines stream ep e
 
 pub returns-clause-begun : goal.returns-clause-begun
