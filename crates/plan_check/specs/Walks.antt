@@ -1,6 +1,5 @@
 -- Messages part by part (this project's means).
-use Rattle.std.specs.Prelude.{ℕ, pos, neg_ℤ, ◌+◌, ◌*◌, ◌<◌, ◌≤◌, ◌^◌, ◌+ℤ◌, ◌≤ℤ◌, Bool, true, false, ◌&&◌, ◌==◌, nat_lt, nat_le, min, if◌then◌else◌, List, [], ◌∷◌}
-use Rattle.std.specs.Ordering.{int_eq}
+use Rattle.std.specs.Prelude.{pos, neg_ℤ, ◌<◌, ◌≤◌, ◌^◌, ◌+ℤ◌, ◌≤ℤ◌, Bool, true, false, if◌then◌else◌, List, [], ◌∷◌}
 use Rattle.window_config.specs.declared.config.Config.{Config}
 use Rattle.plan_parts.specs.plan_model.specs.Departures.{departures_of}
 use Rattle.plan_parts.specs.plan_model.specs.declared.dense.Sending.{Sending}
@@ -8,7 +7,8 @@ use Rattle.plan_parts.specs.plan_model.specs.declared.streams.Stream.{Stream}
 use Rattle.plan_parts.specs.plan_model.specs.declared.streams.Stream.TheVariants.{DownData, UpData}
 use Rattle.plan_parts.specs.declared.parts.TimedPart.{TimedPart}
 use Rattle.plan_check.specs.declared.walking.Limits.{Limits}
-use Rattle.plan_check.specs.declared.walking.OpenMessage.{OpenMessage}
+use Rattle.plan_parts.specs.OpenMessages.{alone, grown, next_to, takes_more}
+use Rattle.plan_parts.specs.declared.open_messages.OpenMessage.{OpenMessage}
 use Rattle.window_config.specs.declared.config.TheConstants.{MESSAGE_SECTIONS}
 use Rattle.slot_rings.specs.unit_model.specs.Terms.{piece_count}
 
@@ -34,25 +34,9 @@ pub record IsOpenSending (l : Limits) (m : OpenMessage) : Type 0 where
   pub bytes : m.bytes < 2 ^ 17
   pub wait : m.wait ≤ l.departures.spread
 
-abbrev pub same_symbol_place : TimedPart → TimedPart → Bool
-same_symbol_place a b = int_eq a.frame b.frame && ((a.subframe == b.subframe) && ((a.slot == b.slot) && (a.symbol == b.symbol)))
-
-abbrev pub sending_alone : TimedPart → ℕ → OpenMessage
-sending_alone p wait = record { first = p; parts = 1; bytes = 4 + p.size; wait = wait }
-
-abbrev pub sending_takes_more : ℕ → OpenMessage → TimedPart → Bool
-sending_takes_more pack m p = same_symbol_place m.first p && (nat_lt m.parts pack && nat_le (m.bytes + p.size) 16384)
-
-abbrev pub sending_grown : OpenMessage → TimedPart → OpenMessage
-sending_grown m p = record { first = m.first; parts = m.parts + 1; bytes = m.bytes + p.size; wait = m.wait }
-
--- the next message waits for the frames of this one, where it is of its symbol
-abbrev pub sending_wait : Limits → OpenMessage → TimedPart → ℕ
-sending_wait l m p =
-    if same_symbol_place p m.first then min (m.wait + piece_count l.fragment m.bytes * l.departures.gap) l.departures.spread else 0
-
+-- the next message waits for the frames of this one
 abbrev pub sending_next_to : Limits → OpenMessage → TimedPart → OpenMessage
-sending_next_to l m p = sending_alone p (sending_wait l m p)
+sending_next_to l m p = next_to l.departures (piece_count l.fragment m.bytes) m p
 
 abbrev pub open_sending : Limits → OpenMessage → Sending
 open_sending l m = record { at = record { 0 = (m.first.start.0 +ℤ l.departures.from.0) +ℤ pos m.wait }; line = m.first.line }
@@ -60,8 +44,8 @@ open_sending l m = record { at = record { 0 = (m.first.start.0 +ℤ l.departures
 -- when the messages behind one leave, where these parts follow
 unfoldable pub sending_walk : Limits → OpenMessage → List TimedPart → List Sending
 sending_walk l m [] = []
-sending_walk l m (p ∷ ps) = if sending_takes_more l.pack m p then sending_walk l (sending_grown m p) ps else open_sending l (sending_next_to l m p) ∷ sending_walk l (sending_next_to l m p) ps
+sending_walk l m (p ∷ ps) = if takes_more l.pack m p then sending_walk l (grown m p) ps else open_sending l (sending_next_to l m p) ∷ sending_walk l (sending_next_to l m p) ps
 
 abbrev pub sendings_walked : Limits → List TimedPart → List Sending
 sendings_walked l [] = []
-sendings_walked l (p ∷ ps) = open_sending l (sending_alone p 0) ∷ sending_walk l (sending_alone p 0) ps
+sendings_walked l (p ∷ ps) = open_sending l (alone p 0) ∷ sending_walk l (alone p 0) ps
