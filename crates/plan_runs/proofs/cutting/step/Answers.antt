@@ -1,5 +1,5 @@
 -- A part more, or another message.
-use Rattle.std.proofs.Common.{ℕ, ◌≡◌, ◌≤◌, ◌+◌, List, ◌++◌, length, ap, sym, ◌∙◌, arith}
+use Rattle.std.proofs.Common.{ℕ, ◌+◌, List, ◌++◌, length, ap, sym, ◌∙◌, arith}
 use Rattle.frame_order.specs.declared.turns.Run.{Run}
 use Rattle.plan_parts.specs.OpenMessages.{next_to}
 use Rattle.plan_runs.specs.Walks.{walk, later_begins}
