@@ -1,2 +1,2 @@
 pub mod QueueLemmas
-mod Places
+mod TurnLemmas

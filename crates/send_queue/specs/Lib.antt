@@ -5,6 +5,5 @@ pub use Rattle.uplink_model
 pub use Rattle.uplink_model.specs.window_config
 pub mod Queues
 pub mod QueueLaws
-pub mod Held
 pub mod Outboxes
 pub mod Waiting

@@ -8,6 +8,7 @@
 mod laws;
 mod outbox;
 mod queue;
+mod turns;
 
 pub use laws::queue_goes_on;
 pub use outbox::Outbox;

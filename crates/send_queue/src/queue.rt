@@ -1,25 +1,22 @@
 // The frames that wait.
-ghost use Rattle.std.specs.Prelude.{◌≡◌, ℕ, ℤ, ◌<◌, ◌^◌, List, [], ◌++◌, All, IfNone, OnErr, OnOk};
+ghost use Rattle.std.specs.Prelude.{◌≡◌, ℕ, ℤ, ◌<◌, List, [], ◌++◌, All, IfNone, OnErr, OnOk};
 ghost use Rattle.air_source.specs.declared.links.LinkFrame.{LinkFrame as SpecFrame};
 ghost use Rattle.uplink_model.specs.SentLaws.{AreOf};
-ghost use Rattle.send_queue.specs.Held.{held_arrival, held_frame};
 ghost use Rattle.send_queue.specs.Queues.{LeaveFrom, Gives, IsNextTime, Leaves, Took, WaitsFor, all_queued, first_time, queued};
 
 use crate::outbox::Outbox;
-use air_source::{LinkFrame, Side};
-use fh_base::NoMemory;
+use crate::turns::Turn;
+use air_source::LinkFrame;
+use fh_base::{Bytes, NoMemory};
 use fh_time::Ticks;
-use frame_network::{Arrival, ArrivalKey, Network};
 use std::alloc::Global;
+use std::collections::BTreeMap;
 use std::marker::Model;
-
-/// How many frames can be told apart: 2^56.
-const NUMBERS: u64 = 0x0100_0000_0000_0000;
 
 /// The frames that wait for the times at which they leave. Contracts see the list of them, in the order in which they leave.
 #[derive(Drop)]
 pub struct SendQueue {
-    waiting: Network,
+    waiting: BTreeMap<Turn, Bytes>,
     /// How many frames were taken in.
     handed: u64,
 }
@@ -27,42 +24,13 @@ pub struct SendQueue {
 impl Model for SendQueue {
     ghost use Rattle.std.specs.Prelude.{List};
     ghost use Rattle.air_source.specs.declared.links.LinkFrame.{LinkFrame};
-    ghost use Rattle.send_queue.specs.Waiting.{KeepsPlaces, waiting_frames};
+    ghost use Rattle.send_queue.specs.Waiting.{KeepsTurns, waiting_frames};
 
     ghost Value = { List LinkFrame };
 
     ghost view = { waiting_frames };
 
-    ghost invariant = { KeepsPlaces };
-}
-
-/// The frame as a network holds it, with its number among all that were handed over: at one time by endpoint, then by number.
-fn arrival_of(number: u64, frame: LinkFrame) -> Arrival
-    requires ep { frame.ep < 16 }
-    requires number { number < 2 ^ 56 }
-    ensures { result ≡ held_arrival number frame }
-{
-    Arrival {
-        side: Side::Du,
-        at: frame.at,
-        key: ArrivalKey {
-            injected: false,
-            place: frame.ep as u64 * NUMBERS + number,
-            copy: 0,
-        },
-        frame: frame.frame,
-    }
-}
-
-/// The frame that a network holds so.
-fn frame_of(arrival: Arrival) -> LinkFrame
-    ensures { result ≡ held_frame arrival }
-{
-    LinkFrame {
-        at: arrival.at,
-        ep: (arrival.key.place / NUMBERS) as usize,
-        frame: arrival.frame,
-    }
+    ghost invariant = { KeepsTurns };
 }
 
 impl SendQueue {
@@ -72,30 +40,38 @@ impl SendQueue {
         ensures waits { (endpoints : ℕ) (now : ℤ) → WaitsFor endpoints now [] result }
     {
         SendQueue {
-            waiting: Network::make(alloc),
+            waiting: BTreeMap::new(alloc),
             handed: 0,
         }
     }
 
     /// Takes in one frame. It stands behind all that do not leave after it.
     fn put(&mut self, frame: LinkFrame) -> Result<(), NoMemory>
-        requires { frame.ep < 16 }
         ensures ok { OnOk result (self.new ≡ queued frame self.old) }
         ensures err { OnErr result (self.new ≡ self.old) }
     {
-        if self.handed >= NUMBERS {
+        let Some(handed) = self.handed.checked_add(1) else {
             return Err(NoMemory);
+        };
+        let turn = Turn {
+            at: frame.at,
+            ep: frame.ep,
+            serial: self.handed,
+        };
+        match self.waiting.insert(turn, frame.frame) {
+            Ok(_) => {
+                self.handed = handed;
+                Ok(())
+            }
+            Err(_) => Err(NoMemory),
         }
-        self.waiting.put(arrival_of(self.handed, frame))?;
-        self.handed += 1;
-        Ok(())
     }
 
     /// Takes in all frames of an outbox, which is empty then. Their bytes are moved and not copied.
     ///
     /// # Errors
     ///
-    /// [`NoMemory`] where memory is refused, and where 2^56 frames were taken in before. Then a frame may be lost.
+    /// [`NoMemory`] where memory is refused, and where 2^64 - 1 frames were taken in before. Then a frame may be lost.
     pub fn fill(&mut self, outbox: &mut Outbox) -> Result<(), NoMemory>
         requires { All (λ f. f.ep < 16) outbox.old.frames }
         ensures filled { OnOk result (self.new ≡ all_queued outbox.old.frames self.old) }
@@ -117,7 +93,10 @@ impl SendQueue {
         ensures none { IfNone result (self.now ≡ []) }
         ensures next { IsNextTime self.now result }
     {
-        self.waiting.next_time()
+        match self.waiting.first_key_value() {
+            None => None,
+            Some((turn, _)) => Some(turn.at),
+        }
     }
 
     /// Takes out the next frame, where it leaves at `tick`. Else this is `None` and the queue is as before.
@@ -125,9 +104,16 @@ impl SendQueue {
         ensures took { Took tick result self.old self.new }
         ensures gives { (endpoints : ℕ) (handed gone : List SpecFrame) → Leaves endpoints tick.0 handed gone self.old → Gives endpoints tick.0 handed gone result self.new }
     {
-        if self.waiting.next_time() != Some(tick) {
+        if self.next_time() != Some(tick) {
             return None;
         }
-        self.waiting.next_until(tick).map(frame_of)
+        match self.waiting.pop_first() {
+            None => None,
+            Some((turn, frame)) => Some(LinkFrame {
+                at: turn.at,
+                ep: turn.ep,
+                frame,
+            }),
+        }
     }
 }

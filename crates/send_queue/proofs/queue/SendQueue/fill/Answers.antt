@@ -1,5 +1,4 @@
-use Rattle.std.proofs.Common.{◌<◌, List, ◌++◌, All, ap, sym, subst, ◌∙◌}
-use Rattle.std.proofs.lemmas.List.Elements.{All-tail}
+use Rattle.std.proofs.Common.{List, ◌++◌, ap, sym, subst, ◌∙◌}
 use Rattle.air_source.specs.declared.links.LinkFrame.{LinkFrame}
 use Rattle.send_queue.specs.Queues.{WaitsFor, all_queued}
 use Rattle.send_queue.proofs.QueueLemmas.{waits_for_all}
@@ -10,7 +9,6 @@ loop-frame-preserved c =
     let left = c.take_first.new.self.frames in
     record {
       so_far = ap (all_queued left) c.in_ok-put.ensures.ok ∙ ap (λ (fs : List LinkFrame). all_queued fs c.loop-frame.self) (sym c.in-Some.ensures.frames) ∙ c.loop-frame.invariant.so_far;
-      few = All-tail (λ (f : LinkFrame). f.ep < 16) c.in-Some.frame left (subst (All (λ (f : LinkFrame). f.ep < 16)) c.in-Some.ensures.frames c.loop-frame.invariant.few);
       pool = c.take_first.ensures.pool ∙ c.loop-frame.invariant.pool;
     }
 

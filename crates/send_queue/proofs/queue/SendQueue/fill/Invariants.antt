@@ -1,11 +1,10 @@
-use Rattle.std.proofs.Common.{◌≡◌, ◌<◌, All, length}
+use Rattle.std.proofs.Common.{◌≡◌, length}
 use Rattle.send_queue.specs.Queues.{all_queued}
 use Rattle.send_queue.proofs.queue.SendQueue.fill.Given as goal
 
 abbrev pub invariant-loop-frame : goal.invariant-loop-frame
 invariant-loop-frame l = record {
   so_far : all_queued l.outbox.frames l.self ≡ all_queued l.initial.outbox.frames l.initial.self;
-  few : All (λ f. f.ep < 16) l.outbox.frames;
   pool : l.outbox.pool ≡ l.initial.outbox.pool;
 }
 

@@ -1,25 +1,20 @@
-use Rattle.std.proofs.Common.{◌≡◌, ◌+◌, ◌<◌, ◌^◌, List, map, ap, sym, subst, ◌∙◌, arith}
-use Rattle.std.specs.List.{AllByRecursion}
+-- The insertion by turns is `queued` on the frames.
+use Rattle.std.proofs.Common.{◌+◌, ◌∙◌, ℕ, List, ap, subst, sym}
 use Rattle.air_source.specs.declared.links.LinkFrame.{LinkFrame}
-use Rattle.frame_network.specs.declared.arrivals.Arrival.{Arrival}
-use Rattle.frame_network.specs.Network.{put_in}
-use Rattle.send_queue.specs.Held.{IsHeldAt, held_arrival, held_frame}
 use Rattle.send_queue.specs.Queues.{queued}
-use Rattle.send_queue.proofs.Places.{frames_put, places_put}
+use Rattle.send_queue.specs.Waiting.{AreAmong}
+use Rattle.send_queue.proofs.TurnLemmas.{among_put, frames, frames_put}
 use Rattle.send_queue.proofs.queue.SendQueue.put.Goals as goal
 
-pub invariant_of-self-2 : goal.invariant_of-self-2
-invariant_of-self-2 c =
+pub invariant_of-self : goal.invariant_of-self
+invariant_of-self c =
     let n = c.self.inside.handed in
-    let held = c.self.inside.waiting in
-    let few : n < 2 ^ 56 = omega arith in
-    let is : c.put.new.self ≡ put_in (held_arrival n c.args.frame) held = c.in_ok-put.ensures.ok ∙ ap (λ (a : Arrival). put_in a held) c.arrival_of.ensures in
-    subst (AllByRecursion (IsHeldAt (n + 1))) (sym is) (places_put n c.args.frame held few c.self.invariant)
+    let es = c.self.inside.waiting.entries in
+    subst (λ (m : ℕ). AreAmong m c.insert.new.self.entries) (sym c.in-Some.ensures.1)
+    (subst (AreAmong (n + 1)) (sym c.in-Ok.ensures.entries) (among_put n c.args.frame es c.self.invariant))
 
-pub returns-clause-ok : goal.returns-clause-ok
-returns-clause-ok c =
+pub returns-in-Ok-clause-ok : goal.returns-in-Ok-clause-ok
+returns-in-Ok-clause-ok c =
     let n = c.self.inside.handed in
-    let held = c.self.inside.waiting in
-    let few : n < 2 ^ 56 = omega arith in
-    let is : c.put.new.self ≡ put_in (held_arrival n c.args.frame) held = c.in_ok-put.ensures.ok ∙ ap (λ (a : Arrival). put_in a held) c.arrival_of.ensures in
-    ap (map held_frame) is ∙ frames_put n c.args.frame held few c.self.invariant ∙ ap (λ (q : List LinkFrame). queued c.args.frame q) c.self.view_is
+    let es = c.self.inside.waiting.entries in
+    ap frames c.in-Ok.ensures.entries ∙ frames_put n c.args.frame es c.self.invariant ∙ ap (λ (q : List LinkFrame). queued c.args.frame q) c.self.view_is
