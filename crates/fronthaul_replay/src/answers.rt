@@ -13,21 +13,19 @@ use bfp_codec::Wide;
 use fh_base::NoMemory;
 use fh_document::Document;
 use fh_time::Ticks;
-use frame_network::FramePool;
 use frame_ways::{Way, earlier_of};
 use send_queue::{Outbox, SendQueue};
 use std::alloc::Global;
 use uplink_path::Uplink;
 
 /// What the radio unit sends: what makes its uplink frames, those that wait for the times at which they leave, and the way to the
-/// distributed unit, with the memory of frames that have landed.
+/// distributed unit. The memory of frames that have landed is in the outbox, whose frames take it.
 #[derive(Drop)]
 pub(crate) struct Answers<'a, G: Fn(RePlace) -> Wide> {
     pub(crate) uplink: Uplink<G>,
     pub(crate) outbox: Outbox,
     pub(crate) queue: SendQueue,
     pub(crate) way: Way<'a>,
-    pub(crate) pool: FramePool,
 }
 
 impl<'a, G: Fn(RePlace) -> Wide> Answers<'a, G> {
@@ -54,7 +52,6 @@ impl<'a, G: Fn(RePlace) -> Wide> Answers<'a, G> {
             outbox,
             queue,
             way,
-            pool: FramePool::new(alloc),
         })
     }
 

@@ -42,9 +42,7 @@ fn answer<G: Fn(RePlace) -> Wide>(ru: &mut Ru, answers: &mut Answers<'_, G>) -> 
     ensures stays { (d : SpecDocument) (tick : ℤ) → IsDueAt d tick → HasRadioLanded d tick ru.old → WaitsUp G.pre G.post d tick answers.old.uplink answers.old.outbox.frames answers.old.queue answers.old.way
         → IsRadioInStep d (heard_before d tick) ru.new }
 {
-    answers.outbox.swap_pool(&mut answers.pool);
     answers.uplink.emit(ru, &mut answers.outbox)?;
-    answers.outbox.swap_pool(&mut answers.pool);
     answers.queue.fill(&mut answers.outbox)
 }
 
@@ -109,7 +107,7 @@ pub(crate) fn intake_moment<A: Air, G: Fn(RePlace) -> Wide, C: Fn(Edge) -> i64>(
     release_all(
         tick,
         &mut answers.queue,
-        &mut answers.pool,
+        answers.outbox.pool_mut(),
         &mut answers.way,
     )?;
     intake_lands(
@@ -118,7 +116,7 @@ pub(crate) fn intake_moment<A: Air, G: Fn(RePlace) -> Wide, C: Fn(Edge) -> i64>(
         intake,
         meter,
         &mut answers.way,
-        &mut answers.pool,
+        answers.outbox.pool_mut(),
         out,
     )
 }

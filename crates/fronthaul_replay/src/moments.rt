@@ -66,7 +66,12 @@ fn send_both<G: Fn(RePlace) -> Wide, C: Fn(Edge) -> i64, D: Fn(Edge) -> i64>(
     let downlink = &mut coming.downlink;
     send_made(tick, &mut meters.du, &mut downlink.pool, &mut downlink.way)?;
     let answers = &mut coming.answers;
-    send_made(tick, &mut meters.ru, &mut answers.pool, &mut answers.way)
+    send_made(
+        tick,
+        &mut meters.ru,
+        answers.outbox.pool_mut(),
+        &mut answers.way,
+    )
 }
 
 /// What comes to both units at one time, once its measurements have begun: the plan's frames that leave then; the radio unit's cells and the

@@ -1,8 +1,7 @@
 -- The radio unit's messages of one tick are given, and their frames wait.
-use Rattle.std.proofs.Common.{◌≡◌, ℕ, ℤ, pos, ◌+ℤ◌, ◌-ℤ◌, ◌<◌, ◌≤◌, ◌≤ℤ◌, List, [], ◌++◌, All, length, drop, refl, sym, ap, ap₂, ◌∙◌, subst, append_assoc, arith}
+use Rattle.std.proofs.Common.{◌≡◌, ℤ, pos, ◌+ℤ◌, ◌-ℤ◌, ◌≤ℤ◌, List, [], ◌++◌, length, drop, refl, sym, ap, ap₂, ◌∙◌, subst, append_assoc}
 use Rattle.std.specs.Prelude.{Err, Ok, OnOk, Result}
 use Rattle.std.proofs.Math.Seq.{drop-length}
-use Rattle.std.proofs.lemmas.List.Elements.{All-weaker}
 use Rattle.std.specs.Int.Signed.{≤ℤ_refl}
 use Rattle.send_queue.specs.air_source.specs.Answers.{AnswersBy}
 use Rattle.send_queue.specs.air_source.specs.declared.events.Side.TheVariants.{Ru as AtRu, Du as AtDu}
@@ -180,17 +179,11 @@ handed_then pre post d tick h old new link left due landed handed same numbered 
 
 -- ---- the frames of the tick wait with the others
 
--- an endpoint's number is below 16
+-- they are of the configuration's endpoints
 pub are_of : (d : Document) (tick : ℤ) (fs : List LinkFrame) → fs ≡ handed_at d.config (antenna_for d) (landings_for AtRu d) tick → AreOf (length d.config.endpoints) fs
 are_of d tick fs is =
     let c = d.config in
     subst (AreOf (length c.endpoints)) (sym is) (handed_behind_are_of c (antenna_for d) (landings_for AtRu d) tick (messages_of_tick c (landings_for AtRu d) tick))
-
-few_endpoints : (n : ℕ) (fs : List LinkFrame) → n ≤ 16 → AreOf n fs → All (λ f. f.ep < 16) fs
-few_endpoints n fs few are = All-weaker (λ (f : LinkFrame). f.ep < n) (λ (f : LinkFrame). f.ep < 16) (λ f less. omega (arith, less, few)) fs are
-
-pub are_few : (d : Document) (tick : ℤ) (fs : List LinkFrame) → IsDueAt d tick → fs ≡ handed_at d.config (antenna_for d) (landings_for AtRu d) tick → All (λ f. f.ep < 16) fs
-are_few d tick fs due is = few_endpoints (length d.config.endpoints) fs due.replayable.document.config.endpoints.few (are_of d tick fs is)
 
 pub are_later : (d : Document) (tick : ℤ) (fs : List LinkFrame) → IsDueAt d tick → fs ≡ handed_at d.config (antenna_for d) (landings_for AtRu d) tick → LeaveFrom tick fs
 are_later d tick fs due is = subst (LeaveFrom tick) (sym is) (handed_leave_later d.config (antenna_for d) (landings_for AtRu d) tick due.replayable.document.config)

@@ -6,4 +6,5 @@ pub use Rattle.uplink_model.specs.window_config
 pub mod Queues
 pub mod QueueLaws
 pub mod Outboxes
+pub mod Lending
 pub mod Waiting

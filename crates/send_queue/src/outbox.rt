@@ -9,7 +9,6 @@ use frame_network::FramePool;
 use std::alloc::Global;
 use std::collections::VecDeque;
 use std::marker::Model;
-use std::mem;
 
 /// The frames that a unit handed over and that were not taken on yet, and a pool of memory for them. Contracts see the frames, in order,
 /// and the pool.
@@ -28,6 +27,9 @@ impl Model for Outbox {
 }
 
 impl Outbox {
+    ghost use Rattle.std.specs.Borrow.{sem};
+    ghost use Rattle.send_queue.specs.Lending.{LendsPool};
+
     /// No frames. This takes no memory; later growth takes it from `alloc`.
     pub fn new(alloc: Global) -> Outbox
         ensures frames { result.frames ≡ [] }
@@ -39,13 +41,12 @@ impl Outbox {
         }
     }
 
-    /// Takes the frames' memory from this pool from now on, and leaves there the pool that it had.
-    pub fn swap_pool(&mut self, pool: &mut FramePool)
-        ensures frames { self.new.frames ≡ self.old.frames }
-        ensures taken { self.new.pool ≡ pool.old }
-        ensures left { pool.new ≡ self.old.pool }
+    /// The pool from which the frames take their memory, lent to what gives memory back to it, or takes some.
+    pub fn pool_mut(&mut self) -> &mut FramePool
+        ensures* lends { sem 𝓛 (LendsPool self.entry result) }
+        ensures now { result.now ≡ self.old.pool }
     {
-        mem::swap(&mut self.pool, pool);
+        &mut self.pool
     }
 
     /// Takes out the frame that was handed over first. `None` where there is none.

@@ -1,5 +1,5 @@
 // The frames that wait.
-ghost use Rattle.std.specs.Prelude.{◌≡◌, ℕ, ℤ, ◌<◌, List, [], ◌++◌, All, IfNone, OnErr, OnOk};
+ghost use Rattle.std.specs.Prelude.{◌≡◌, ℕ, ℤ, List, [], ◌++◌, IfNone, OnErr, OnOk};
 ghost use Rattle.air_source.specs.declared.links.LinkFrame.{LinkFrame as SpecFrame};
 ghost use Rattle.uplink_model.specs.SentLaws.{AreOf};
 ghost use Rattle.send_queue.specs.Queues.{LeaveFrom, Gives, IsNextTime, Leaves, Took, WaitsFor, all_queued, first_time, queued};
@@ -73,7 +73,6 @@ impl SendQueue {
     ///
     /// [`NoMemory`] where memory is refused, and where 2^64 - 1 frames were taken in before. Then a frame may be lost.
     pub fn fill(&mut self, outbox: &mut Outbox) -> Result<(), NoMemory>
-        requires { All (λ f. f.ep < 16) outbox.old.frames }
         ensures filled { OnOk result (self.new ≡ all_queued outbox.old.frames self.old) }
         ensures emptied { OnOk result (outbox.new.frames ≡ []) }
         ensures pool { outbox.new.pool ≡ outbox.old.pool }

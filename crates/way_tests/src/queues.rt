@@ -1,20 +1,13 @@
 // Five frames of two endpoints, with the order in which they are sent worked out by hand.
-ghost use Rattle.std.specs.Prelude.{◌<◌, All, OnOk};
-
 use crate::built::mark_of;
 use air_source::Link;
 use fh_base::NoMemory;
 use fh_time::Ticks;
-use frame_network::FramePool;
 use send_queue::{Outbox, SendQueue};
 use std::test::Fail;
 
 /// Hands over a frame of one byte, which says when it is handed over.
-fn hand(outbox: &mut Outbox, at: i64, ep: usize, turn: u8) -> Result<(), NoMemory>
-    requires ep { ep < 16 }
-    requires few { All (λ f. f.ep < 16) outbox.old.frames }
-    ensures { OnOk result (All (λ f. f.ep < 16) outbox.new.frames) }
-{
+fn hand(outbox: &mut Outbox, at: i64, ep: usize, turn: u8) -> Result<(), NoMemory> {
     outbox.send(Ticks(at), ep, &[turn])
 }
 
@@ -68,20 +61,16 @@ fn nothing_waits(rt: HostRuntime) -> Result<(), Fail> {
 }
 
 #[test]
-fn frames_take_memory_of_another_pool(rt: HostRuntime) -> Result<(), Fail> {
-    let mut pool = FramePool::new(rt.alloc());
-    let spare = pool.copy_of(b"a frame that landed")?;
-    pool.give_back(spare);
+fn frames_take_memory_that_was_given_back(rt: HostRuntime) -> Result<(), Fail> {
     let mut outbox = Outbox::new(rt.alloc());
     let mut queue = SendQueue::make(rt.alloc());
     hand(&mut outbox, 5, 0, 1)?;
-    outbox.swap_pool(&mut pool);
+    let spare = outbox.pool_mut().copy_of(b"a frame that landed")?;
+    outbox.pool_mut().give_back(spare);
     hand(&mut outbox, 5, 0, 2)?;
     hand(&mut outbox, 5, 0, 3)?;
-    outbox.swap_pool(&mut pool);
-    hand(&mut outbox, 5, 0, 4)?;
     queue.fill(&mut outbox)?;
-    for next in [(0, 1), (0, 2), (0, 3), (0, 4), (0, 0)] {
+    for next in [(0, 1), (0, 2), (0, 3), (0, 0)] {
         assert_eq!(rt; taken(&mut queue, 5), next);
     }
     Ok(())

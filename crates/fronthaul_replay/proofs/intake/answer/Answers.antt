@@ -1,30 +1,17 @@
-use Rattle.std.proofs.Common.{◌∙◌}
-use Rattle.replay_turns.proofs.AnswerLemmas.{are_few, are_later, are_of, frames_then, handed_now, handed_then, may_send, numbered_before, ok_both, radio_stays, radio_then}
+use Rattle.replay_turns.proofs.AnswerLemmas.{are_later, are_of, frames_then, handed_now, handed_then, may_send, numbered_before, ok_both, radio_stays, radio_then}
 use Rattle.fronthaul_replay.proofs.intake.answer.Goals as goal
 use Rattle.measured_traffic.specs.unit_model.specs.Standing.{owed_until}
 
 pub emit-requires : goal.emit-requires
 emit-requires g c ready = let a = c.args.answers.now in may_send _ _ c.args.ru.now a.uplink a.outbox.frames a.queue a.way c.requires
 
-pub fill-requires : goal.fill-requires
-fill-requires g c =
-    let m = c.requires in
-    let d = m.document in
-    let h = m.landed.history in
-    let sent = c.in_ok-emit.ensures.sent d.config h (numbered_before d m.tick) m.waits.handed.numbered m.landed.stands in
-    let none = c.swap_pool.ensures.frames ∙ m.waits.handed.none_handed in
-    let is = handed_now _ d m.tick h c.emit.new.self c.emit.new.ru c.swap_pool.new.self.frames c.emit.new.link.frames m.due m.landed.landed sent m.waits.handed.tone none in
-    are_few d m.tick c.swap_pool-2.new.self.frames m.due (c.swap_pool-2.ensures.frames ∙ is)
-
 pub returns-clause-done : goal.returns-clause-done
 returns-clause-done g c d tick due landed waits =
     let old = c.args.answers.now in
     let h = landed.history in
     let sent = c.in_ok-emit.ensures.sent d.config h (numbered_before d tick) waits.handed.numbered landed.stands in
-    let none = c.swap_pool.ensures.frames ∙ waits.handed.none_handed in
-    let link = c.swap_pool-2.new.self.frames in
-    let is = c.swap_pool-2.ensures.frames
-    ∙ handed_now _ d tick h c.emit.new.self c.emit.new.ru c.swap_pool.new.self.frames c.emit.new.link.frames due landed.landed sent waits.handed.tone none in
+    let link = c.emit.new.link.frames in
+    let is = handed_now _ d tick h c.emit.new.self c.emit.new.ru old.outbox.frames link due landed.landed sent waits.handed.tone waits.handed.none_handed in
     ok_both c.fill.result
     (λ emptied filled. record {
       radio = radio_then d tick h c.emit.new.ru due landed.landed sent.stands;
