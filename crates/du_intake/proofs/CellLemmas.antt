@@ -49,8 +49,8 @@ use Rattle.unit_memory.specs.declared.memory.UnitMemory.{UnitMemory}
 use Rattle.unit_memory.proofs.HoldLemmas.{holds_later}
 use Rattle.ru_reports.specs.Symbols.{CountsTold}
 use Rattle.symbol_search.proofs.OrderLemmas.{not_before_itself}
-use Rattle.radio_laws.proofs.ReportedLemmas.{counts_more}
-use Rattle.radio_laws.proofs.OrderLemmas.{same_place}
+use Rattle.ru_reports.proofs.CountLemmas.{stand_told}
+use Rattle.history_laws.proofs.BeforeLemmas.{same_place}
 use Rattle.du_intake.specs.Cursors.{CellCursor, uplink_cell_in, is_behind}
 use Rattle.du_intake.specs.Units.{IntakeKeeps, intake_due_of}
 use Rattle.du_intake.proofs.DueLemmas.{begun_late, by_cells, cells_left, each_nothing, next_swept, nothing_if, one_cell, own_not_behind, quiet, used_cell, wait_bounds}
@@ -388,7 +388,7 @@ module _ (c : Config) (planned : List Allocation) (m : UnitMemory) (clock : ℤ)
         fragments = k.holds.fragments;
         places = k.holds.places;
         hold = k.holds.hold;
-        counts = counts_more m.counters counters (arrivals_counted Du c h.arrivals) h.reported (told_cell ∷ []) k.holds.counts counted;
+        counts = stand_told m.counters counters (arrivals_counted Du c h.arrivals) h.reported (told_cell ∷ []) k.holds.counts counted;
         keeps = k.holds.keeps;
       }
 

@@ -22,7 +22,7 @@ use Rattle.schedule_laws.specs.unit_model.specs.declared.symbol_start.SymbolStar
 use Rattle.unit_cells.specs.Cells.{IsSlotIn, cells_block}
 use Rattle.unit_cells.proofs.KeepLemmas.{at_rings}
 use Rattle.ru_reports.specs.Symbols.{CountsTold}
-use Rattle.radio_laws.proofs.AdvanceLemmas.{heard_none}
+use Rattle.history_laws.proofs.UnitLemmas.{heard_none}
 use Rattle.du_intake.specs.Calls.{IntakeStandsFor, cursor_in, next_in}
 use Rattle.du_intake.specs.Closing.{Closes, ClosesSome, IntakeGoesOn, HasClaimed, IsClaimedFrom, IntakeStandsForSome, StaysAt, IntakeStopsAtDue, at_prb}
 use Rattle.du_intake.specs.Cursors.{CellCursor, HasStillLeft, IsNamed, IsNextPlannedSymbol, uplink_cell_in}

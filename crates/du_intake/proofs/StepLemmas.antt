@@ -14,7 +14,7 @@ use Rattle.schedule_laws.specs.unit_model.specs.declared.symbol_start.SymbolStar
 use Rattle.schedule_laws.specs.unit_laws.proofs.FarLemmas.{endpoints_equal}
 use Rattle.unit_memory.specs.declared.memory.UnitMemory.{UnitMemory}
 use Rattle.symbol_search.proofs.OrderLemmas.{comes_trans}
-use Rattle.radio_laws.proofs.OrderLemmas.{same_place}
+use Rattle.history_laws.proofs.BeforeLemmas.{same_place}
 use Rattle.du_intake.specs.Cursors.{CellCursor, IsNextPlannedSymbol, is_behind}
 use Rattle.du_intake.specs.Units.{IntakeKeeps}
 use Rattle.du_intake.proofs.CellLemmas.{cursor_at, own_behind, own_start, swept}

@@ -40,7 +40,7 @@ use Rattle.fh_time.proofs.Orders.{at_most}
 use Rattle.schedule_laws.specs.unit_laws.proofs.BeginLemmas.{nothing_past}
 use Rattle.schedule_laws.specs.unit_model.proofs.SlotLemmas.{first_time}
 use Rattle.fh_time.specs.declared.carrier.TheConstants.{CARRIER_PRBS}
-use Rattle.radio_laws.proofs.HistoryLemmas.{whole_data}
+use Rattle.history_laws.proofs.UnitLemmas.{whole_data}
 
 -- ---- what it answers
 

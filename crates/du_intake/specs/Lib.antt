@@ -1,5 +1,5 @@
 pub use Rattle.schedule_laws.specs.fragment_laws
-pub use Rattle.radio_laws.specs.history_laws
+pub use Rattle.history_laws
 pub use Rattle.schedule_laws.specs.plan_model
 pub use Rattle.schedule_laws
 pub use Rattle.schedule_laws.specs.unit_laws

@@ -20,11 +20,11 @@ use Rattle.uplane_sections.specs.Messages.{told}
 use Rattle.uplane_sections.specs.declared.values.UHead.{UHead}
 use Rattle.uplane_sections.specs.declared.values.URefusal.{URefusal}
 use Rattle.window_config.specs.declared.endpoints.EndpointConfig.{EndpointConfig}
-use Rattle.unit_laws.specs.unit_model.specs.Decoding.{Backwards, Gathering, SectionBlocks, Sections, data_now, data_sections, data_told, data_with, decode, decoded_from, decoded_now, decoded_with, gathered, has_way, nothing_told, sections_of}
-use Rattle.unit_laws.specs.unit_model.specs.Lists.{onto}
-use Rattle.unit_laws.specs.unit_model.specs.Meetings.{Arrival, Meeting, Ignored, Commands, Piece, command, command_read, commands, commands_with, control_met, find_endpoint, fragment_of, fragments, meet, meetings, met_by, met_in}
-use Rattle.unit_laws.specs.unit_model.specs.declared.decoded.ControlSection.{ControlSection}
-use Rattle.unit_laws.specs.unit_model.specs.declared.decoded.UserSection.{UserSection}
+use Rattle.unit_model.specs.Decoding.{Backwards, Gathering, SectionBlocks, Sections, data_now, data_sections, data_told, data_with, decode, decoded_from, decoded_now, decoded_with, gathered, has_way, nothing_told, sections_of}
+use Rattle.unit_model.specs.Lists.{onto}
+use Rattle.unit_model.specs.Meetings.{Arrival, Meeting, Ignored, Commands, Piece, command, command_read, commands, commands_with, control_met, find_endpoint, fragment_of, fragments, meet, meetings, met_by, met_in}
+use Rattle.unit_model.specs.declared.decoded.ControlSection.{ControlSection}
+use Rattle.unit_model.specs.declared.decoded.UserSection.{UserSection}
 use Rattle.ecpri_frames.specs.declared.heads.TheConstants.{ONE_WAY_DELAY}
 use Rattle.ecpri_frames.specs.declared.heads.TheConstants.{REAL_TIME_CONTROL}
 use Rattle.ecpri_frames.specs.declared.heads.TheConstants.{IQ_DATA}

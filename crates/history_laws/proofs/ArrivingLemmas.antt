@@ -7,18 +7,18 @@ use Rattle.air_source.specs.declared.events.Side.{Side}
 use Rattle.air_source.specs.declared.events.Side.TheVariants.{Ru, Du}
 use Rattle.window_config.specs.declared.config.Config.{Config}
 use Rattle.window_config.specs.declared.endpoints.EndpointConfig.{EndpointConfig}
-use Rattle.unit_laws.specs.unit_model.specs.Blocks.{timely}
-use Rattle.unit_laws.specs.unit_model.specs.Claims.{claim_at}
-use Rattle.unit_laws.specs.unit_model.specs.Commands.{accepted}
-use Rattle.unit_laws.specs.unit_model.specs.Meetings.{Arrival}
-use Rattle.unit_laws.specs.unit_model.specs.Proper.{IsProperCommand, IsProperData}
-use Rattle.unit_laws.specs.unit_model.specs.Radiated.{is_used, known_of, reported, used_below, used_mask}
-use Rattle.unit_laws.specs.unit_model.specs.Reports.{accepted_of, commands_of, data_of, hold_of, ru_known, timely_of}
-use Rattle.unit_laws.specs.unit_model.specs.Standing.{due, past_of}
-use Rattle.unit_laws.specs.unit_model.specs.Uplink.{jobs, symbol_jobs}
-use Rattle.unit_laws.specs.unit_model.specs.declared.cells.Claim.{Claim}
-use Rattle.unit_laws.specs.unit_model.specs.declared.decoded.ControlSection.{ControlSection}
-use Rattle.unit_laws.specs.unit_model.specs.declared.decoded.UserSection.{UserSection}
+use Rattle.unit_model.specs.Blocks.{timely}
+use Rattle.unit_model.specs.Claims.{claim_at}
+use Rattle.unit_model.specs.Commands.{accepted}
+use Rattle.unit_model.specs.Meetings.{Arrival}
+use Rattle.unit_model.specs.Proper.{IsProperCommand, IsProperData}
+use Rattle.unit_model.specs.Radiated.{is_used, known_of, reported, used_below, used_mask}
+use Rattle.unit_model.specs.Reports.{accepted_of, commands_of, data_of, hold_of, ru_known, timely_of}
+use Rattle.unit_model.specs.Standing.{due, past_of}
+use Rattle.unit_model.specs.Uplink.{jobs, symbol_jobs}
+use Rattle.unit_model.specs.declared.cells.Claim.{Claim}
+use Rattle.unit_model.specs.declared.decoded.ControlSection.{ControlSection}
+use Rattle.unit_model.specs.declared.decoded.UserSection.{UserSection}
 use Rattle.unit_laws.specs.Past.{IsInOrder}
 use Rattle.unit_laws.proofs.ChangeLemmas.{claim_stays}
 use Rattle.unit_laws.proofs.HistoryLemmas.{commands_are_proper, data_are_proper}

@@ -10,20 +10,20 @@ use Rattle.fh_time.specs.declared.values.Slot.{Slot}
 use Rattle.window_config.specs.declared.delays.Delays.{Delays}
 use Rattle.window_config.specs.declared.endpoints.EndpointConfig.{EndpointConfig}
 use Rattle.air_source.specs.declared.events.Side.TheVariants.{Ru}
-use Rattle.unit_laws.specs.unit_model.specs.Commands.{accepted, allocation_of, command_verdict, is_uplink, with_accepted}
-use Rattle.unit_laws.specs.unit_model.specs.Claims.{is_from, same_slot}
-use Rattle.unit_laws.specs.unit_model.specs.Lists.{in_order, put_in}
-use Rattle.unit_laws.specs.unit_model.specs.Proper.{IsAt, IsProperAllocation, IsProperCommand, IsSlot}
-use Rattle.unit_laws.specs.unit_model.specs.ProperJobs.{IsProperJob}
-use Rattle.unit_laws.specs.unit_model.specs.Radiated.{first_clock}
-use Rattle.unit_laws.specs.unit_model.specs.Reports.{accepted_of, commands_of}
-use Rattle.unit_laws.specs.unit_model.specs.Uplink.{is_before, job_of, jobs, sends_in, symbol_jobs}
-use Rattle.unit_laws.specs.unit_model.specs.declared.allocations.Allocation.{Allocation}
-use Rattle.unit_laws.specs.unit_model.specs.declared.decoded.ControlSection.{ControlSection}
-use Rattle.unit_laws.specs.unit_model.specs.declared.jobs.UplinkJob.{UplinkJob}
-use Rattle.unit_laws.specs.unit_model.specs.declared.verdicts.CommandVerdict.{CommandVerdict}
-use Rattle.unit_laws.specs.unit_model.specs.declared.verdicts.CommandVerdict.TheVariants.{Mismatch, Late, Early, Range, Repeat, Overlap, Full, Accepted}
-use Rattle.unit_laws.specs.unit_model.proofs.VerdictLemmas.{accepted_proper}
+use Rattle.unit_model.specs.Commands.{accepted, allocation_of, command_verdict, is_uplink, with_accepted}
+use Rattle.unit_model.specs.Claims.{is_from, same_slot}
+use Rattle.unit_model.specs.Lists.{in_order, put_in}
+use Rattle.unit_model.specs.Proper.{IsAt, IsProperAllocation, IsProperCommand, IsSlot}
+use Rattle.unit_model.specs.ProperJobs.{IsProperJob}
+use Rattle.unit_model.specs.Radiated.{first_clock}
+use Rattle.unit_model.specs.Reports.{accepted_of, commands_of}
+use Rattle.unit_model.specs.Uplink.{is_before, job_of, jobs, sends_in, symbol_jobs}
+use Rattle.unit_model.specs.declared.allocations.Allocation.{Allocation}
+use Rattle.unit_model.specs.declared.decoded.ControlSection.{ControlSection}
+use Rattle.unit_model.specs.declared.jobs.UplinkJob.{UplinkJob}
+use Rattle.unit_model.specs.declared.verdicts.CommandVerdict.{CommandVerdict}
+use Rattle.unit_model.specs.declared.verdicts.CommandVerdict.TheVariants.{Mismatch, Late, Early, Range, Repeat, Overlap, Full, Accepted}
+use Rattle.unit_model.proofs.VerdictLemmas.{accepted_proper}
 use Rattle.unit_laws.specs.Swept.{IsSwept}
 use Rattle.unit_laws.proofs.DifferLemmas.{all_kept}
 use Rattle.unit_laws.proofs.FarLemmas.{endpoints_equal}
@@ -31,7 +31,7 @@ use Rattle.unit_laws.proofs.HistoryLemmas.{commands_are_proper}
 use Rattle.unit_laws.proofs.SweepLemmas.{sweep_related}
 use Rattle.history_laws.specs.Sending.{JobsAreProper}
 use Rattle.history_laws.proofs.TickLemmas.{before_next}
-use Rattle.unit_laws.specs.unit_model.proofs.ClaimLemmas.{same_slot_is as slots_equal}
+use Rattle.unit_model.proofs.ClaimLemmas.{same_slot_is as slots_equal}
 
 -- ---- what was accepted
 

@@ -1,8 +1,8 @@
 -- The order of ticks, and of what stands next to them.
 use Rattle.std.proofs.Common.{◌≡◌, ℤ, pos, ◌+ℤ◌, ◌-ℤ◌, ◌≤ℤ◌, ◌<ℤ◌, arith}
 use Rattle.std.proofs.lemmas.Int.{ints}
-use Rattle.unit_laws.specs.unit_model.specs.Radiated.{first_clock}
-use Rattle.unit_laws.specs.unit_model.specs.Times.{end_of_time}
+use Rattle.unit_model.specs.Radiated.{first_clock}
+use Rattle.unit_model.specs.Times.{end_of_time}
 
 pub next_after : (a b : ℤ) → a <ℤ b → (a +ℤ pos 1) ≤ℤ b
 next_after a b h = omega (arith, ints)

@@ -9,16 +9,16 @@ use Rattle.air_source.specs.declared.events.Side.TheVariants.{Ru, Du}
 use Rattle.window_config.specs.Limits.{IsWithinLimits}
 use Rattle.window_config.specs.declared.config.Config.{Config}
 use Rattle.window_config.specs.declared.endpoints.EndpointConfig.{EndpointConfig}
-use Rattle.unit_laws.specs.unit_model.specs.Claims.{claim_at}
-use Rattle.unit_laws.specs.unit_model.specs.Meetings.{Arrival}
-use Rattle.unit_laws.specs.unit_model.specs.Proper.{IsAt, IsTime}
-use Rattle.unit_laws.specs.unit_model.specs.Radiated.{Known, reported, used_mask}
-use Rattle.unit_laws.specs.unit_model.specs.Reports.{accepted_of, du_known, ru_known}
-use Rattle.unit_laws.specs.unit_model.specs.Standing.{AreInTime, due, past_of}
-use Rattle.unit_laws.specs.unit_model.specs.Uplink.{jobs, symbol_jobs}
-use Rattle.unit_laws.specs.unit_model.specs.declared.allocations.Allocation.{Allocation}
-use Rattle.unit_laws.specs.unit_model.specs.declared.cells.Cell.{Cell}
-use Rattle.unit_laws.specs.unit_model.specs.declared.cells.Claim.{Claim}
+use Rattle.unit_model.specs.Claims.{claim_at}
+use Rattle.unit_model.specs.Meetings.{Arrival}
+use Rattle.unit_model.specs.Proper.{IsAt, IsTime}
+use Rattle.unit_model.specs.Radiated.{Known, reported, used_mask}
+use Rattle.unit_model.specs.Reports.{accepted_of, du_known, ru_known}
+use Rattle.unit_model.specs.Standing.{AreInTime, due, past_of}
+use Rattle.unit_model.specs.Uplink.{jobs, symbol_jobs}
+use Rattle.unit_model.specs.declared.allocations.Allocation.{Allocation}
+use Rattle.unit_model.specs.declared.cells.Cell.{Cell}
+use Rattle.unit_model.specs.declared.cells.Claim.{Claim}
 
 -- an arrival that comes behind these, at a time that a unit may be given
 pub record IsNextArrival (c : Config) (a : Arrival) (arrivals : List Arrival) : Type 0 where

@@ -1,9 +1,9 @@
 -- What stands first in a sweep over symbols (this project's profile).
 use Rattle.std.specs.Prelude.{◌≡◌, ℤ, true, ◌<ℤ◌, ◌≤ℤ◌, List, [], ◌++◌}
 use Rattle.window_config.specs.declared.endpoints.EndpointConfig.{EndpointConfig}
-use Rattle.unit_laws.specs.unit_model.specs.Order.{comes_before}
-use Rattle.unit_laws.specs.unit_model.specs.Sweeps.{OfSymbol, sweep}
-use Rattle.unit_laws.specs.unit_model.specs.declared.symbol_start.SymbolStart.{SymbolStart}
+use Rattle.unit_model.specs.Order.{comes_before}
+use Rattle.unit_model.specs.Sweeps.{OfSymbol, sweep}
+use Rattle.unit_model.specs.declared.symbol_start.SymbolStart.{SymbolStart}
 use Rattle.unit_laws.specs.Swept.{IsSwept}
 
 -- what is told of a symbol

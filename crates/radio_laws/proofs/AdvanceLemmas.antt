@@ -1,12 +1,13 @@
 -- Reports go on symbol by symbol.
 use Rattle.std.proofs.Common.{◌≡◌, ℤ, ◌≤ℤ◌, ◌<ℤ◌, List, [], ◌∷◌, ◌++◌, sym, ap, ◌∙◌, subst, append-nil, append_assoc}
 use Rattle.std.specs.Int.Signed.{<ℤ-≤ℤ_trans}
-use Rattle.history_laws.specs.air_source.specs.declared.events.AirCell.{AirCell}
-use Rattle.history_laws.specs.window_config.specs.declared.config.Config.{Config}
-use Rattle.history_laws.specs.unit_model.specs.Standing.{History, heard}
-use Rattle.history_laws.specs.unit_model.specs.declared.symbol_start.SymbolStart.{SymbolStart}
-use Rattle.history_laws.specs.unit_laws.specs.Runs.{OffsetsFit}
+use Rattle.air_source.specs.declared.events.AirCell.{AirCell}
+use Rattle.window_config.specs.declared.config.Config.{Config}
+use Rattle.unit_model.specs.Standing.{History, heard}
+use Rattle.unit_model.specs.declared.symbol_start.SymbolStart.{SymbolStart}
+use Rattle.unit_laws.specs.Runs.{OffsetsFit}
 use Rattle.history_laws.specs.First.{FirstIsFirst, NothingIsNothing}
+use Rattle.history_laws.proofs.UnitLemmas.{heard_more, heard_none}
 use Rattle.ru_jobs.specs.declared.cursor.JobCursor.{JobCursor}
 use Rattle.unit_memory.specs.declared.memory.UnitMemory.{UnitMemory}
 use Rattle.ru_reports.specs.Symbols.{left_at}
@@ -53,12 +54,6 @@ module _ (first_law : FirstIsFirst AirCell) (none_law : NothingIsNothing AirCell
   nothing_by s first early = nothing_left (λ x left. <ℤ-≤ℤ_trans early (starts_no_earlier x s (first.first x left)))
 
 -- ---- one after the other
-
-pub heard_more : (h : History) (a b : List AirCell) → heard (heard h a) b ≡ heard h (a ++ b)
-heard_more h a b = ap (λ (xs : List AirCell). let r : History = record { clock = h.clock; arrivals = h.arrivals; reported = xs; given = h.given } in r) (append_assoc h.reported a b)
-
-pub heard_none : (h : History) → heard h [] ≡ h
-heard_none h = ap (λ (xs : List AirCell). let r : History = record { clock = h.clock; arrivals = h.arrivals; reported = xs; given = h.given } in r) (append-nil h.reported)
 
 pub goes_nowhere : (c : Config) (m : UnitMemory) (clock : ℤ) (cursor : JobCursor) (h : History) (to : ℤ) → RadioStands c m clock cursor h → Goes c m clock cursor h to []
 goes_nowhere c m clock cursor h to all = record {

@@ -6,26 +6,26 @@ use Rattle.std.proofs.lemmas.Int.{ints, by_lt_z}
 use Rattle.std.proofs.lemmas.List.{drop-append-le}
 use Rattle.std.proofs.lemmas.List.Elements.{All-cons, All-weaker}
 use Rattle.std.specs.Int.Signed.{≤ℤ_refl}
-use Rattle.history_laws.specs.air_source.specs.declared.events.AirCell.{AirCell}
-use Rattle.history_laws.specs.air_source.specs.declared.events.Side.TheVariants.{Ru}
-use Rattle.history_laws.specs.window_config.specs.declared.config.Config.{Config}
-use Rattle.history_laws.specs.window_config.specs.declared.endpoints.EndpointConfig.{EndpointConfig}
-use Rattle.history_laws.specs.unit_model.specs.Counts.{cells_counted}
-use Rattle.history_laws.specs.unit_model.specs.Meetings.{Arrival}
-use Rattle.history_laws.specs.unit_model.specs.Order.{comes_before}
-use Rattle.history_laws.specs.unit_model.specs.Proper.{IsTime}
-use Rattle.history_laws.specs.unit_model.specs.Radiated.{first_clock}
-use Rattle.history_laws.specs.unit_model.specs.Reports.{accepted_of, ru_known}
-use Rattle.history_laws.specs.unit_model.specs.Standing.{History, IsOwed, arrived, still_given}
-use Rattle.history_laws.specs.unit_model.specs.Starts.{start_at}
-use Rattle.history_laws.specs.unit_model.specs.Sweeps.{sweep}
-use Rattle.history_laws.specs.unit_model.specs.Uplink.{jobs, symbol_jobs}
-use Rattle.history_laws.specs.unit_model.specs.declared.allocations.Allocation.{Allocation}
-use Rattle.history_laws.specs.unit_model.specs.declared.jobs.UplinkJob.{UplinkJob}
-use Rattle.history_laws.specs.unit_model.specs.declared.symbol_start.SymbolStart.{SymbolStart}
-use Rattle.history_laws.specs.unit_laws.proofs.SentLemmas.{jobs_append}
-use Rattle.history_laws.specs.unit_laws.proofs.SweepLemmas.{sweep-append, sweep-same}
-use Rattle.ru_reports.specs.unit_cells.specs.Keeping.{SameReported}
+use Rattle.air_source.specs.declared.events.AirCell.{AirCell}
+use Rattle.air_source.specs.declared.events.Side.TheVariants.{Ru}
+use Rattle.window_config.specs.declared.config.Config.{Config}
+use Rattle.window_config.specs.declared.endpoints.EndpointConfig.{EndpointConfig}
+use Rattle.unit_model.specs.Counts.{cells_counted}
+use Rattle.unit_model.specs.Meetings.{Arrival}
+use Rattle.unit_model.specs.Order.{comes_before}
+use Rattle.unit_model.specs.Proper.{IsTime}
+use Rattle.unit_model.specs.Radiated.{first_clock}
+use Rattle.unit_model.specs.Reports.{accepted_of, ru_known}
+use Rattle.unit_model.specs.Standing.{History, IsOwed, arrived, still_given}
+use Rattle.unit_model.specs.Starts.{start_at}
+use Rattle.unit_model.specs.Sweeps.{sweep}
+use Rattle.unit_model.specs.Uplink.{jobs, symbol_jobs}
+use Rattle.unit_model.specs.declared.allocations.Allocation.{Allocation}
+use Rattle.unit_model.specs.declared.jobs.UplinkJob.{UplinkJob}
+use Rattle.unit_model.specs.declared.symbol_start.SymbolStart.{SymbolStart}
+use Rattle.unit_laws.proofs.SentLemmas.{jobs_append}
+use Rattle.unit_laws.proofs.SweepLemmas.{sweep-append, sweep-same}
+use Rattle.unit_cells.specs.Keeping.{SameReported}
 use Rattle.history_laws.specs.Arriving.{IsNextArrival}
 use Rattle.history_laws.proofs.ArrivingLemmas.{arrival_leaves_due, arrival_leaves_jobs, arrival_leaves_sent, arrival_leaves_use}
 use Rattle.history_laws.proofs.TickLemmas.{before_next, after_all}
@@ -37,8 +37,8 @@ use Rattle.radio_laws.specs.Units.{IsWithin, RadioKeeps}
 use Rattle.radio_laws.proofs.HistoryLemmas.{since_small}
 use Rattle.radio_laws.proofs.LookupLemmas.{left_by_definition, left_of}
 use Rattle.fh_time.proofs.Orders.{not_under_is as not_less, weak, next_later as next_most, at_most, next_order}
-use Rattle.history_laws.specs.unit_model.proofs.ClaimLemmas.{start_before}
-use Rattle.history_laws.specs.unit_model.proofs.InTimeLemmas.{in_time_later}
+use Rattle.unit_model.proofs.ClaimLemmas.{start_before}
+use Rattle.unit_model.proofs.InTimeLemmas.{in_time_later}
 
 first_false : (a b e : Bool) → a ≡ false → b ≡ false → (a || (b && e)) ≡ false
 first_false a b e p q = rw p (rw q refl)

@@ -1,41 +1,32 @@
 -- A unit that stands for a history answers as the definitions do, and stands for it and an arrival once that was treated.
-use Rattle.std.proofs.Common.{◌≡◌, ℤ, pos, ◌≤ℤ◌, ◌^◌, true, false, List, sym, ◌∙◌, inl, inr, arith}
-use Rattle.std.specs.Prelude.{All}
+use Rattle.std.proofs.Common.{◌≡◌, ℤ, pos, ◌≤ℤ◌, ◌^◌, true, false, List, sym, ◌∙◌, inl, inr}
 use Rattle.std.specs.List.{list_any}
-use Rattle.std.proofs.lemmas.List.Elements.{All-weaker}
-use Rattle.history_laws.specs.air_source.specs.declared.events.Side.TheVariants.{Ru}
-use Rattle.history_laws.specs.window_config.specs.Rings.{ru_reach_of}
-use Rattle.history_laws.specs.window_config.specs.declared.config.Config.{Config}
-use Rattle.history_laws.specs.window_config.specs.declared.endpoints.EndpointConfig.{EndpointConfig}
-use Rattle.history_laws.specs.unit_model.specs.Proper.{IsProperData}
-use Rattle.history_laws.specs.unit_model.specs.Radiated.{used_mask}
-use Rattle.history_laws.specs.unit_model.specs.Reports.{accepted_of, data_of, ru_known, timely_of}
-use Rattle.history_laws.specs.unit_model.specs.Standing.{History, IsCell, IsHistory, IsLiveAt, StandsBy, cell_heard, still_given}
-use Rattle.history_laws.specs.unit_model.specs.declared.allocations.Allocation.{Allocation}
-use Rattle.history_laws.specs.unit_model.specs.declared.cells.Cell.{Cell}
-use Rattle.history_laws.specs.unit_model.specs.declared.decoded.UserSection.{UserSection}
-use Rattle.history_laws.specs.unit_model.proofs.BlockLemmas.{all_timely}
-use Rattle.history_laws.specs.unit_laws.specs.Far.{IsFar}
-use Rattle.history_laws.specs.unit_laws.proofs.AheadLemmas.{no_claims_ahead}
-use Rattle.history_laws.specs.unit_laws.proofs.HistoryLemmas.{data_are_proper}
-use Rattle.history_laws.specs.unit_laws.proofs.TickLemmas.{live_later}
+use Rattle.air_source.specs.declared.events.Side.TheVariants.{Ru}
+use Rattle.window_config.specs.Rings.{ru_reach_of}
+use Rattle.window_config.specs.declared.config.Config.{Config}
+use Rattle.window_config.specs.declared.endpoints.EndpointConfig.{EndpointConfig}
+use Rattle.unit_model.specs.Radiated.{used_mask}
+use Rattle.unit_model.specs.Reports.{accepted_of, ru_known, timely_of}
+use Rattle.unit_model.specs.Standing.{History, IsCell, IsHistory, IsLiveAt, StandsBy, cell_heard, still_given}
+use Rattle.unit_model.specs.declared.allocations.Allocation.{Allocation}
+use Rattle.unit_model.specs.declared.cells.Cell.{Cell}
+use Rattle.unit_laws.specs.Far.{IsFar}
+use Rattle.unit_laws.proofs.AheadLemmas.{no_claims_ahead}
+use Rattle.unit_laws.proofs.TickLemmas.{live_later}
 use Rattle.history_laws.proofs.UnitLemmas.{not_both}
-use Rattle.ru_reports.specs.unit_cells.specs.Cells.{cells_reported}
-use Rattle.ru_reports.specs.unit_cells.specs.Keeping.{Keeps as RingsKeep}
-use Rattle.ru_reports.specs.unit_cells.specs.Told.{IsTold}
-use Rattle.ru_reports.specs.unit_cells.proofs.TimeLemmas.{far_not_reported, keeps_later, live_at}
-use Rattle.ru_reports.specs.unit_cells.proofs.ToldLemmas.{told_whole}
+use Rattle.unit_cells.specs.Cells.{cells_reported}
+use Rattle.unit_cells.specs.Keeping.{Keeps as RingsKeep}
+use Rattle.unit_cells.proofs.TimeLemmas.{far_not_reported, keeps_later, live_at}
+use Rattle.unit_cells.proofs.ToldLemmas.{told_whole}
 use Rattle.ru_jobs.specs.declared.cursor.JobCursor.{JobCursor}
 use Rattle.unit_memory.specs.declared.memory.UnitMemory.{UnitMemory}
 use Rattle.radio_laws.specs.Units.{RadioKeeps, RadioStands, view_of}
-use Rattle.history_laws.specs.unit_model.proofs.ClaimLemmas.{none_used as unused}
+use Rattle.radio_laws.proofs.SymbolLemmas.{all_told}
+use Rattle.unit_model.proofs.ClaimLemmas.{none_used as unused}
 use Rattle.fh_time.proofs.Orders.{not_true, at_most}
-use Rattle.history_laws.specs.unit_model.proofs.InTimeLemmas.{in_time_later}
+use Rattle.unit_model.proofs.InTimeLemmas.{in_time_later}
 
 -- ---- what a unit answers
-
-pub whole_data : (es : List EndpointConfig) (d : UserSection) → IsProperData es d → IsTold d
-whole_data es d is = omega (arith, is.blocks)
 
 module _ (c : Config) (m : UnitMemory) (clock : ℤ) (cursor : JobCursor) (h : History) (k : RadioKeeps c m clock cursor h) where
   abbrev acc : List Allocation
@@ -46,11 +37,6 @@ module _ (c : Config) (m : UnitMemory) (clock : ℤ) (cursor : JobCursor) (h : H
 
   pub since_small : since ≤ℤ pos (2 ^ 53)
   since_small = at_most since h.clock (pos (2 ^ 53)) k.since k.time.high
-
-  pub all_told : All IsTold (timely_of Ru c h.arrivals)
-  all_told =
-      All-weaker (IsProperData c.endpoints) IsTold (whole_data c.endpoints) (timely_of Ru c h.arrivals)
-      (all_timely (IsProperData c.endpoints) Ru c.delays (data_of Ru c h.arrivals) (data_are_proper Ru c since h.arrivals k.holds.came k.holds.times))
 
   pub rings_now : RingsKeep Ru c h.clock m.cells acc (timely_of Ru c h.arrivals)
   rings_now = keeps_later Ru c since h.clock m.cells acc (timely_of Ru c h.arrivals) k.since k.holds.keeps
@@ -86,7 +72,7 @@ module _ (c : Config) (m : UnitMemory) (clock : ℤ) (cursor : JobCursor) (h : H
       counts = k.holds.counts;
       fragments = k.holds.fragments;
       hold = k.holds.hold;
-      blocks = λ e cell is down live. rings_now.blocks e cell is down live ∙ told_whole (timely_of Ru c h.arrivals) cell all_told;
+      blocks = λ e cell is down live. rings_now.blocks e cell is down live ∙ told_whole (timely_of Ru c h.arrivals) cell (all_told c m clock cursor h k);
       past = k.past;
       told = k.told;
       history = history;

@@ -5,39 +5,39 @@ use Rattle.std.specs.List.{list_any}
 use Rattle.std.proofs.lemmas.Bool.{cases_Bool}
 use Rattle.std.proofs.lemmas.Int.{ints, clamps, by_lt_z}
 use Rattle.std.proofs.lemmas.List.{drop-drop, drop_at}
-use Rattle.history_laws.specs.air_source.specs.declared.events.Side.TheVariants.{Ru}
-use Rattle.history_laws.specs.window_config.specs.Rings.{ru_reach_of}
-use Rattle.history_laws.specs.window_config.specs.declared.config.Config.{Config}
-use Rattle.history_laws.specs.window_config.specs.declared.endpoints.EndpointConfig.{EndpointConfig}
-use Rattle.history_laws.specs.unit_model.specs.Counts.{cells_counted}
-use Rattle.history_laws.specs.unit_model.specs.Radiated.{first_clock, used_mask}
-use Rattle.history_laws.specs.unit_model.specs.Reports.{accepted_of, ru_known, timely_of}
-use Rattle.history_laws.specs.unit_model.specs.Standing.{History, IsCell, IsLiveAt, cell_heard, still_given}
-use Rattle.history_laws.specs.unit_model.specs.Uplink.{jobs}
-use Rattle.history_laws.specs.unit_model.specs.declared.cells.Cell.{Cell}
-use Rattle.history_laws.specs.unit_model.specs.declared.jobs.UplinkJob.{UplinkJob}
-use Rattle.history_laws.specs.unit_model.specs.declared.symbol_start.SymbolStart.{SymbolStart}
-use Rattle.history_laws.specs.unit_laws.specs.Far.{IsFar}
-use Rattle.history_laws.specs.unit_laws.specs.Runs.{OffsetsFit}
-use Rattle.history_laws.specs.unit_laws.proofs.AheadLemmas.{no_claims_ahead}
-use Rattle.history_laws.specs.unit_laws.proofs.SentLemmas.{jobs_begin}
-use Rattle.history_laws.specs.unit_laws.proofs.TickLemmas.{given_in_order, live_later}
-use Rattle.ru_reports.specs.unit_cells.specs.Cells.{cells_reported, cells_uplink, endpoints_of}
-use Rattle.ru_reports.specs.unit_cells.proofs.TimeLemmas.{far_not_reported, live_at}
+use Rattle.air_source.specs.declared.events.Side.TheVariants.{Ru}
+use Rattle.window_config.specs.Rings.{ru_reach_of}
+use Rattle.window_config.specs.declared.config.Config.{Config}
+use Rattle.window_config.specs.declared.endpoints.EndpointConfig.{EndpointConfig}
+use Rattle.unit_model.specs.Counts.{cells_counted}
+use Rattle.unit_model.specs.Radiated.{first_clock, used_mask}
+use Rattle.unit_model.specs.Reports.{accepted_of, ru_known, timely_of}
+use Rattle.unit_model.specs.Standing.{History, IsCell, IsLiveAt, cell_heard, still_given}
+use Rattle.unit_model.specs.Uplink.{jobs}
+use Rattle.unit_model.specs.declared.cells.Cell.{Cell}
+use Rattle.unit_model.specs.declared.jobs.UplinkJob.{UplinkJob}
+use Rattle.unit_model.specs.declared.symbol_start.SymbolStart.{SymbolStart}
+use Rattle.unit_laws.specs.Far.{IsFar}
+use Rattle.unit_laws.specs.Runs.{OffsetsFit}
+use Rattle.unit_laws.proofs.AheadLemmas.{no_claims_ahead}
+use Rattle.unit_laws.proofs.SentLemmas.{jobs_begin}
+use Rattle.unit_laws.proofs.TickLemmas.{given_in_order, live_later}
+use Rattle.unit_cells.specs.Cells.{cells_reported, cells_uplink, endpoints_of}
+use Rattle.unit_cells.proofs.TimeLemmas.{far_not_reported, live_at}
 use Rattle.history_laws.specs.First.{FirstIsFirst, IsSweptIn, told_of}
 use Rattle.ru_jobs.specs.Cursors.{GivenOne, IsFirstJob, Settled, jobs_left}
-use Rattle.ru_reports.specs.symbol_search.specs.Symbols.{IsSymbol}
-use Rattle.history_laws.proofs.TickLemmas.{same_then, one_before}
+use Rattle.symbol_search.specs.Symbols.{IsSymbol}
+use Rattle.history_laws.proofs.TickLemmas.{same_then}
 use Rattle.history_laws.proofs.UnitLemmas.{not_both}
 use Rattle.ru_jobs.specs.declared.cursor.JobCursor.{JobCursor}
 use Rattle.ru_jobs.specs.declared.cursor.NextJob.{NextJob}
 use Rattle.unit_memory.specs.Memory.{Holds, HoldsLater}
 use Rattle.unit_memory.specs.declared.memory.UnitMemory.{UnitMemory}
-use Rattle.radio_laws.specs.JobLaws.{GivesFirst, IsGiven, IsSettled, KeptLater, NoneBeforeFirst, NoneToGive, ReadyOnceGiven, ReadyUpToFirst, ReadyWhereNone, Settles, SomeFromFirst}
+use Rattle.radio_laws.specs.JobLaws.{GivesFirst, IsGiven, IsSettled, KeptLater, NoneBeforeFirst, NoneToGive, ReadyOnceGiven, Settles, SomeFromFirst}
 use Rattle.radio_laws.specs.Units.{IsReady, RadioKeeps, left_up_to}
 use Rattle.radio_laws.proofs.PlaceLemmas.{left_of_swept}
 use Rattle.radio_laws.proofs.SweptLemmas.{left_first, none_before, none_given_before, nothing_left, settled_left, settled_ready, some_first}
-use Rattle.history_laws.specs.unit_model.proofs.ClaimLemmas.{none_used as unused}
+use Rattle.unit_model.proofs.ClaimLemmas.{none_used as unused}
 use Rattle.fh_time.proofs.Orders.{at_most}
 use Rattle.fh_time.proofs.Options.{some_is as some_equal}
 
@@ -127,13 +127,6 @@ none_before_first c m clock cursor n h to keeps first early =
 pub some_from_first : FirstIsFirst UplinkJob → SomeFromFirst
 some_from_first first_is c m clock cursor n h to keeps fit first order none =
     some_first m.cells cursor n first keeps.begun (quiet c m clock cursor h keeps) first_is to fit order (keeps.left to ∙ none)
-
-pub ready_up_to_first : ReadyUpToFirst
-ready_up_to_first c m clock cursor n h to keeps first early =
-    none_before m.cells cursor n first keeps.begun (quiet c m clock cursor h keeps) (to -ℤ pos 1) (one_before to n.symbol.start.0 early)
-
-pub ready_where_none : ReadyWhereNone
-ready_where_none c m clock cursor h to keeps none = keeps.left (to -ℤ pos 1) ∙ none_to_give c m clock cursor h (to -ℤ pos 1) keeps none
 
 -- ---- the first message that is left
 

@@ -1,18 +1,18 @@
 -- What is left of the messages of symbols.
-use Rattle.std.proofs.Common.{◌≡◌, ℕ, ℤ, zero, suc, ◌≤ℤ◌, Bool, true, false, List, [], ◌∷◌, drop, refl, ap, ◌∙◌, Option, Some, None}
+use Rattle.std.proofs.Common.{◌≡◌, ℕ, ℤ, ◌≤ℤ◌, Bool, true, false, List, [], ◌∷◌, refl, ap, ◌∙◌}
 use Rattle.std.specs.Prelude.{if◌then◌else◌, int_lt}
 use Rattle.fh_time.specs.declared.values.Slot.{Slot}
-use Rattle.history_laws.specs.window_config.specs.declared.endpoints.EndpointConfig.{EndpointConfig}
-use Rattle.history_laws.specs.unit_model.specs.Order.{comes_before}
-use Rattle.history_laws.specs.unit_model.specs.Starts.{start_at}
-use Rattle.history_laws.specs.unit_model.specs.Uplink.{symbol_jobs}
-use Rattle.history_laws.specs.unit_model.specs.declared.allocations.Allocation.{Allocation}
-use Rattle.history_laws.specs.unit_model.specs.declared.jobs.UplinkJob.{UplinkJob}
-use Rattle.history_laws.specs.unit_model.specs.declared.symbol_start.SymbolStart.{SymbolStart}
+use Rattle.window_config.specs.declared.endpoints.EndpointConfig.{EndpointConfig}
+use Rattle.unit_model.specs.Order.{comes_before}
+use Rattle.unit_model.specs.Starts.{start_at}
+use Rattle.unit_model.specs.Uplink.{symbol_jobs}
+use Rattle.unit_model.specs.declared.allocations.Allocation.{Allocation}
+use Rattle.unit_model.specs.declared.jobs.UplinkJob.{UplinkJob}
+use Rattle.unit_model.specs.declared.symbol_start.SymbolStart.{SymbolStart}
 use Rattle.ru_jobs.specs.Cursors.{at_start, jobs_left, left_behind, left_jobs}
 use Rattle.ru_jobs.specs.declared.cursor.JobCursor.{JobCursor}
 use Rattle.fh_time.proofs.Orders.{not_under}
-use Rattle.history_laws.specs.unit_laws.proofs.AheadLemmas.{no_jobs}
+use Rattle.unit_laws.proofs.AheadLemmas.{no_jobs}
 use Rattle.ru_jobs.proofs.LeftLemmas.{none_of_none as left_none}
 
 -- ---- tests of times
@@ -26,28 +26,6 @@ start_before m x e = ap (λ (t : ℤ). comes_before (with_start m t) x) e
 
 pub start_behind : (m x : SymbolStart) → (at_start m).start.0 ≡ m.start.0 → comes_before x (at_start m) ≡ comes_before x m
 start_behind m x e = ap (λ (t : ℤ). comes_before x (with_start m t)) e
-
--- ---- no messages
-
-abbrev nothing : List UplinkJob
-nothing = []
-
-drop_none : (n : ℕ) → drop n [] ≡ nothing
-drop_none zero = refl
-drop_none (suc n) = refl
-
-one_of_none : (a b : Bool) (xs : List UplinkJob) → xs ≡ [] → (if a then [] else (if b then [] else xs)) ≡ []
-one_of_none true b xs e = refl
-one_of_none false true xs e = refl
-one_of_none false false xs e = e
-
-left_behind_none : (given : ℕ) (o : Option SymbolStart) (m : SymbolStart) → left_behind given o m [] ≡ []
-left_behind_none given None m = refl
-left_behind_none given (Some last) m = one_of_none (comes_before m last) (comes_before last m) (drop given []) (drop_none given)
-
-first_of_none : (a : Bool) (xs : List UplinkJob) → xs ≡ [] → (if a then [] else xs) ≡ []
-first_of_none true xs e = refl
-first_of_none false xs e = e
 
 -- of a slot with no section nothing is left
 pub left_of_none : (uplink : ℕ → Slot → List Allocation) (cursor : JobCursor) (ep : ℕ) (e : EndpointConfig) (slot : Slot) (symbol : ℕ)

@@ -1,28 +1,28 @@
 -- What the rings answer of uplink messages, and that it is what the definitions say.
-use Rattle.std.proofs.Common.{◌≡◌, ℕ, ℤ, pos, ◌<◌, ◌+ℤ◌, ◌≤ℤ◌, ◌<ℤ◌, ◌^◌, true, List, refl, sym, ap, ◌∙◌, subst, inl, inr}
+use Rattle.std.proofs.Common.{◌≡◌, ℕ, ℤ, pos, ◌+ℤ◌, ◌≤ℤ◌, ◌<ℤ◌, ◌^◌, true, List, refl, sym, ap, ◌∙◌, subst, inl, inr}
 use Rattle.std.specs.Prelude.{int_lt}
 use Rattle.std.proofs.lemmas.Int.{by_lt_z}
 use Rattle.fh_time.specs.Air.{air_of}
 use Rattle.fh_time.specs.declared.values.Slot.{Slot}
-use Rattle.history_laws.specs.air_source.specs.declared.events.Side.TheVariants.{Ru}
+use Rattle.air_source.specs.declared.events.Side.TheVariants.{Ru}
 use Rattle.fault_counters.specs.declared.kinds.Counter.{Counter}
-use Rattle.history_laws.specs.window_config.specs.declared.config.Config.{Config}
-use Rattle.history_laws.specs.window_config.specs.declared.endpoints.EndpointConfig.{EndpointConfig}
-use Rattle.history_laws.specs.unit_model.specs.Meetings.{Arrival}
-use Rattle.history_laws.specs.unit_model.specs.Radiated.{first_clock}
-use Rattle.history_laws.specs.unit_model.specs.Reports.{accepted_of, timely_of}
-use Rattle.history_laws.specs.unit_model.specs.Starts.{start_at}
-use Rattle.history_laws.specs.unit_model.specs.Sweeps.{OfSymbol, sweep}
-use Rattle.history_laws.specs.unit_model.specs.Uplink.{symbol_jobs}
-use Rattle.history_laws.specs.unit_model.specs.declared.allocations.Allocation.{Allocation}
-use Rattle.history_laws.specs.unit_model.specs.declared.jobs.UplinkJob.{UplinkJob}
-use Rattle.history_laws.specs.unit_laws.specs.Swept.{IsSwept}
-use Rattle.history_laws.specs.unit_laws.proofs.AheadLemmas.{no_jobs_ahead, no_jobs}
-use Rattle.history_laws.specs.unit_laws.proofs.LookupLemmas.{jobs_of_their_slot}
-use Rattle.history_laws.specs.unit_laws.proofs.SweepLemmas.{sweep-same}
-use Rattle.history_laws.specs.unit_laws.proofs.TickLemmas.{starts_at}
-use Rattle.ru_reports.specs.unit_cells.specs.Cells.{cells_uplink, ring_of}
-use Rattle.ru_reports.specs.unit_cells.proofs.TimeLemmas.{far_no_place, live_at, no_uplink_from}
+use Rattle.window_config.specs.declared.config.Config.{Config}
+use Rattle.window_config.specs.declared.endpoints.EndpointConfig.{EndpointConfig}
+use Rattle.unit_model.specs.Meetings.{Arrival}
+use Rattle.unit_model.specs.Radiated.{first_clock}
+use Rattle.unit_model.specs.Reports.{accepted_of, timely_of}
+use Rattle.unit_model.specs.Starts.{start_at}
+use Rattle.unit_model.specs.Sweeps.{OfSymbol, sweep}
+use Rattle.unit_model.specs.Uplink.{symbol_jobs}
+use Rattle.unit_model.specs.declared.allocations.Allocation.{Allocation}
+use Rattle.unit_model.specs.declared.jobs.UplinkJob.{UplinkJob}
+use Rattle.unit_laws.specs.Swept.{IsSwept}
+use Rattle.unit_laws.proofs.AheadLemmas.{no_jobs_ahead, no_jobs}
+use Rattle.unit_laws.proofs.LookupLemmas.{jobs_of_their_slot}
+use Rattle.unit_laws.proofs.SweepLemmas.{sweep-same}
+use Rattle.unit_laws.proofs.TickLemmas.{starts_at}
+use Rattle.unit_cells.specs.Cells.{cells_uplink, ring_of}
+use Rattle.unit_cells.proofs.TimeLemmas.{far_no_place, live_at, no_uplink_from}
 use Rattle.ru_jobs.specs.Cursors.{jobs_left, left_jobs}
 use Rattle.ru_jobs.specs.declared.cursor.JobCursor.{JobCursor}
 use Rattle.unit_memory.specs.Memory.{Holds}

@@ -5,38 +5,38 @@ use Rattle.std.proofs.lemmas.Int.{ints}
 use Rattle.std.proofs.lemmas.List.Elements.{All-nil}
 use Rattle.fh_time.specs.Air.{air_of}
 use Rattle.fh_time.specs.declared.values.Slot.{Slot}
-use Rattle.history_laws.specs.air_source.specs.declared.events.AirCell.{AirCell}
-use Rattle.history_laws.specs.air_source.specs.declared.events.Side.TheVariants.{Ru}
-use Rattle.history_laws.specs.window_config.specs.Limits.{IsWithinLimits}
-use Rattle.history_laws.specs.window_config.specs.Rings.{ru_reach_of}
-use Rattle.history_laws.specs.window_config.specs.Windows.{ticks_of_ns}
-use Rattle.history_laws.specs.window_config.specs.declared.config.Config.{Config}
-use Rattle.history_laws.specs.window_config.specs.declared.endpoints.EndpointConfig.{EndpointConfig}
-use Rattle.history_laws.specs.unit_model.specs.Proper.{IsAt}
-use Rattle.history_laws.specs.unit_model.specs.Radiated.{first_clock, symbol_report}
-use Rattle.history_laws.specs.unit_model.specs.Reports.{accepted_of, ru_known}
-use Rattle.history_laws.specs.unit_model.specs.Standing.{IsOwed, due, nothing_yet, still_reported}
-use Rattle.history_laws.specs.unit_model.specs.Starts.{start_at}
-use Rattle.history_laws.specs.unit_model.specs.Sweeps.{sweep}
-use Rattle.history_laws.specs.unit_model.specs.Uplink.{jobs, symbol_jobs}
-use Rattle.history_laws.specs.unit_model.specs.declared.cells.Cell.{Cell}
-use Rattle.history_laws.specs.unit_model.specs.declared.jobs.UplinkJob.{UplinkJob}
-use Rattle.history_laws.specs.unit_model.specs.declared.symbol_start.SymbolStart.{SymbolStart}
-use Rattle.history_laws.specs.unit_laws.specs.Far.{IsFar}
-use Rattle.history_laws.specs.unit_laws.proofs.AheadLemmas.{no_jobs_ahead, no_reports_ahead}
-use Rattle.history_laws.specs.unit_laws.proofs.DueLemmas.{unheard}
-use Rattle.history_laws.specs.unit_laws.proofs.SweepLemmas.{tick-nothing}
+use Rattle.air_source.specs.declared.events.AirCell.{AirCell}
+use Rattle.air_source.specs.declared.events.Side.TheVariants.{Ru}
+use Rattle.window_config.specs.Limits.{IsWithinLimits}
+use Rattle.window_config.specs.Rings.{ru_reach_of}
+use Rattle.window_config.specs.Windows.{ticks_of_ns}
+use Rattle.window_config.specs.declared.config.Config.{Config}
+use Rattle.window_config.specs.declared.endpoints.EndpointConfig.{EndpointConfig}
+use Rattle.unit_model.specs.Proper.{IsAt}
+use Rattle.unit_model.specs.Radiated.{first_clock, symbol_report}
+use Rattle.unit_model.specs.Reports.{accepted_of, ru_known}
+use Rattle.unit_model.specs.Standing.{IsOwed, due, nothing_yet, still_reported}
+use Rattle.unit_model.specs.Starts.{start_at}
+use Rattle.unit_model.specs.Sweeps.{sweep}
+use Rattle.unit_model.specs.Uplink.{jobs, symbol_jobs}
+use Rattle.unit_model.specs.declared.cells.Cell.{Cell}
+use Rattle.unit_model.specs.declared.jobs.UplinkJob.{UplinkJob}
+use Rattle.unit_model.specs.declared.symbol_start.SymbolStart.{SymbolStart}
+use Rattle.unit_laws.specs.Far.{IsFar}
+use Rattle.unit_laws.proofs.AheadLemmas.{no_jobs_ahead, no_reports_ahead}
+use Rattle.unit_laws.proofs.DueLemmas.{unheard}
+use Rattle.unit_laws.proofs.SweepLemmas.{tick-nothing}
 use Rattle.history_laws.proofs.TickLemmas.{same_most}
-use Rattle.ru_reports.specs.unit_cells.specs.Cells.{cells_reported}
+use Rattle.unit_cells.specs.Cells.{cells_reported}
 use Rattle.ru_jobs.specs.Cursors.{left_behind, left_jobs}
 use Rattle.ru_jobs.specs.declared.cursor.JobCursor.{JobCursor}
 use Rattle.unit_memory.specs.Memory.{Holds}
 use Rattle.unit_memory.specs.declared.memory.UnitMemory.{UnitMemory}
 use Rattle.radio_laws.specs.Units.{RadioKeeps}
 use Rattle.radio_laws.proofs.LookupLemmas.{left_by_definition, left_of}
-use Rattle.history_laws.specs.unit_model.proofs.SweepLaws.{sweep_quiet as sweep-nothing}
+use Rattle.unit_model.proofs.SweepLaws.{sweep_quiet as sweep-nothing}
 use Rattle.fh_time.proofs.Orders.{before_it}
-use Rattle.history_laws.specs.unit_model.proofs.SlotLemmas.{first_time}
+use Rattle.unit_model.proofs.SlotLemmas.{first_time}
 
 -- a time before a slot is live
 before : Config → EndpointConfig → Slot → ℤ

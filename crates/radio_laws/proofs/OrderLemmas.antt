@@ -1,78 +1,30 @@
 -- The order in which symbols are told, and what is left once the first of them was reported.
 use Rattle.std.proofs.Common.{◌≡◌, ℕ, zero, suc, ℤ, ◌+◌, ◌<◌, ◌≤◌, Bool, true, false, not, ◌&&◌, ◌||◌, ◌==◌, List, [], ◌∷◌, refl, sym, ap, ◌∙◌, subst, arith, inl, inr}
-use Rattle.std.specs.Prelude.{int_lt, nat_lt, if◌then◌else◌}
+use Rattle.std.specs.Prelude.{if◌then◌else◌}
 use Rattle.std.specs.List.{list_any}
-use Rattle.std.specs.Ordering.{int_eq}
 use Rattle.std.proofs.lemmas.Bool.{cases_Bool, eq-eqb, both_ways}
-use Rattle.std.proofs.lemmas.Bool.Decides.{nat_tests}
-use Rattle.std.proofs.lemmas.Int.{ints}
-use Rattle.history_laws.specs.unit_model.specs.Claims.{cell_at}
-use Rattle.history_laws.specs.unit_model.specs.Proper.{IsAt}
+use Rattle.unit_model.specs.Claims.{cell_at}
+use Rattle.unit_model.specs.Proper.{IsAt}
 use Rattle.fh_time.specs.declared.values.Slot.{Slot}
-use Rattle.history_laws.specs.air_source.specs.declared.events.AirCell.{AirCell}
-use Rattle.history_laws.specs.air_source.specs.declared.events.Side.TheVariants.{Ru}
-use Rattle.history_laws.specs.window_config.specs.declared.endpoints.EndpointConfig.{EndpointConfig}
-use Rattle.history_laws.specs.unit_model.specs.Claims.{same_slot}
-use Rattle.history_laws.specs.unit_model.specs.Lists.{some}
-use Rattle.history_laws.specs.unit_model.specs.Order.{comes_before, slot_before, symbol_before}
-use Rattle.history_laws.specs.unit_model.specs.Radiated.{air_cell, used_mask}
-use Rattle.history_laws.specs.unit_model.specs.declared.cells.Cell.{Cell}
-use Rattle.history_laws.specs.unit_model.specs.declared.symbol_start.SymbolStart.{SymbolStart}
-use Rattle.history_laws.specs.unit_laws.proofs.FarLemmas.{endpoints_equal}
+use Rattle.air_source.specs.declared.events.AirCell.{AirCell}
+use Rattle.air_source.specs.declared.events.Side.TheVariants.{Ru}
+use Rattle.window_config.specs.declared.endpoints.EndpointConfig.{EndpointConfig}
+use Rattle.unit_model.specs.Lists.{some}
+use Rattle.unit_model.specs.Order.{comes_before}
+use Rattle.unit_model.specs.Radiated.{air_cell, used_mask}
+use Rattle.unit_model.specs.declared.cells.Cell.{Cell}
+use Rattle.unit_model.specs.declared.symbol_start.SymbolStart.{SymbolStart}
+use Rattle.unit_laws.proofs.FarLemmas.{endpoints_equal}
 use Rattle.history_laws.proofs.UnitLemmas.{small_is}
-use Rattle.history_laws.proofs.BeforeLemmas.{slot_cases}
-use Rattle.ru_reports.specs.slot_rings.specs.Places.{is_due}
-use Rattle.ru_reports.specs.unit_cells.specs.Cells.{CellsValue, cells_block, cells_claim, cells_reported, endpoints_of}
+use Rattle.history_laws.proofs.BeforeLemmas.{IsSamePlace, same_place}
+use Rattle.slot_rings.specs.Places.{is_due}
+use Rattle.unit_cells.specs.Cells.{CellsValue, cells_block, cells_claim, cells_reported, endpoints_of}
 use Rattle.ru_reports.specs.Symbols.{ReportsTold, cell_in, is_left, is_told, left_at, left_told}
-use Rattle.ru_reports.specs.symbol_search.specs.Symbols.{IsSymbol}
+use Rattle.symbol_search.specs.Symbols.{IsSymbol}
 use Rattle.ru_reports.proofs.AfterLemmas.{left_after, any_each as any_in_each}
 use Rattle.ru_reports.proofs.ReportedLemmas.{symbol_cell}
 use Rattle.radio_laws.specs.Reporting.{IsFirstLeft, IsLeftAfter}
-use Rattle.history_laws.specs.unit_model.proofs.ClaimLemmas.{same_slot_is as slots_equal, slot_self as slot_own}
-use Rattle.history_laws.specs.unit_laws.proofs.ReportLemmas.{used_same}
-
--- ---- three cases
-
-symbol_cases : (a b : Slot) (x y : ℕ) → symbol_before a x b y ≡ false → symbol_before b y a x ≡ false → (same_slot a b ≡ true) × (x ≡ y)
-symbol_cases a b x y h k =
-    let same = slot_cases a b (first_of_two (slot_before a b) _ h) (first_of_two (slot_before b a) _ k) in
-    let back = slot_cases b a (first_of_two (slot_before b a) _ k) (first_of_two (slot_before a b) _ h) in
-    (same, no_other x y (second_of_two (slot_before a b) (same_slot a b) (nat_lt x y) h same) (second_of_two (slot_before b a) (same_slot b a) (nat_lt y x) k back))
-  where
-    first_of_two : (p q : Bool) → (p || q) ≡ false → p ≡ false
-    first_of_two false q e = refl
-    first_of_two true q e = e
-
-    second_of_two : (p q r : Bool) → (p || (q && r)) ≡ false → q ≡ true → r ≡ false
-    second_of_two false true r e f = e
-    second_of_two false false r e f = cc
-    second_of_two true q r e f = cc
-
-    no_other : (m n : ℕ) → nat_lt m n ≡ false → nat_lt n m ≡ false → m ≡ n
-    no_other m n e f = grind (arith, nat_tests)
-
--- two symbols of which neither comes before the other
-pub record IsSamePlace (a b : SymbolStart) : Type 0 where
-  pub ep : a.ep ≡ b.ep
-  pub slot_is : a.slot ≡ b.slot
-  pub symbol : a.symbol ≡ b.symbol
-
-start_cases : (s t : ℤ) (p q : Bool) → (int_lt s t || (int_eq s t && p)) ≡ false → (int_lt t s || (int_eq t s && q)) ≡ false → (p ≡ false) × (q ≡ false)
-start_cases s t true q h k = grind (arith, ints)
-start_cases s t false true h k = grind (arith, ints)
-start_cases s t false false h k = (refl, refl)
-
-ep_cases : (i j : ℕ) (p q : Bool) → (nat_lt i j || ((i == j) && p)) ≡ false → (nat_lt j i || ((j == i) && q)) ≡ false → (i ≡ j) × ((p ≡ false) × (q ≡ false))
-ep_cases i j true q h k = grind (arith, nat_tests)
-ep_cases i j false true h k = grind (arith, nat_tests)
-ep_cases i j false false h k = (grind (arith, nat_tests), (refl, refl))
-
-pub same_place : (a b : SymbolStart) → comes_before a b ≡ false → comes_before b a ≡ false → IsSamePlace a b
-same_place a b h k =
-    let one = start_cases a.start.0 b.start.0 _ _ h k in
-    let two = ep_cases a.ep b.ep _ _ one.0 one.1 in
-    let three = symbol_cases a.slot b.slot a.symbol b.symbol two.1.0 two.1.1 in
-    record { ep = two.0; slot_is = slots_equal a.slot b.slot three.0; symbol = three.1 }
+use Rattle.unit_laws.proofs.ReportLemmas.{used_same}
 
 -- ---- what is left
 
@@ -131,9 +83,6 @@ module _ (m : SymbolStart) (told : List AirCell) (old new : CellsValue) (reports
       )
 
 -- nothing is left of a symbol that was reported
-own_told : (m : SymbolStart) (told : List AirCell) (prb : ℕ) → list_any (λ a. a.prb == prb) told ≡ true → is_told m told (cell_in m prb) ≡ true
-own_told m told prb h = rw (eq-eqb m.ep m.ep refl) (rw (slot_own m.slot) (rw (eq-eqb m.symbol m.symbol refl) h))
-
 one_told : (none reported_so : Bool) (a : AirCell) (prb : ℕ) → none ≡ false → reported_so ≡ false → a.prb ≡ prb
     → list_any (λ x. x.prb == prb) (if reported_so then [] else (if none then [] else a ∷ [])) ≡ true
 one_told true reported_so a prb h k e = absurd cc

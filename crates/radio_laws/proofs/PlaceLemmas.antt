@@ -5,27 +5,27 @@ use Rattle.std.proofs.lemmas.Int.{ints}
 use Rattle.fh_time.specs.Kinds.{kind_start}
 use Rattle.fh_time.proofs.Euclid.{frame_floor}
 use Rattle.fault_counters.specs.declared.kinds.Counter.{Counter}
-use Rattle.history_laws.specs.air_source.specs.declared.events.Side.TheVariants.{Ru}
-use Rattle.history_laws.specs.window_config.specs.Rings.{ru_reach_of}
-use Rattle.history_laws.specs.window_config.specs.declared.config.Config.{Config}
-use Rattle.history_laws.specs.unit_model.specs.Meetings.{Arrival}
-use Rattle.history_laws.specs.unit_model.specs.Proper.{IsTime}
-use Rattle.history_laws.specs.unit_model.specs.Radiated.{first_clock}
-use Rattle.history_laws.specs.unit_model.specs.Sweeps.{first_swept, frame_of_tick}
-use Rattle.history_laws.specs.unit_model.specs.declared.symbol_start.SymbolStart.{SymbolStart}
-use Rattle.ru_reports.specs.unit_cells.specs.Cells.{cells_has, cells_uplink, endpoints_of, ring_of}
-use Rattle.ru_reports.specs.unit_cells.proofs.KeepLemmas.{at_config}
-use Rattle.ru_reports.specs.unit_cells.proofs.TimeLemmas.{no_uplink_from}
+use Rattle.air_source.specs.declared.events.Side.TheVariants.{Ru}
+use Rattle.window_config.specs.Rings.{ru_reach_of}
+use Rattle.window_config.specs.declared.config.Config.{Config}
+use Rattle.unit_model.specs.Meetings.{Arrival}
+use Rattle.unit_model.specs.Proper.{IsTime}
+use Rattle.unit_model.specs.Radiated.{first_clock}
+use Rattle.unit_model.specs.Sweeps.{first_swept, frame_of_tick}
+use Rattle.unit_model.specs.declared.symbol_start.SymbolStart.{SymbolStart}
+use Rattle.unit_cells.specs.Cells.{cells_has, cells_uplink, endpoints_of, ring_of}
+use Rattle.unit_cells.proofs.KeepLemmas.{at_config}
+use Rattle.unit_cells.proofs.TimeLemmas.{no_uplink_from}
 use Rattle.history_laws.specs.First.{IsSweptIn, told_of}
 use Rattle.ru_jobs.specs.Cursors.{jobs_left}
-use Rattle.ru_reports.specs.symbol_search.specs.Symbols.{IsSymbol}
+use Rattle.symbol_search.specs.Symbols.{IsSymbol}
 use Rattle.ru_jobs.specs.declared.cursor.JobCursor.{JobCursor}
 use Rattle.unit_memory.specs.Memory.{Holds}
 use Rattle.unit_memory.specs.declared.memory.UnitMemory.{UnitMemory}
 use Rattle.radio_laws.proofs.LeftLemmas.{left_of_none}
 use Rattle.radio_laws.proofs.SlotLemmas.{frame_least}
 use Rattle.fh_time.specs.declared.frames.TheConstants.{FRAME}
-use Rattle.history_laws.specs.unit_laws.proofs.EndLemmas.{reach_small}
+use Rattle.unit_laws.proofs.EndLemmas.{reach_small}
 use Rattle.fh_time.specs.declared.nanoseconds.TheConstants.{NANOSECOND}
 use Rattle.fh_time.specs.declared.symbols.TheConstants.{SUBFRAME}
 

@@ -1,11 +1,11 @@
 -- What is quiet up to a time is quiet up to each earlier one.
 use Rattle.std.proofs.Common.{◌≡◌, ℤ, pos, ◌+ℤ◌, ◌≤ℤ◌, List, [], sym, ◌∙◌}
 use Rattle.std.proofs.lemmas.Int.{by_lt_z}
-use Rattle.history_laws.specs.unit_model.specs.Radiated.{first_clock}
-use Rattle.history_laws.specs.unit_model.specs.Sweeps.{OfSymbol, sweep}
-use Rattle.history_laws.specs.unit_laws.proofs.SweepLemmas.{sweep-append, sweep-none}
-use Rattle.ru_reports.specs.unit_cells.specs.Cells.{CellsValue}
-use Rattle.history_laws.specs.window_config.specs.declared.endpoints.EndpointConfig.{EndpointConfig}
+use Rattle.unit_model.specs.Radiated.{first_clock}
+use Rattle.unit_model.specs.Sweeps.{OfSymbol, sweep}
+use Rattle.unit_laws.proofs.SweepLemmas.{sweep-append, sweep-none}
+use Rattle.unit_cells.specs.Cells.{CellsValue}
+use Rattle.window_config.specs.declared.endpoints.EndpointConfig.{EndpointConfig}
 use Rattle.history_laws.proofs.ListLemmas.{front_empty}
 use Rattle.ru_jobs.specs.declared.cursor.JobCursor.{JobCursor}
 use Rattle.radio_laws.specs.Units.{left_up_to}

@@ -4,27 +4,27 @@ use Rattle.std.specs.Prelude.{int_lt}
 use Rattle.std.proofs.lemmas.Int.{ints, by_lt_z}
 use Rattle.std.specs.Int.Signed.{<ℤ-≤ℤ_trans, ≤ℤ_refl}
 use Rattle.std.proofs.lemmas.Bool.{both_ways, or_parts}
-use Rattle.history_laws.specs.air_source.specs.declared.events.AirCell.{AirCell}
-use Rattle.history_laws.specs.air_source.specs.declared.events.Side.TheVariants.{Ru}
-use Rattle.history_laws.specs.window_config.specs.declared.config.Config.{Config}
-use Rattle.history_laws.specs.unit_model.specs.Order.{comes_before}
-use Rattle.history_laws.specs.unit_model.specs.Reports.{ru_known}
-use Rattle.history_laws.specs.unit_model.specs.Standing.{History, still_reported}
-use Rattle.history_laws.specs.unit_model.specs.Sweeps.{OfSymbol, sweep}
-use Rattle.history_laws.specs.unit_model.specs.declared.symbol_start.SymbolStart.{SymbolStart}
-use Rattle.history_laws.specs.unit_laws.specs.Runs.{OffsetsFit}
-use Rattle.history_laws.specs.unit_laws.specs.Swept.{IsSwept}
-use Rattle.history_laws.specs.unit_laws.proofs.DueLemmas.{due_begins, due_in_pieces}
-use Rattle.history_laws.specs.unit_laws.proofs.FrameLemmas.{symbols_are_swept}
-use Rattle.history_laws.specs.unit_laws.proofs.TickLemmas.{due_after_now}
-use Rattle.ru_reports.specs.unit_cells.proofs.KeepLemmas.{at_config}
+use Rattle.air_source.specs.declared.events.AirCell.{AirCell}
+use Rattle.air_source.specs.declared.events.Side.TheVariants.{Ru}
+use Rattle.window_config.specs.declared.config.Config.{Config}
+use Rattle.unit_model.specs.Order.{comes_before}
+use Rattle.unit_model.specs.Reports.{ru_known}
+use Rattle.unit_model.specs.Standing.{History, still_reported}
+use Rattle.unit_model.specs.Sweeps.{OfSymbol, sweep}
+use Rattle.unit_model.specs.declared.symbol_start.SymbolStart.{SymbolStart}
+use Rattle.unit_laws.specs.Runs.{OffsetsFit}
+use Rattle.unit_laws.specs.Swept.{IsSwept}
+use Rattle.unit_laws.proofs.DueLemmas.{due_begins, due_in_pieces}
+use Rattle.unit_laws.proofs.FrameLemmas.{symbols_are_swept}
+use Rattle.unit_laws.proofs.TickLemmas.{due_after_now}
+use Rattle.unit_cells.proofs.KeepLemmas.{at_config}
 use Rattle.history_laws.specs.First.{FirstIsFirst, IsSweptIn, NothingIsNothing, told_of}
 use Rattle.history_laws.proofs.TickLemmas.{next_after}
 use Rattle.history_laws.proofs.ListLemmas.{front_empty}
 use Rattle.ru_jobs.specs.declared.cursor.JobCursor.{JobCursor}
 use Rattle.unit_memory.specs.declared.memory.UnitMemory.{UnitMemory}
 use Rattle.ru_reports.specs.Symbols.{is_left, left_at}
-use Rattle.ru_reports.specs.symbol_search.specs.Symbols.{IsSymbol}
+use Rattle.symbol_search.specs.Symbols.{IsSymbol}
 use Rattle.radio_laws.specs.Reporting.{DueBegins, DueGoesOn, FirstIsDue, IsFirstLeft, IsLeftAfter, NothingBeforeFirst, NothingIsDue, SomethingAtFirst, due_of}
 use Rattle.radio_laws.specs.Units.{RadioKeeps}
 use Rattle.radio_laws.proofs.SymbolLemmas.{clock_first, looked_up, none_is_left, quiet}

@@ -1,61 +1,59 @@
 -- What a radio unit keeps once the first of what is left of a symbol was heard.
-use Rattle.std.proofs.Common.{◌≡◌, ℕ, ℤ, pos, ◌+◌, ◌-◌, ◌<◌, ◌+ℤ◌, ◌<ℤ◌, Bool, true, false, ◌&&◌, ◌||◌, List, [], ◌∷◌, ◌++◌, inl, inr, refl, sym, ap, ap₂, ◌∙◌, subst, arith}
-use Rattle.std.specs.Prelude.{All, ◌==◌, ◌^◌, min, if◌then◌else◌, filter}
+use Rattle.std.proofs.Common.{◌≡◌, ℕ, ℤ, pos, ◌+◌, ◌<◌, ◌+ℤ◌, ◌<ℤ◌, Bool, true, false, ◌&&◌, ◌||◌, List, [], ◌∷◌, ◌++◌, inl, inr, refl, sym, ap, ap₂, ◌∙◌, subst}
+use Rattle.std.specs.Prelude.{All, ◌==◌, if◌then◌else◌, filter}
 use Rattle.std.specs.List.{list_any}
 use Rattle.std.proofs.lemmas.Bool.{and_from, and_parts, eq-eqb, eqb-true, both_ways}
-use Rattle.std.proofs.lemmas.List.{map-append}
 use Rattle.std.proofs.lemmas.List.Elements.{All-nil, All-append, All-cons, All-head, All-tail, All-weaker}
 use Rattle.std.proofs.lemmas.List.Folds.{list_any-append}
 use Rattle.std.specs.Cmp.{both_ways as same_truth}
 use Rattle.fh_time.specs.declared.values.Slot.{Slot}
-use Rattle.history_laws.specs.air_source.specs.declared.events.AirCell.{AirCell}
-use Rattle.history_laws.specs.air_source.specs.declared.events.Side.{Side}
-use Rattle.history_laws.specs.air_source.specs.declared.events.Side.TheVariants.{Ru}
-use Rattle.history_laws.specs.eaxc_map.specs.Endpoints.{AppearOnce}
-use Rattle.history_laws.specs.ecpri_fragments.specs.Assemblies.{StandsFor, endpoints_of as places_of, hold_of as assembly_hold}
-use Rattle.history_laws.specs.ecpri_fragments.specs.declared.assembly.Assembly.{Assembly}
-use Rattle.fault_counters.specs.Counts.{capped, times}
-use Rattle.fault_counters.specs.declared.kinds.Counter.{Counter}
-use Rattle.history_laws.specs.window_config.specs.Endpoints.{ids_of}
-use Rattle.history_laws.specs.window_config.specs.declared.config.Config.{Config}
-use Rattle.history_laws.specs.window_config.specs.declared.endpoints.EndpointConfig.{EndpointConfig}
-use Rattle.history_laws.specs.unit_model.specs.Claims.{same_slot, same_way}
-use Rattle.history_laws.specs.unit_model.specs.Counts.{StandAt, block_counter, cells_counted}
-use Rattle.history_laws.specs.unit_model.specs.Meetings.{fragments}
-use Rattle.history_laws.specs.unit_model.specs.Proper.{IsAt}
-use Rattle.history_laws.specs.unit_model.specs.Radiated.{air_cell, first_clock, used_mask}
-use Rattle.history_laws.specs.unit_model.specs.Reports.{accepted_of, arrivals_counted, met, ru_known, timely_of}
-use Rattle.history_laws.specs.unit_model.specs.Standing.{AreDifferent, History, IsCell, IsLiveAt, IsOwed, cell_heard, heard}
-use Rattle.history_laws.specs.unit_model.specs.Starts.{start_at}
-use Rattle.history_laws.specs.unit_model.specs.Uplink.{symbol_jobs}
-use Rattle.history_laws.specs.unit_model.specs.declared.allocations.Allocation.{Allocation}
-use Rattle.history_laws.specs.unit_model.specs.declared.cells.Cell.{Cell}
-use Rattle.history_laws.specs.unit_model.specs.declared.symbol_start.SymbolStart.{SymbolStart}
-use Rattle.history_laws.specs.unit_model.specs.Sweeps.{sweep}
-use Rattle.history_laws.specs.unit_model.proofs.CountLemmas.{times-append}
-use Rattle.history_laws.specs.unit_laws.specs.Ticks.{IsLiveSlot}
-use Rattle.history_laws.specs.unit_laws.proofs.DifferLemmas.{all_kept}
-use Rattle.history_laws.specs.unit_laws.proofs.DueLemmas.{due_left, heard_differ, unheard, all_front as front}
-use Rattle.history_laws.specs.unit_laws.proofs.FarLemmas.{endpoints_equal}
-use Rattle.history_laws.specs.unit_laws.proofs.SweepLemmas.{each_related, sweep-same}
+use Rattle.air_source.specs.declared.events.AirCell.{AirCell}
+use Rattle.air_source.specs.declared.events.Side.{Side}
+use Rattle.air_source.specs.declared.events.Side.TheVariants.{Ru}
+use Rattle.eaxc_map.specs.Endpoints.{AppearOnce}
+use Rattle.ecpri_fragments.specs.Assemblies.{StandsFor, endpoints_of as places_of, hold_of as assembly_hold}
+use Rattle.ecpri_fragments.specs.declared.assembly.Assembly.{Assembly}
+use Rattle.fault_counters.specs.Counts.{times}
+use Rattle.window_config.specs.Endpoints.{ids_of}
+use Rattle.window_config.specs.declared.config.Config.{Config}
+use Rattle.window_config.specs.declared.endpoints.EndpointConfig.{EndpointConfig}
+use Rattle.unit_model.specs.Claims.{same_slot, same_way}
+use Rattle.unit_model.specs.Counts.{cells_counted}
+use Rattle.unit_model.specs.Meetings.{fragments}
+use Rattle.unit_model.specs.Proper.{IsAt}
+use Rattle.unit_model.specs.Radiated.{air_cell, first_clock, used_mask}
+use Rattle.unit_model.specs.Reports.{accepted_of, arrivals_counted, met, ru_known, timely_of}
+use Rattle.unit_model.specs.Standing.{AreDifferent, History, IsCell, IsLiveAt, IsOwed, cell_heard, heard}
+use Rattle.unit_model.specs.Starts.{start_at}
+use Rattle.unit_model.specs.Uplink.{symbol_jobs}
+use Rattle.unit_model.specs.declared.allocations.Allocation.{Allocation}
+use Rattle.unit_model.specs.declared.cells.Cell.{Cell}
+use Rattle.unit_model.specs.declared.symbol_start.SymbolStart.{SymbolStart}
+use Rattle.unit_model.specs.Sweeps.{sweep}
+use Rattle.unit_laws.specs.Ticks.{IsLiveSlot}
+use Rattle.unit_laws.proofs.DifferLemmas.{all_kept}
+use Rattle.unit_laws.proofs.DueLemmas.{due_left, heard_differ, unheard, all_front as front}
+use Rattle.unit_laws.proofs.FarLemmas.{endpoints_equal}
+use Rattle.unit_laws.proofs.SweepLemmas.{each_related, sweep-same}
 use Rattle.history_laws.proofs.UnitLemmas.{same_ids, small_is}
 use Rattle.history_laws.proofs.ListLemmas.{one_of_two}
-use Rattle.ru_reports.specs.unit_cells.specs.Cells.{CellsValue, IsCellIn, cells_block, cells_claim, cells_reported, cells_uplink, endpoints_of}
-use Rattle.ru_reports.specs.unit_cells.proofs.KeepLemmas.{at_config, at_rings, of_still}
+use Rattle.unit_cells.specs.Cells.{CellsValue, IsCellIn, cells_block, cells_claim, cells_reported, cells_uplink, endpoints_of}
+use Rattle.unit_cells.proofs.KeepLemmas.{at_config, at_rings, of_still}
 use Rattle.ru_jobs.specs.Cursors.{jobs_left, left_jobs}
 use Rattle.ru_jobs.specs.declared.cursor.JobCursor.{JobCursor}
 use Rattle.unit_memory.specs.Memory.{Holds}
 use Rattle.unit_memory.specs.declared.memory.UnitMemory.{UnitMemory}
-use Rattle.ru_reports.specs.Symbols.{CountsTold, cell_in, is_told, left_at, left_told}
-use Rattle.ru_reports.specs.symbol_search.specs.Symbols.{IsSymbol}
+use Rattle.ru_reports.proofs.CountLemmas.{stand_told}
+use Rattle.ru_reports.specs.Symbols.{cell_in, is_told, left_at, left_told}
+use Rattle.symbol_search.specs.Symbols.{IsSymbol}
 use Rattle.radio_laws.specs.Reporting.{HasReported, KeepsReported, due_of}
 use Rattle.radio_laws.specs.Units.{RadioKeeps, left_up_to}
 use Rattle.radio_laws.proofs.SymbolLemmas.{cell_is, claims_are, live_lookup, live_or_ahead, since_clock}
-use Rattle.ru_reports.specs.unit_cells.proofs.TimeLemmas.{far_no_place}
-use Rattle.history_laws.specs.unit_model.proofs.ClaimLemmas.{same_slot_is as slots_equal, slot_self as slot_own}
-use Rattle.history_laws.specs.unit_laws.proofs.ReportLemmas.{used_same}
+use Rattle.unit_cells.proofs.TimeLemmas.{far_no_place}
+use Rattle.unit_model.proofs.ClaimLemmas.{same_slot_is as slots_equal, slot_self as slot_own}
+use Rattle.unit_laws.proofs.ReportLemmas.{used_same}
 use Rattle.fh_time.proofs.Orders.{weak, not_zero as some_used, at_most}
-use Rattle.history_laws.specs.air_source.specs.Units.{is_down}
+use Rattle.air_source.specs.Units.{is_down}
 
 -- ---- tests
 
@@ -162,30 +160,6 @@ module _ (es : List EndpointConfig) (s : SymbolStart) (once : AppearOnce (ids_of
       let three = and_parts (a.symbol == cell.symbol) (a.prb == cell.prb) two.1 in
       same_fields a.prb (sym (same_ids es s.ep cell.ep s.endpoint e once at there (sym is.id ∙ eqb-true a.id e.id one.0))) down
       (sym (slots_equal a.slot cell.slot two.0) ∙ is.slot_is) (sym (eqb-true a.symbol cell.symbol three.0) ∙ is.symbol_is) (sym (eqb-true a.prb cell.prb three.1))
-
--- ---- counts
-
-capped_more : (a b most : ℕ) → min (min a most + b) most ≡ min (a + b) most
-capped_more a b most = omega arith
-
-capped_small : (n : ℕ) → capped n < 2 ^ 64
-capped_small n = omega arith
-
-pub counts_more : (old new : List ℕ) (before : List Counter) (reported told : List AirCell) → StandAt old (before ++ cells_counted reported) → CountsTold told old new
-    → StandAt new (before ++ cells_counted (reported ++ told))
-counts_more old new before reported told stand more k =
-    let n = times (before ++ cells_counted reported) k in
-    let t = times (cells_counted told) k in
-    let joined : times (before ++ cells_counted (reported ++ told)) k ≡ n + t =
-    times-append before (cells_counted (reported ++ told)) k
-    ∙ ap (λ (x : ℕ). times before k + x)
-    (ap (λ (xs : List Counter). times xs k) (map-append (λ c. block_counter c.block) reported told) ∙ times-append (cells_counted reported) (cells_counted told) k)
-    ∙ add_assoc (times before k) (times (cells_counted reported) k) t
-    ∙ ap (λ (x : ℕ). x + t) (sym (times-append before (cells_counted reported) k)) in
-    more k (subst (λ (x : ℕ). x < 2 ^ 64) (sym (stand k)) (capped_small n)) ∙ ap (λ (x : ℕ). capped (x + t)) (stand k) ∙ capped_more n t (2 ^ 64 - 1) ∙ ap capped (sym joined)
-  where
-    add_assoc : (a b c : ℕ) → a + (b + c) ≡ (a + b) + c
-    add_assoc a b c = omega arith
 
 -- ---- messages
 
@@ -297,7 +271,7 @@ module _ (c : Config) (old new : UnitMemory) (clock : ℤ) (cursor : JobCursor) 
     fragments = subst (λ (x : Assembly). StandsFor x (fragments (met Ru c h.arrivals))) (sym was_reported.assembly) keeps.holds.fragments;
     places = ap (λ (x : Assembly). places_of x) was_reported.assembly ∙ keeps.holds.places;
     hold = ap (λ (x : Assembly). assembly_hold x) was_reported.assembly ∙ keeps.holds.hold;
-    counts = counts_more old.counters new.counters (arrivals_counted Ru c h.arrivals) h.reported told keeps.holds.counts was_reported.counts;
+    counts = stand_told old.counters new.counters (arrivals_counted Ru c h.arrivals) h.reported told keeps.holds.counts was_reported.counts;
     keeps = was_reported.reports.keeps Ru c cursor.since.0 (accepted_of c h.arrivals) (timely_of Ru c h.arrivals) keeps.holds.keeps;
   }
 

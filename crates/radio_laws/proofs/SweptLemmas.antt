@@ -4,28 +4,28 @@ use Rattle.std.proofs.lemmas.Int.{ints, by_lt_z}
 use Rattle.std.specs.Int.Signed.{<ℤ-≤ℤ_trans}
 use Rattle.fh_time.specs.Air.{air_of}
 use Rattle.fh_time.specs.declared.values.Slot.{Slot}
-use Rattle.history_laws.specs.window_config.specs.declared.endpoints.EndpointConfig.{EndpointConfig}
-use Rattle.history_laws.specs.unit_model.specs.Radiated.{first_clock}
-use Rattle.history_laws.specs.unit_model.specs.Sweeps.{OfSymbol, sweep}
-use Rattle.history_laws.specs.unit_model.specs.declared.jobs.UplinkJob.{UplinkJob}
-use Rattle.history_laws.specs.unit_model.specs.declared.symbol_start.SymbolStart.{SymbolStart}
-use Rattle.history_laws.specs.unit_laws.specs.Runs.{OffsetsFit}
-use Rattle.history_laws.specs.unit_laws.specs.Swept.{IsSwept}
-use Rattle.history_laws.specs.unit_laws.proofs.FrameLemmas.{symbols_are_swept}
-use Rattle.history_laws.specs.unit_laws.proofs.SweepLemmas.{sweep-append, sweep-same, tick-nothing}
-use Rattle.ru_reports.specs.unit_cells.specs.Cells.{CellsValue, cells_uplink, endpoints_of}
-use Rattle.ru_reports.specs.unit_cells.proofs.ApartLemmas.{is_slot_of}
+use Rattle.window_config.specs.declared.endpoints.EndpointConfig.{EndpointConfig}
+use Rattle.unit_model.specs.Radiated.{first_clock}
+use Rattle.unit_model.specs.Sweeps.{OfSymbol, sweep}
+use Rattle.unit_model.specs.declared.jobs.UplinkJob.{UplinkJob}
+use Rattle.unit_model.specs.declared.symbol_start.SymbolStart.{SymbolStart}
+use Rattle.unit_laws.specs.Runs.{OffsetsFit}
+use Rattle.unit_laws.specs.Swept.{IsSwept}
+use Rattle.unit_laws.proofs.FrameLemmas.{symbols_are_swept}
+use Rattle.unit_laws.proofs.SweepLemmas.{sweep-append, sweep-same, tick-nothing}
+use Rattle.unit_cells.specs.Cells.{CellsValue, cells_uplink, endpoints_of}
+use Rattle.unit_cells.proofs.ApartLemmas.{is_slot_of}
 use Rattle.history_laws.specs.First.{FirstIsFirst, IsQuietBefore, IsSweptIn, told_of}
 use Rattle.ru_jobs.specs.Cursors.{GivenOne, IsFirstJob, Settled, jobs_left}
-use Rattle.ru_reports.specs.symbol_search.specs.Symbols.{IsSymbol}
+use Rattle.symbol_search.specs.Symbols.{IsSymbol}
 use Rattle.history_laws.proofs.TickLemmas.{next_of_last, later_then, same_then}
 use Rattle.ru_jobs.specs.declared.cursor.JobCursor.{JobCursor}
 use Rattle.ru_jobs.specs.declared.cursor.NextJob.{NextJob}
 use Rattle.radio_laws.specs.Units.{left_up_to}
 use Rattle.radio_laws.proofs.LeftLemmas.{left_since, start_before, start_behind}
-use Rattle.history_laws.specs.unit_model.proofs.SweepLaws.{sweep_quiet as sweep-nothing}
+use Rattle.unit_model.proofs.SweepLaws.{sweep_quiet as sweep-nothing}
 use Rattle.fh_time.proofs.Orders.{weak, within_next}
-use Rattle.history_laws.specs.unit_model.proofs.ClaimLemmas.{start_before as earlier_comes}
+use Rattle.unit_model.proofs.ClaimLemmas.{start_before as earlier_comes}
 use Rattle.radio_laws.proofs.QuietLemmas.{sweep_less}
 
 -- ---- nothing of any symbol

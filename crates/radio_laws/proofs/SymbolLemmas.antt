@@ -1,53 +1,53 @@
 -- What is left of one symbol, by look-up.
-use Rattle.std.proofs.Common.{◌≡◌, ℕ, ℤ, pos, zero, suc, ◌+◌, ◌<◌, ◌≤◌, ◌≤ℤ◌, ◌<ℤ◌, Bool, true, false, not, ◌&&◌, List, [], ◌++◌, ◌⊎◌, inl, inr, refl, sym, ap, ap₂, ◌∙◌, subst, arith}
+use Rattle.std.proofs.Common.{◌≡◌, ℕ, ℤ, pos, zero, suc, ◌+◌, ◌<◌, ◌≤ℤ◌, ◌<ℤ◌, Bool, true, false, not, ◌&&◌, List, [], ◌⊎◌, inl, inr, refl, sym, ap, ◌∙◌, subst, arith}
 use Rattle.std.specs.Prelude.{All, Option, ◌==◌, ◌^◌, if◌then◌else◌, filter}
 use Rattle.std.specs.List.{list_any}
-use Rattle.std.proofs.lemmas.Bool.{cases_Bool, or_parts}
+use Rattle.std.proofs.lemmas.Bool.{cases_Bool}
 use Rattle.std.proofs.lemmas.List.Elements.{All-weaker}
 use Rattle.fh_time.specs.Air.{air_of}
 use Rattle.fh_time.specs.Numbering.{symbols_of}
 use Rattle.fh_time.specs.declared.values.Slot.{Slot}
-use Rattle.history_laws.specs.air_source.specs.declared.events.AirCell.{AirCell}
-use Rattle.history_laws.specs.air_source.specs.declared.events.Side.TheVariants.{Ru}
-use Rattle.history_laws.specs.window_config.specs.Limits.{IsWithinLimits}
-use Rattle.history_laws.specs.window_config.specs.Rings.{ru_reach_of}
-use Rattle.history_laws.specs.window_config.specs.declared.config.Config.{Config}
-use Rattle.history_laws.specs.window_config.specs.declared.endpoints.EndpointConfig.{EndpointConfig}
-use Rattle.history_laws.specs.unit_model.specs.Blocks.{block_at}
-use Rattle.history_laws.specs.unit_model.specs.Claims.{claim_at}
-use Rattle.history_laws.specs.unit_model.specs.Lists.{each, some}
-use Rattle.history_laws.specs.unit_model.specs.Proper.{IsAt, IsProperData, IsSlot}
-use Rattle.history_laws.specs.unit_model.specs.Radiated.{air_cell, cell_report, first_clock, report_of, symbol_report, used_mask}
-use Rattle.history_laws.specs.unit_model.specs.Reports.{accepted_of, data_of, ru_known, timely_of}
-use Rattle.history_laws.specs.unit_model.specs.Standing.{IsCell, IsLiveAt, cell_heard, still_reported}
-use Rattle.history_laws.specs.unit_model.specs.declared.cells.Block.{Block}
-use Rattle.history_laws.specs.unit_model.specs.declared.cells.Cell.{Cell}
-use Rattle.history_laws.specs.unit_model.specs.declared.cells.Claim.{Claim}
-use Rattle.history_laws.specs.unit_model.specs.declared.symbol_start.SymbolStart.{SymbolStart}
-use Rattle.history_laws.specs.unit_laws.specs.Far.{IsFar}
-use Rattle.history_laws.specs.unit_laws.specs.Swept.{IsSwept}
-use Rattle.history_laws.specs.unit_laws.specs.Ticks.{IsLiveSlot}
-use Rattle.history_laws.specs.unit_laws.proofs.AheadLemmas.{no_reports_ahead}
-use Rattle.history_laws.specs.unit_laws.proofs.DueLemmas.{unheard}
-use Rattle.history_laws.specs.unit_laws.proofs.HistoryLemmas.{data_are_proper}
-use Rattle.history_laws.specs.unit_laws.proofs.LookupLemmas.{reported_by_lookup}
-use Rattle.history_laws.specs.unit_laws.proofs.ReportLemmas.{report_same}
-use Rattle.history_laws.specs.unit_laws.proofs.SweepLemmas.{each_related}
-use Rattle.history_laws.specs.unit_laws.proofs.TickLemmas.{starts_later, still_nothing}
-use Rattle.ru_reports.specs.slot_rings.specs.Places.{is_due}
-use Rattle.ru_reports.specs.unit_cells.specs.Cells.{CellsValue, cells_block, cells_claim, cells_reported, cells_has}
-use Rattle.ru_reports.specs.unit_cells.specs.Told.{IsTold}
-use Rattle.ru_reports.specs.unit_cells.proofs.KeepLemmas.{at_rings}
-use Rattle.ru_reports.specs.unit_cells.proofs.TimeLemmas.{far_no_place, live_at}
-use Rattle.ru_reports.specs.unit_cells.proofs.ToldLemmas.{told_whole}
+use Rattle.air_source.specs.declared.events.AirCell.{AirCell}
+use Rattle.air_source.specs.declared.events.Side.TheVariants.{Ru}
+use Rattle.window_config.specs.Limits.{IsWithinLimits}
+use Rattle.window_config.specs.Rings.{ru_reach_of}
+use Rattle.window_config.specs.declared.config.Config.{Config}
+use Rattle.window_config.specs.declared.endpoints.EndpointConfig.{EndpointConfig}
+use Rattle.unit_model.specs.Blocks.{block_at}
+use Rattle.unit_model.specs.Claims.{claim_at}
+use Rattle.unit_model.specs.Lists.{each, some}
+use Rattle.unit_model.specs.Proper.{IsAt, IsProperData, IsSlot}
+use Rattle.unit_model.specs.Radiated.{air_cell, cell_report, first_clock, report_of, symbol_report, used_mask}
+use Rattle.unit_model.specs.Reports.{accepted_of, data_of, ru_known, timely_of}
+use Rattle.unit_model.specs.Standing.{IsCell, IsLiveAt, cell_heard, still_reported}
+use Rattle.unit_model.specs.declared.cells.Block.{Block}
+use Rattle.unit_model.specs.declared.cells.Cell.{Cell}
+use Rattle.unit_model.specs.declared.cells.Claim.{Claim}
+use Rattle.unit_model.specs.declared.symbol_start.SymbolStart.{SymbolStart}
+use Rattle.unit_laws.specs.Far.{IsFar}
+use Rattle.unit_laws.specs.Swept.{IsSwept}
+use Rattle.unit_laws.specs.Ticks.{IsLiveSlot}
+use Rattle.unit_laws.proofs.AheadLemmas.{no_reports_ahead}
+use Rattle.unit_laws.proofs.DueLemmas.{unheard}
+use Rattle.unit_laws.proofs.HistoryLemmas.{data_are_proper}
+use Rattle.unit_laws.proofs.LookupLemmas.{reported_by_lookup}
+use Rattle.unit_laws.proofs.ReportLemmas.{report_same}
+use Rattle.unit_laws.proofs.SweepLemmas.{each_related}
+use Rattle.unit_laws.proofs.TickLemmas.{starts_later, still_nothing}
+use Rattle.slot_rings.specs.Places.{is_due}
+use Rattle.unit_cells.specs.Cells.{CellsValue, cells_block, cells_claim, cells_reported, cells_has}
+use Rattle.unit_cells.specs.Told.{IsTold}
+use Rattle.unit_cells.proofs.KeepLemmas.{at_rings}
+use Rattle.unit_cells.proofs.TimeLemmas.{far_no_place, live_at}
+use Rattle.unit_cells.proofs.ToldLemmas.{told_whole}
 use Rattle.ru_jobs.specs.declared.cursor.JobCursor.{JobCursor}
 use Rattle.unit_memory.specs.declared.memory.UnitMemory.{UnitMemory}
 use Rattle.ru_reports.specs.Symbols.{cell_in, is_left, left_at, left_told}
-use Rattle.ru_reports.specs.symbol_search.specs.Symbols.{IsSymbol}
-use Rattle.radio_laws.specs.Reporting.{LeftByLookup}
+use Rattle.symbol_search.specs.Symbols.{IsSymbol}
 use Rattle.radio_laws.specs.Units.{RadioKeeps}
-use Rattle.history_laws.specs.unit_model.specs.Standing.{History}
-use Rattle.history_laws.specs.unit_model.proofs.BlockLemmas.{all_timely}
+use Rattle.unit_model.specs.Standing.{History}
+use Rattle.unit_model.proofs.BlockLemmas.{all_timely}
+use Rattle.history_laws.proofs.UnitLemmas.{whole_data}
 use Rattle.history_laws.proofs.ListLemmas.{kept_one, filter_kept, both_nothing, one_unless}
 use Rattle.ru_reports.proofs.LeftLemmas.{nothing_without_place, nothing_left}
 use Rattle.radio_laws.proofs.SlotLemmas.{swept_slot}
@@ -78,29 +78,12 @@ one_cell e cell start claims block heard reported_so down is =
     kept_one (unheard heard) (used_mask claims == 0) reported_so (air_cell Ru e cell start claims block)
     (ap not (reported_by_lookup Ru e cell start claims block heard down ∙ sym is))
 
-nothing_either : (reported_so : Bool) → (let xs : List AirCell = if reported_so then [] else [] in xs) ≡ []
-nothing_either true = refl
-nothing_either false = refl
-
 -- ---- is something left?
-
-spent : (none reported_so : Bool) (a : AirCell) → (not none && not reported_so) ≡ false → (if reported_so then [] else one_unless none a) ≡ []
-spent true true a h = refl
-spent true false a h = refl
-spent false true a h = refl
-spent false false a h = absurd cc
 
 unspent : (none reported_so : Bool) (a : AirCell) → (if reported_so then [] else one_unless none a) ≡ [] → (not none && not reported_so) ≡ false
 unspent true reported_so a h = refl
 unspent false true a h = refl
 unspent false false a h = absurd cc
-
-each_spent : (from n : ℕ) (p : ℕ → Bool) (f : ℕ → List AirCell) → ((k : ℕ) → p k ≡ false → f k ≡ []) → some from n p ≡ false → each from n f ≡ []
-unfolding some each
-each_spent from zero p f none h = refl
-each_spent from (suc n) p f none h =
-    let parts = or_parts (p from) (some (from + 1) n p) h in
-    ap₂ ◌++◌ (none from parts.0) (each_spent (from + 1) n p f none parts.1)
 
 each_unspent : (from n : ℕ) (p : ℕ → Bool) (f : ℕ → List AirCell) → ((k : ℕ) → f k ≡ [] → p k ≡ false) → each from n f ≡ [] → some from n p ≡ false
 unfolding some each
@@ -123,13 +106,10 @@ none_is_left v s none =
 
 -- ---- data that are told whole
 
-whole : (a b : ℕ) → a ≡ b → b ≤ a
-whole a b e = omega arith
-
 pub all_told : (c : Config) (m : UnitMemory) (clock : ℤ) (cursor : JobCursor) (h : History) → RadioKeeps c m clock cursor h → All IsTold (timely_of Ru c h.arrivals)
 all_told c m clock cursor h keeps =
     all_timely IsTold Ru c.delays (data_of Ru c h.arrivals)
-    (All-weaker (IsProperData c.endpoints) IsTold (λ d is. whole _ _ is.blocks) (data_of Ru c h.arrivals)
+    (All-weaker (IsProperData c.endpoints) IsTold (whole_data c.endpoints) (data_of Ru c h.arrivals)
     (data_are_proper Ru c cursor.since.0 h.arrivals keeps.holds.came keeps.holds.times))
 
 -- ---- a symbol of a live slot
@@ -230,6 +210,3 @@ module _ (c : Config) (m : UnitMemory) (clock : ℤ) (cursor : JobCursor) (h : H
         ]
       ]
     ]
-
-pub left_by_lookup : LeftByLookup
-left_by_lookup c m clock cursor h s keeps swept later = looked_up c m clock cursor h keeps s swept later

@@ -1,15 +1,15 @@
 -- How what a radio unit keeps goes on, as its messages are given and as time passes (this project's profile).
 use Rattle.std.specs.Prelude.{◌≡◌, ◌≢◌, ℤ, ◌≤ℤ◌, ◌<ℤ◌, [], ◌∷◌, ◌++◌}
-use Rattle.history_laws.specs.air_source.specs.declared.events.Side.TheVariants.{Ru}
-use Rattle.history_laws.specs.window_config.specs.declared.config.Config.{Config}
-use Rattle.history_laws.specs.unit_model.specs.Proper.{IsTime}
-use Rattle.history_laws.specs.unit_model.specs.Reports.{accepted_of, ru_known}
-use Rattle.history_laws.specs.unit_model.specs.Standing.{History, at_clock, due, handed, still_given}
-use Rattle.history_laws.specs.unit_model.specs.declared.symbol_start.SymbolStart.{SymbolStart}
-use Rattle.history_laws.specs.unit_laws.specs.Runs.{OffsetsFit}
-use Rattle.ru_reports.specs.unit_cells.specs.Cells.{cells_uplink}
+use Rattle.air_source.specs.declared.events.Side.TheVariants.{Ru}
+use Rattle.window_config.specs.declared.config.Config.{Config}
+use Rattle.unit_model.specs.Proper.{IsTime}
+use Rattle.unit_model.specs.Reports.{accepted_of, ru_known}
+use Rattle.unit_model.specs.Standing.{History, at_clock, due, handed, still_given}
+use Rattle.unit_model.specs.declared.symbol_start.SymbolStart.{SymbolStart}
+use Rattle.unit_laws.specs.Runs.{OffsetsFit}
+use Rattle.unit_cells.specs.Cells.{cells_uplink}
 use Rattle.ru_jobs.specs.Cursors.{GivenOne, IsFirstJob, Settled, left_in}
-use Rattle.ru_reports.specs.symbol_search.specs.Symbols.{IsSymbol}
+use Rattle.symbol_search.specs.Symbols.{IsSymbol}
 use Rattle.ru_jobs.specs.declared.cursor.JobCursor.{JobCursor}
 use Rattle.ru_jobs.specs.declared.cursor.NextJob.{NextJob}
 use Rattle.unit_memory.specs.declared.memory.UnitMemory.{UnitMemory}
@@ -66,17 +66,6 @@ SomeFromFirst =
     (c : Config) (m : UnitMemory) (clock : ℤ) (cursor : JobCursor) (n : NextJob) (h : History) (to : ℤ) → RadioKeeps c m clock cursor h
     → OffsetsFit n.symbol.endpoint.numerology → IsFirstJob m.cells cursor n → n.symbol.start.0 ≤ℤ to
     → still_given c (accepted_of c h.arrivals) h.given to ≢ []
-
--- so the clock may go on as far as that symbol, or to any time where nothing is left
-abbrev pub ReadyUpToFirst : Type 0
-ReadyUpToFirst =
-    (c : Config) (m : UnitMemory) (clock : ℤ) (cursor : JobCursor) (n : NextJob) (h : History) (to : ℤ) → RadioKeeps c m clock cursor h
-    → IsFirstJob m.cells cursor n → to ≤ℤ n.symbol.start.0 → IsReady m to cursor
-
-abbrev pub ReadyWhereNone : Type 0
-ReadyWhereNone =
-    (c : Config) (m : UnitMemory) (clock : ℤ) (cursor : JobCursor) (h : History) (to : ℤ) → RadioKeeps c m clock cursor h
-    → NothingIsLeft m cursor → IsReady m to cursor
 
 -- as time passes, and all that is due by then is reported, the same is kept
 abbrev pub KeptLater : Type 0

@@ -1,21 +1,20 @@
 -- What a radio unit is still to report, by what its memory holds: what the definitions tell over all that came is told by look-up of
 -- the symbols that start after the clock (this project's profile).
 use Rattle.std.specs.Prelude.{◌≡◌, ◌≢◌, ℤ, true, false, ◌<ℤ◌, ◌≤ℤ◌, List, [], ◌++◌}
-use Rattle.history_laws.specs.air_source.specs.declared.events.AirCell.{AirCell}
-use Rattle.history_laws.specs.air_source.specs.declared.events.Side.TheVariants.{Ru}
-use Rattle.history_laws.specs.window_config.specs.declared.config.Config.{Config}
-use Rattle.history_laws.specs.unit_model.specs.Order.{comes_before}
-use Rattle.history_laws.specs.unit_model.specs.Reports.{ru_known}
-use Rattle.history_laws.specs.unit_model.specs.Standing.{History, due, heard, still_reported}
-use Rattle.history_laws.specs.unit_model.specs.declared.symbol_start.SymbolStart.{SymbolStart}
-use Rattle.history_laws.specs.unit_laws.specs.Runs.{OffsetsFit}
-use Rattle.history_laws.specs.unit_laws.specs.Swept.{IsSwept}
-use Rattle.ru_reports.specs.unit_cells.specs.Cells.{CellsValue}
+use Rattle.air_source.specs.declared.events.AirCell.{AirCell}
+use Rattle.air_source.specs.declared.events.Side.TheVariants.{Ru}
+use Rattle.window_config.specs.declared.config.Config.{Config}
+use Rattle.unit_model.specs.Order.{comes_before}
+use Rattle.unit_model.specs.Reports.{ru_known}
+use Rattle.unit_model.specs.Standing.{History, due, heard}
+use Rattle.unit_model.specs.declared.symbol_start.SymbolStart.{SymbolStart}
+use Rattle.unit_laws.specs.Runs.{OffsetsFit}
+use Rattle.unit_cells.specs.Cells.{CellsValue}
 use Rattle.history_laws.specs.First.{FirstIsFirst, NothingIsNothing}
 use Rattle.ru_jobs.specs.declared.cursor.JobCursor.{JobCursor}
 use Rattle.unit_memory.specs.declared.memory.UnitMemory.{UnitMemory}
 use Rattle.ru_reports.specs.Symbols.{CountsTold, ReportsTold, is_left, left_at}
-use Rattle.ru_reports.specs.symbol_search.specs.Symbols.{IsSymbol}
+use Rattle.symbol_search.specs.Symbols.{IsSymbol}
 use Rattle.radio_laws.specs.Units.{RadioKeeps}
 
 -- what is due up to a time, over all that came
@@ -43,13 +42,6 @@ pub record IsFoundLeft (v : CellsValue) (clock : ℤ) (s : SymbolStart) : Type 0
 pub record DueBegins (c : Config) (h : History) (to : ℤ) (begin : List AirCell) : Type 0 where
   pub rest : List AirCell
   pub is : due_of c h to ≡ begin ++ rest
-
--- what is still to be reported of a symbol that starts after the clock
-abbrev pub LeftByLookup : Type 0
-LeftByLookup =
-    (c : Config) (m : UnitMemory) (clock : ℤ) (cursor : JobCursor) (h : History) (s : SymbolStart) → RadioKeeps c m clock cursor h
-    → IsSwept c.endpoints s.ep s.endpoint s.slot s.symbol s.start.0 → clock <ℤ s.start.0
-    → still_reported Ru (ru_known c h.arrivals) h.reported s.ep s.endpoint s.slot s.symbol ≡ left_at m.cells s
 
 -- what is left of the first symbol is due first
 abbrev pub FirstIsDue : Type 0

@@ -2,20 +2,20 @@
 -- project's profile).
 use Rattle.std.specs.Prelude.{◌≡◌, ℤ, pos, ◌<◌, ◌+ℤ◌, ◌-ℤ◌, ◌≤ℤ◌, true, All, List, [], ◌++◌, Some}
 use Rattle.std.specs.List.{list_any}
-use Rattle.history_laws.specs.air_source.specs.declared.events.Side.TheVariants.{Ru}
-use Rattle.history_laws.specs.window_config.specs.declared.config.Config.{Config}
-use Rattle.history_laws.specs.window_config.specs.declared.endpoints.EndpointConfig.{EndpointConfig}
-use Rattle.history_laws.specs.unit_model.specs.Counts.{cells_counted}
-use Rattle.history_laws.specs.unit_model.specs.Proper.{IsTime}
-use Rattle.history_laws.specs.unit_model.specs.Radiated.{first_clock, used_mask}
-use Rattle.history_laws.specs.unit_model.specs.Reports.{accepted_of, ru_known}
-use Rattle.history_laws.specs.unit_model.specs.Standing.{AreDifferent, History, IsCell, IsLiveAt, IsOwed, StandsBy, View, cell_heard, due, still_given}
-use Rattle.history_laws.specs.unit_model.specs.Sweeps.{sweep}
-use Rattle.history_laws.specs.unit_model.specs.Uplink.{jobs}
-use Rattle.history_laws.specs.unit_model.specs.declared.cells.Cell.{Cell}
-use Rattle.history_laws.specs.unit_model.specs.declared.jobs.UplinkJob.{UplinkJob}
-use Rattle.history_laws.specs.unit_model.specs.declared.symbol_start.SymbolStart.{SymbolStart}
-use Rattle.ru_reports.specs.unit_cells.specs.Cells.{CellsValue, cells_reported, cells_uplink, endpoints_of}
+use Rattle.air_source.specs.declared.events.Side.TheVariants.{Ru}
+use Rattle.window_config.specs.declared.config.Config.{Config}
+use Rattle.window_config.specs.declared.endpoints.EndpointConfig.{EndpointConfig}
+use Rattle.unit_model.specs.Counts.{cells_counted}
+use Rattle.unit_model.specs.Proper.{IsTime}
+use Rattle.unit_model.specs.Radiated.{first_clock, used_mask}
+use Rattle.unit_model.specs.Reports.{accepted_of, ru_known}
+use Rattle.unit_model.specs.Standing.{AreDifferent, History, IsCell, IsLiveAt, IsOwed, StandsBy, View, cell_heard, due, still_given}
+use Rattle.unit_model.specs.Sweeps.{sweep}
+use Rattle.unit_model.specs.Uplink.{jobs}
+use Rattle.unit_model.specs.declared.cells.Cell.{Cell}
+use Rattle.unit_model.specs.declared.jobs.UplinkJob.{UplinkJob}
+use Rattle.unit_model.specs.declared.symbol_start.SymbolStart.{SymbolStart}
+use Rattle.unit_cells.specs.Cells.{CellsValue, cells_reported, cells_uplink, endpoints_of}
 use Rattle.ru_jobs.specs.Cursors.{jobs_left}
 use Rattle.ru_jobs.specs.declared.cursor.JobCursor.{JobCursor}
 use Rattle.unit_memory.specs.Memory.{Holds}

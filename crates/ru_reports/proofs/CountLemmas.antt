@@ -1,12 +1,12 @@
 -- Counts of cells, one list of them after another.
-use Rattle.std.proofs.Common.{◌≡◌, ℕ, ◌+◌, ◌<◌, ◌^◌, List, [], ◌∷◌, ◌++◌, ap, ◌∙◌, arith}
+use Rattle.std.proofs.Common.{◌≡◌, ℕ, ◌+◌, ◌<◌, ◌^◌, List, [], ◌∷◌, ◌++◌, sym, ap, ◌∙◌, arith}
 use Rattle.std.proofs.lemmas.List.{map-append}
 use Rattle.air_source.specs.declared.events.AirCell.{AirCell}
 use Rattle.fault_counters.specs.declared.kinds.Counter.{Counter}
 use Rattle.fault_counters.specs.Counts.{capped, count_of, once, times}
-use Rattle.symbol_search.specs.unit_model.specs.Counts.{StandAt, block_counter, cells_counted}
+use Rattle.unit_model.specs.Counts.{StandAt, block_counter, cells_counted}
 use Rattle.ru_reports.specs.Symbols.{CountsTold}
-use Rattle.symbol_search.specs.unit_model.proofs.CountLemmas.{times-append as times_more}
+use Rattle.unit_model.proofs.CountLemmas.{times-append as times_more}
 
 cells_more : (first second : List AirCell) (k : Counter) → times (cells_counted (first ++ second)) k ≡ times (cells_counted first) k + times (cells_counted second) k
 cells_more first second k =
@@ -41,11 +41,19 @@ counts_then first second old middle new a b k small =
 
 -- ---- for a caller
 
-capped_stand : (x y t n s : ℕ) → x ≡ capped n → y ≡ capped (x + t) → s ≡ t + n → y ≡ capped s
+capped_stand : (x y t n s : ℕ) → x ≡ capped n → y ≡ capped (x + t) → s ≡ n + t → y ≡ capped s
 capped_stand x y t n s p q r = omega (arith, p, q, r)
 
--- counters that stand at what was counted stand at what was counted and the cells that were told
-pub stand_told : (told : List AirCell) (counted : List Counter) (old new : List ℕ) → StandAt old counted → CountsTold told old new → StandAt new (cells_counted told ++ counted)
-stand_told told counted old new stand counts k =
-    capped_stand (count_of old k) (count_of new k) (times (cells_counted told) k) (times counted k) (times (cells_counted told ++ counted) k)
-    (stand k) (counts k (capped_small _ _ (stand k))) (times_more (cells_counted told) counted k)
+sum_told : (all before both reported told : ℕ) → all ≡ before + both → both ≡ reported + told → all ≡ (before + reported) + told
+sum_told all before both reported told p q = omega (arith, p, q)
+
+-- counters that stand at what was counted, of what came and of the cells that were reported, stand at that and the cells that were told
+pub stand_told : (old new : List ℕ) (before : List Counter) (reported told : List AirCell) → StandAt old (before ++ cells_counted reported) → CountsTold told old new
+    → StandAt new (before ++ cells_counted (reported ++ told))
+stand_told old new before reported told stand counts k =
+    let was = times_more before (cells_counted reported) k in
+    let all = times_more before (cells_counted (reported ++ told)) k in
+    let t = times (cells_counted told) k in
+    capped_stand (count_of old k) (count_of new k) t (times (before ++ cells_counted reported) k) (times (before ++ cells_counted (reported ++ told)) k) (stand k)
+    (counts k (capped_small _ _ (stand k)))
+    (sum_told _ (times before k) _ (times (cells_counted reported) k) t all (cells_more reported told k) ∙ ap (λ (n : ℕ). n + t) (sym was))
