@@ -1,5 +1,5 @@
 -- Deliver lines.
-use Rattle.std.proofs.Common.{◌≡◌, ℕ, suc, ◌≢◌, ◌≤◌, List, [], ◌∷◌, length, map, true, false, ◌&&◌, ◌||◌, nat_le, Some, refl, ◌∙◌, arith}
+use Rattle.std.proofs.Common.{◌≡◌, ℕ, suc, ◌≤◌, List, [], ◌∷◌, length, map, true, false, ◌&&◌, ◌||◌, nat_le, Some, refl, ◌∙◌, arith}
 use Rattle.std.specs.Prelude.{ℤ, All, decimal, ◌==◌}
 use Rattle.std.specs.List.{list_all}
 use Rattle.std.specs.Fmt.{signed_decimal}
@@ -13,11 +13,10 @@ use Rattle.fh_document.specs.declared.refusals.DocWhy.TheVariants as why
 use Rattle.fh_document.specs.DeliverLines.{class_of, least_of, times_of, has_deliver_count, delivery_of, delivered}
 use Rattle.fh_document.specs.EndpointLines.{taking}
 use Rattle.fh_document.specs.InjectLines.{side_of}
-use Rattle.fh_document.specs.Lines.{reached, line_of}
 use Rattle.fh_document.specs.Proper.{IsFrom, IsDelivery}
-use Rattle.fh_document.specs.Steps.{Said, deliveries}
+use Rattle.fh_document.specs.Steps.{deliveries}
 use Rattle.fh_document.specs.Words.{number_in}
-use Rattle.line_laws.specs.Joined.{is_word, spaced}
+use Rattle.line_laws.specs.Joined.{is_word}
 use Rattle.line_laws.specs.Words.{class_word, deliver_words}
 use Rattle.line_laws.proofs.Tests.{if_true, took, then_some}
 use Rattle.line_laws.proofs.NumberLemmas.{number_is, decimal_word, signed_word, time_is}
@@ -27,6 +26,7 @@ use Rattle.fh_document.specs.declared.config_lines.TheConstants.{MOST_TRANSIT}
 use Rattle.fh_document.specs.declared.deliver_lines.TheConstants.{MOST_NUMBER}
 use Rattle.fh_time.proofs.Orders.{both_true}
 use Rattle.air_source.specs.Units.{way_text}
+use Rattle.line_laws.specs.Laws.{DeliveriesAreRead}
 
 class_is : (class : TrafficClass) → class_of (class_word class) ≡ Some class
 class_is C = refl
@@ -66,8 +66,7 @@ some_words n = grind (arith, nat_tests)
 counted : (n m : ℕ) → n ≡ m → m ≤ 8 → (nat_le 4 (suc (suc (suc (suc n)))) && nat_le (suc (suc (suc (suc n)))) 12) ≡ true
 counted n m is few = grind (arith, nat_tests)
 
-pub deliver_read : (r : Said) (n : ℕ) (d : Delivery) → n ≢ 1 → reached r ≤ 3 → IsDelivery d
-    → line_of r n (spaced (deliver_words d)) ≡ delivered r d
+pub deliver_read : DeliveriesAreRead
 deliver_read r n d later order h =
     line_is r n deliveries (deliver_words d) later (deliver_visible d h) (some_words (length (map signed_decimal d.copies))) refl order
     ∙ if_true (has_deliver_count (deliver_words d)) _ _ (counted (length (map signed_decimal d.copies)) (length d.copies) (length-map d.copies signed_decimal) h.few)

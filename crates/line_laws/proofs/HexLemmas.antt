@@ -8,9 +8,9 @@ use Rattle.std.proofs.lemmas.Bool.Decides.{nat_tests}
 use Rattle.std.proofs.lemmas.List.Elements.{All-head, All-tail}
 use Rattle.std.proofs.lemmas.Str.{digit_value-digit_char}
 use Rattle.text_lines.specs.Words.{hex4_text, hex3_text}
-use Rattle.fh_document.specs.Hex.{hex_of, is_hex, bytes_of, decoded, frame_of}
+use Rattle.fh_document.specs.Hex.{hex_of, is_hex, bytes_of, decoded}
 use Rattle.line_laws.specs.Joined.{is_word}
-use Rattle.line_laws.specs.Laws.{AreBytes}
+use Rattle.line_laws.specs.Laws.{AreBytes, FramesAreRead, IdsAreRead}
 use Rattle.line_laws.specs.Words.{hex_text, frame_word}
 use Rattle.line_laws.proofs.Tests.{if_true}
 use Rattle.fh_base.specs.declared.source.TheConstants.{FRAME_LIMIT}
@@ -108,7 +108,7 @@ fits n m is most =
     let even : n % 2 ≡ 0 = omega arith in
     grind (arith, nat_tests)
 
-pub frame_is : (bytes : List ℕ) → AreBytes bytes → length bytes ≤ FRAME_LIMIT → frame_of (frame_word bytes) ≡ Some bytes
+pub frame_is : FramesAreRead
 frame_is [] h most = refl
 frame_is (b ∷ bytes) h most =
     let all = b ∷ bytes in
@@ -116,3 +116,6 @@ frame_is (b ∷ bytes) h most =
     ∙ if_true _ (decoded (hex_text all)) None (fits (length (hex_text all)) (length all) (hex_size all) most)
     ∙ if_true (is_hex (hex_text all)) (Some (bytes_of (hex_text all))) None (all_hex all)
     ∙ ap Some (bytes_are all h)
+
+pub ids_are_read : IdsAreRead
+ids_are_read = (id_is, mask_is)

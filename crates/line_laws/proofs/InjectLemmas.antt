@@ -10,7 +10,7 @@ use Rattle.air_source.specs.declared.events.Side.TheVariants.{Ru, Du}
 use Rattle.fh_document.specs.declared.document.Injection.{Injection}
 use Rattle.fh_document.specs.declared.refusals.DocWhy.TheVariants as why
 use Rattle.fh_document.specs.ConfigLines.{time_at}
-use Rattle.fh_document.specs.Document.{finished, after_line, read_from, document_of}
+use Rattle.fh_document.specs.Document.{finished, after_line, read_from}
 use Rattle.fh_document.specs.Hex.{frame_of}
 use Rattle.fh_document.specs.InjectLines.{side_of, injected, inject_line}
 use Rattle.fh_document.specs.Lines.{start, line_of}
@@ -19,8 +19,8 @@ use Rattle.fh_document.specs.Refusals.{or_refuse, ◌>>=◌}
 use Rattle.fh_document.specs.Steps.{Said, injections, with_frames}
 use Rattle.fh_document.specs.Words.{is_text, number_in}
 use Rattle.line_laws.specs.Joined.{is_word}
-use Rattle.line_laws.specs.Laws.{IsFrame}
-use Rattle.line_laws.specs.Lines.{inject_text, injections_text, document_with}
+use Rattle.line_laws.specs.Laws.{IsFrame, InjectionsAreRead}
+use Rattle.line_laws.specs.Lines.{inject_text, injections_text}
 use Rattle.line_laws.specs.Words.{frame_word, inject_words}
 use Rattle.line_laws.proofs.Tests.{then_ok, then_some}
 use Rattle.line_laws.proofs.JoinLemmas.{words_text, lines_are}
@@ -90,7 +90,7 @@ first_read : (lines : List (List ℕ)) → read_from 1 start (codes "fronthaul 1
 unfolding line_of
 first_read lines = refl
 
-pub document_is : (is : List Injection) → All IsFrame is → document_of (injections_text is) ≡ Ok (document_with is)
+pub document_is : InjectionsAreRead
 document_is is h =
     let all = codes "fronthaul 1" ∷ map inject_text is in
     if_not (length (injections_text is) == 0) (Err (1, why.FirstLine)) _ (not_zero (length (injections_text is)) (omega arith))

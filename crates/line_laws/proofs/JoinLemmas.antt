@@ -1,5 +1,5 @@
 -- Parts that are joined are these parts again.
-use Rattle.std.proofs.Common.{◌≡◌, ℕ, ◌-◌, ◌<◌, List, [], ◌∷◌, ◌++◌, length, take, Bool, true, false, ◌&&◌, nat_lt, nat_le, refl, sym, ap, ◌∙◌, arith, append_assoc}
+use Rattle.std.proofs.Common.{◌≡◌, ℕ, ◌-◌, List, [], ◌∷◌, ◌++◌, length, take, Bool, true, false, ◌&&◌, nat_lt, nat_le, refl, sym, ap, ◌∙◌, arith, append_assoc}
 use Rattle.std.specs.Prelude.{◌==◌, All, filter, if◌then◌else◌, slice_index}
 use Rattle.std.specs.List.{slice_split, list_all}
 use Rattle.std.proofs.lemmas.Bool.Decides.{nat_tests}
@@ -12,6 +12,7 @@ use Rattle.fh_document.specs.Words.{words_of, is_text, without_last_feed}
 use Rattle.line_laws.specs.Joined.{is_word, joined, spaced, fed}
 use Rattle.line_laws.proofs.Tests.{if_true, all_weaker, filter_all}
 use Rattle.fh_time.proofs.Orders.{left_true, right_true, both_true, nat_own}
+use Rattle.line_laws.specs.Laws.{LinesAreRead, WordsAreRead}
 
 -- no byte of the part is the separator
 abbrev pub is_free : ℕ → List ℕ → Bool
@@ -86,9 +87,12 @@ text_free w h = all_weaker (λ b. nat_le 32 b && nat_le b 126) (λ b. if b == 10
     apart : (b : ℕ) → (nat_le 32 b && nat_le b 126) ≡ true → (if b == 10 then false else true) ≡ true
     apart b e = grind (arith, nat_tests)
 
-pub lines_are : (lines : List (List ℕ)) → 0 < length lines → list_all is_text lines ≡ true → slice_split (λ b. b == 10) (without_last_feed (fed lines)) ≡ lines
+pub lines_are : LinesAreRead
 lines_are [] some h = absurd (omega arith)
 lines_are (line ∷ lines) some h =
     ap (λ t. slice_split (λ b. b == 10) (without_last_feed t)) (fed_joined line lines)
     ∙ ap (slice_split (λ b. b == 10)) (without_feed (joined 10 (line ∷ lines)))
     ∙ split_joined 10 line lines (all_weaker is_text (is_free 10) (line ∷ lines) text_free h)
+
+pub words_are_read : WordsAreRead
+words_are_read = λ ws h. (words_are ws h, words_text ws h)

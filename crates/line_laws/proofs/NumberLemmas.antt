@@ -14,6 +14,7 @@ use Rattle.line_laws.specs.Joined.{is_word}
 use Rattle.line_laws.proofs.Tests.{if_true, all_weaker, took}
 use Rattle.fh_time.proofs.Orders.{both_true}
 use Rattle.text_lines.specs.Numbers.{is_decimal}
+use Rattle.line_laws.specs.Laws.{NumbersAreRead}
 
 pub decimal_digits : (n : ℕ) → n < 2 ^ 64 → is_decimal (decimal n) ≡ true
 decimal_digits = decimal_by_steps (λ n ds. is_decimal ds ≡ true) one more
@@ -38,7 +39,7 @@ decimal_word n small =
     wider : (b : ℕ) → (nat_le 48 b && nat_le b 57) ≡ true → (nat_le 33 b && nat_le b 126) ≡ true
     wider b e = grind (arith, nat_tests)
 
-pub number_is : (low high n : ℕ) → low ≤ n → n ≤ high → n < 10 ^ 13 → number_in low high (decimal n) ≡ Some n
+pub number_is : NumbersAreRead
 number_is low high n l h small =
     let short : n < 2 ^ 64 = omega arith in
     let size : length (decimal n) ≤ 13 = length-decimal-le 13 n (omega arith) small short in

@@ -1,5 +1,5 @@
 -- Lines of a plan.
-use Rattle.std.proofs.Common.{◌≡◌, ℕ, ◌≢◌, ◌<◌, ◌≤◌, ◌^◌, List, true, Option, Some, refl, ◌∙◌, arith}
+use Rattle.std.proofs.Common.{◌≡◌, ℕ, ◌<◌, ◌≤◌, ◌^◌, List, true, Option, Some, refl, ◌∙◌, arith}
 use Rattle.std.specs.Prelude.{decimal}
 use Rattle.std.specs.List.{list_all}
 use Rattle.text_lines.specs.Words.{hex4_text, hex3_text}
@@ -9,12 +9,11 @@ use Rattle.window_config.specs.declared.plan.PlanLine.{PlanLine}
 use Rattle.fh_document.specs.declared.refusals.DocWhy.TheVariants as why
 use Rattle.fh_document.specs.EndpointLines.{taking}
 use Rattle.fh_document.specs.Hex.{hex_of}
-use Rattle.fh_document.specs.Lines.{reached, line_of}
 use Rattle.fh_document.specs.PlanLines.{plan_kind_of, slot_of, symbols_of, prbs_of, section_of, plan_of, planned}
 use Rattle.fh_document.specs.Proper.{IsPlanLine}
-use Rattle.fh_document.specs.Steps.{Said, plans}
+use Rattle.fh_document.specs.Steps.{plans}
 use Rattle.fh_document.specs.Words.{number_in}
-use Rattle.line_laws.specs.Joined.{is_word, spaced}
+use Rattle.line_laws.specs.Joined.{is_word}
 use Rattle.line_laws.specs.Words.{plan_kind_word, plan_words}
 use Rattle.line_laws.proofs.Tests.{took, then_some}
 use Rattle.line_laws.proofs.NumberLemmas.{number_is, decimal_word, signed_word, time_is}
@@ -22,6 +21,7 @@ use Rattle.line_laws.proofs.HexLemmas.{id_is, mask_is, id_word, mask_word}
 use Rattle.line_laws.proofs.LineLemmas.{line_is}
 use Rattle.window_config.specs.declared.plan.TheConstants.{LAST_FRAME}
 use Rattle.fh_time.proofs.Orders.{both_true}
+use Rattle.line_laws.specs.Laws.{PlansAreRead}
 
 kind_is : (kind : PlanKind) → plan_kind_of (plan_kind_word kind) ≡ Some kind
 kind_is Down = refl
@@ -76,8 +76,7 @@ plan_is line h id few =
     ∙ took (hex_of 3 (hex3_text line.mask)) line.mask _ (mask_is line.mask h.mask)
     ∙ took (section_of (plan_words line)) (line.section, line.beam) _ (two_are 4095 32767 line.section line.beam (omega (arith, h.section)) (omega (arith, h.beam)) (omega arith) (omega arith))
 
-pub plan_read : (r : Said) (n : ℕ) (line : PlanLine) → n ≢ 1 → reached r ≤ 2 → IsPlanLine line → line.id < 2 ^ 16 → line.num_prb < 2 ^ 8
-    → line_of r n (spaced (plan_words line)) ≡ planned r n line
+pub plan_read : PlansAreRead
 plan_read r n line later order h id few =
     line_is r n plans (plan_words line) later (plan_visible line h few) refl refl order
     ∙ then_some (plan_of (plan_words line)) why.Number line (λ x. planned r n x) (plan_is line h id few)

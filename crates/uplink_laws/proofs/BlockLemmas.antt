@@ -33,6 +33,7 @@ use Rattle.uplink_laws.proofs.DecodedLemmas.{IsTimely, ds, each_timely, line_sen
 use Rattle.uplink_laws.proofs.ReadLemmas.{is_decoded}
 use Rattle.sent_laws.specs.plan_model.specs.Lines.{is_up_line}
 use Rattle.sent_laws.specs.unit_model.proofs.ClaimLemmas.{way_self as way_own, slot_self as slot_own, covers_is}
+use Rattle.uplink_laws.specs.Data.{EachUplinkIsDecodedOnce}
 
 -- ---- data that are all on time
 
@@ -172,3 +173,6 @@ module _ (c : Config) (lines : List PlanLine) (source : Source) (antenna : Anten
     blocks_are = block_is_planned;
     any_line = block_of_any;
   }
+
+pub each_uplink_is_decoded_once : EachUplinkIsDecodedOnce
+each_uplink_is_decoded_once = decoded_once

@@ -42,6 +42,7 @@ use Rattle.uplink_laws.proofs.JobLemmas.{of_uplink}
 use Rattle.sent_laws.specs.plan_model.specs.Lines.{uplink_allocations}
 use Rattle.sent_laws.specs.plan_model.specs.Lines.{is_up_line}
 use Rattle.sent_laws.specs.unit_model.proofs.ClaimLemmas.{covers_is}
+use Rattle.uplink_laws.specs.Cells.{ThePlanIsTakenIn}
 
 module _ (c : Config) (lines : List PlanLine) (source : Source) (antenna : Antenna) (down up : List Arrival) (h : BothArrive c lines source antenna down up) where
   abbrev ps : List PlannedLine
@@ -131,3 +132,6 @@ module _ (c : Config) (lines : List PlanLine) (source : Source) (antenna : Anten
   plan_taken_in to =
       sweep-same (symbol_report Du (du_known c (uplink_allocations ps) up)) (taken_symbol blocks ps) c.endpoints (first_clock -ℤ wait_of Du c.delays) ((to -ℤ wait_of Du c.delays) +ℤ pos 1)
       (λ ep e slot symbol tick low high swept. symbol_is ep e slot symbol)
+
+pub the_plan_is_taken_in : ThePlanIsTakenIn
+the_plan_is_taken_in = plan_taken_in

@@ -47,6 +47,7 @@ use Rattle.uplink_laws.proofs.MemberLemmas.{distinct_filter, distinct_reverse, i
 use Rattle.uplink_laws.proofs.SortLemmas.{sorted_same}
 use Rattle.sent_laws.specs.plan_model.specs.Lines.{uplink_allocations}
 use Rattle.sent_laws.specs.plan_model.specs.Lines.{is_up_line}
+use Rattle.uplink_laws.specs.Jobs.{JobsAreOfPlan}
 
 -- ---- no line twice
 
@@ -248,3 +249,6 @@ module _ (c : Config) (lines : List PlanLine) (source : Source) (down : List Arr
     accepted = accepted_lines;
     jobs_are = λ to. sweep-same (symbol_jobs up) (symbol_jobs (reverse ls)) c.endpoints first_clock _ (λ ep e slot symbol tick low high swept. symbol_same ep e slot symbol);
   }
+
+pub jobs_are_of_plan : JobsAreOfPlan
+jobs_are_of_plan = jobs_planned

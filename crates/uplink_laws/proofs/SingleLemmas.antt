@@ -1,5 +1,5 @@
 -- Each planned uplink cell is taken in exactly once.
-use Rattle.std.proofs.Common.{◌≡◌, ℕ, ℤ, pos, ◌+◌, ◌<◌, ◌≤◌, ◌+ℤ◌, ◌*ℤ◌, ◌-ℤ◌, ◌≤ℤ◌, inl, inr, Bool, true, false, not, ◌&&◌, ◌==◌, if◌then◌else◌, List, [], ◌∷◌, refl, ap, sym, ◌∙◌, subst, arith}
+use Rattle.std.proofs.Common.{◌≡◌, ℕ, ℤ, pos, ◌+◌, ◌<◌, ◌+ℤ◌, ◌*ℤ◌, ◌-ℤ◌, ◌≤ℤ◌, inl, inr, Bool, true, false, not, ◌&&◌, ◌==◌, if◌then◌else◌, List, [], ◌∷◌, refl, ap, sym, ◌∙◌, subst, arith}
 use Rattle.std.specs.Prelude.{filter}
 use Rattle.std.proofs.lemmas.Bool.{cases_Bool, and_parts, and_from, eqb-true}
 use Rattle.std.proofs.lemmas.Int.{ints}
@@ -41,6 +41,7 @@ use Rattle.sent_laws.specs.plan_model.specs.Lines.{is_up_line}
 use Rattle.sent_laws.specs.unit_model.proofs.ClaimLemmas.{within_carrier, from_within, covers_is}
 use Rattle.fh_time.proofs.Orders.{not_negative}
 use Rattle.fh_time.specs.declared.nanoseconds.TheConstants.{NANOSECOND}
+use Rattle.uplink_laws.specs.Singles.{EachCellIsTakenOnce}
 
 after_clock : (s ns : ℤ) → FRAME ≤ℤ s → pos 0 ≤ℤ ns → (first_clock -ℤ ns *ℤ pos NANOSECOND) ≤ℤ s
 after_clock s ns h k = omega (arith, ints, h, k)
@@ -87,3 +88,6 @@ module _ (c : Config) (lines : List PlanLine) (source : Source) (antenna : Anten
       let there : IsIn event (taken_air c blocks ps to) = in_piece event (taken_symbol blocks ps p.ep e p.line.slot symbol) (taken_air c blocks ps to) piece in_symbol in
       let reported_there : IsIn event (du_reported c (uplink_allocations ps) up to) = subst (λ (xs : List AirCell). IsIn event xs) (sym (plan_taken_in c lines source antenna down up h to)) there in
       only_one event (du_reported c (uplink_allocations ps) up to) (reported_differ Du c.delays c.endpoints (du_known c (uplink_allocations ps) up) to h.sendable.config.endpoints.differ) reported_there
+
+pub each_cell_is_taken_once : EachCellIsTakenOnce
+each_cell_is_taken_once = taken_once

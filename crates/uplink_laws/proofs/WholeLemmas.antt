@@ -26,6 +26,7 @@ use Rattle.uplink_laws.specs.Whole.{AreTakenOnce}
 use Rattle.uplink_laws.proofs.ArrivalLemmas.{delivered, sounds}
 use Rattle.window_config.proofs.TickLemmas.{in_ticks}
 use Rattle.fh_time.specs.declared.nanoseconds.TheConstants.{NANOSECOND}
+use Rattle.uplink_laws.specs.Whole.{EachIsTakenOnce}
 
 -- ---- times
 
@@ -113,3 +114,6 @@ module _ (c : Config) (lines : List PlanLine) (source : Source) (antenna : Anten
         let t = in_time ep j w.whole.shows.first w.whole.shows.last below w.first_from w.last_from w.last_to in
         record { once = w; soon = t.soon; late = t.late; in_window = t.in_window; held = t.held });
   }
+
+pub each_is_taken_once : EachIsTakenOnce
+each_is_taken_once = taken_once

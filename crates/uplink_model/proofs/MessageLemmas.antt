@@ -6,9 +6,11 @@ use Rattle.window_config.specs.declared.config.Config.{Config}
 use Rattle.air_source.specs.declared.links.LinkFrame.{LinkFrame}
 use Rattle.plan_model.specs.unit_model.specs.Lists.{onto}
 use Rattle.plan_model.specs.unit_model.specs.declared.jobs.UplinkJob.{UplinkJob}
-use Rattle.plan_model.specs.Packs.{Message, alone, packs, packs_behind, takes, with_part}
-use Rattle.uplink_model.specs.Frames.{Antenna, frames_behind, uplink_message_frames}
-use Rattle.uplink_model.specs.Messages.{job_fields, messages_behind, uplink_messages_of, takes_job}
+use Rattle.plan_model.specs.Packs.{Message, alone, packs_behind, takes, with_part}
+use Rattle.uplink_model.specs.Frames.{frames_behind, uplink_message_frames}
+use Rattle.uplink_model.specs.Messages.{job_fields, messages_behind, takes_job}
+use Rattle.uplink_model.specs.Laws.{MessagesArePacks}
+use Rattle.uplink_model.specs.Laws.{FramesAppend}
 
 -- of one endpoint, a message takes a job as it takes any part
 takes_as : (c : Config) (m : Message UplinkJob) (j : UplinkJob) (ep : ℕ) → m.first.ep ≡ ep → j.ep ≡ ep
@@ -28,12 +30,11 @@ behind_as c ep m (j ∷ js) first all =
     ∙ ap (λ (l : List (Message UplinkJob)). if takes (job_fields c.endpoints) c.pack m j then packs_behind (job_fields c.endpoints) c.pack (with_part m j) js else m ∷ l)
     (behind_as c ep (alone j) js one rest)
 
-pub packed_as : (c : Config) (ep : ℕ) (js : List UplinkJob) → All (λ j. j.ep ≡ ep) js → uplink_messages_of c js ≡ packs (job_fields c.endpoints) c.pack js
+pub packed_as : MessagesArePacks
 packed_as c ep [] all = refl
 packed_as c ep (j ∷ js) all = behind_as c ep (alone j) js (All-head (λ (k : UplinkJob). k.ep ≡ ep) j js all) (All-tail (λ (k : UplinkJob). k.ep ≡ ep) j js all)
 
-pub frames_both : (c : Config) (antenna : Antenna) (earlier ms ns : List (Message UplinkJob))
-    → frames_behind c antenna earlier (ms ++ ns) ≡ frames_behind c antenna earlier ms ++ frames_behind c antenna (onto earlier ms) ns
+pub frames_both : FramesAppend
 unfolding frames_behind onto
 frames_both c antenna earlier [] ns = refl
 frames_both c antenna earlier (m ∷ ms) ns =
