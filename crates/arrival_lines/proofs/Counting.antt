@@ -21,10 +21,6 @@ counts_eq a b c x y z p q r = cc
 pub count_more : {X : Type 0} (p : X → Bool) (xs : List X) (x : X) → count_by p (xs ++ x ∷ []) ≡ count_by p xs + cond (p x) 1 0
 count_more p xs x = sum_by-append (λ y. cond (p y) 1 0) xs (x ∷ []) ∙ ap (λ n. count_by p xs + n) (omega arith)
 
--- what one more of a kind adds
-adds : Bool → ℕ
-adds b = cond b 1 0
-
 one_kind : (test : Kind → Bool) (ms : List Mark) (c : ℕ) (kind : Kind) (column : ℕ) (b : Bool) → (column == c) ≡ b
     → count_by (λ m. (m.column == c) && test m.kind) (ms ++ mark_at kind column ∷ []) ≡ count_by (λ m. (m.column == c) && test m.kind) ms + cond (b && test kind) 1 0
 one_kind test ms c kind column b e =

@@ -1,9 +1,7 @@
 -- One arrival more in a tally.
-use Rattle.std.proofs.Common.{◌≡◌, ◌≢◌, ℕ, ℤ, ◌+◌, ◌<◌, ◌≤◌, Bool, true, false, cond, if◌then◌else◌, List, [], ◌∷◌, ◌++◌, length, get_or, Option, None, Some, IfSome, inl, inr, ◌⊎◌, refl, sym, ap, subst, ◌∙◌, arith, append_assoc, append-nil}
+use Rattle.std.proofs.Common.{◌≡◌, ℕ, ℤ, ◌+◌, ◌<◌, ◌≤◌, Bool, true, false, cond, if◌then◌else◌, List, [], ◌∷◌, ◌++◌, length, get_or, Option, None, Some, IfSome, refl, sym, ap, subst, ◌∙◌, arith, append_assoc, append-nil}
 use Rattle.std.specs.List.{count_by, flat_map}
 use Rattle.std.proofs.Math.ListN.{set}
-use Rattle.std.proofs.lemmas.Bool.{cases_lt, cases_eq}
-use Rattle.std.proofs.lemmas.List.{get_or-set_same, get_or-set_other}
 use Rattle.std.proofs.lemmas.List.Concat.{flat_map-append}
 use Rattle.std.proofs.lemmas.List.Sums.{count_by-le-length, fold-append}
 use Rattle.arrival_lines.specs.declared.arrivals.Arrival.{Arrival}
@@ -13,34 +11,7 @@ use Rattle.arrival_lines.specs.declared.tallies.Counts.{Counts}
 use Rattle.arrival_lines.specs.declared.tallies.TheConstants.{COLUMNS}
 use Rattle.arrival_lines.specs.Counts.{Mark, IsBelow, is_on_time, is_late, is_early, no_counts, counted, mark_at, last_marks, marks_of, columns_of}
 use Rattle.arrival_lines.specs.Tallies.{Tally, sections_of, lesser, least_of, tally_of, marked, marked_last, marked_both, measured}
-use Rattle.arrival_lines.proofs.Counting.{columns_below, columns_length, columns_more, count_more, counts_eq, marks_few, plus_none, set_past}
-
--- ---- limits
-
-pub more_below : (limit more : ℕ) (x : Counts) → IsBelow limit x → limit ≤ more → IsBelow more x
-more_below limit more x h le = record { on_time = omega (arith, h.on_time); late = omega (arith, h.late); early = omega (arith, h.early) }
-
-counted_below : (kind : Kind) (x : Counts) (limit : ℕ) → IsBelow limit x → IsBelow (limit + 1) (counted kind x)
-counted_below OnTime x limit h = record { on_time = omega (arith, h.on_time); late = omega (arith, h.late); early = omega (arith, h.early) }
-counted_below Late x limit h = record { on_time = omega (arith, h.on_time); late = omega (arith, h.late); early = omega (arith, h.early) }
-counted_below Early x limit h = record { on_time = omega (arith, h.on_time); late = omega (arith, h.late); early = omega (arith, h.early) }
-
--- where one is counted, no number passes the limit by more than one
-pub one_more_below : (xs : List Counts) (i : ℕ) (kind : Kind) (c limit : ℕ) → ((k : ℕ) → IsBelow limit (get_or xs k no_counts))
-    → IsBelow (limit + 1) (get_or (set xs i (counted kind (get_or xs i no_counts))) c no_counts)
-one_more_below xs i kind c limit h = either (cases_lt i (length xs))
-  where
-    inside : i < length xs → (c ≡ i) ⊎ (c ≢ i) → IsBelow (limit + 1) (get_or (set xs i (counted kind (get_or xs i no_counts))) c no_counts)
-    inside lt (inl is) =
-        subst (IsBelow (limit + 1)) (sym (ap (λ k. get_or (set xs i (counted kind (get_or xs i no_counts))) k no_counts) is ∙ get_or-set_same xs i (counted kind (get_or xs i no_counts)) no_counts lt))
-        (counted_below kind (get_or xs i no_counts) limit (h i))
-    inside lt (inr other) =
-        subst (IsBelow (limit + 1)) (sym (get_or-set_other xs i c (counted kind (get_or xs i no_counts)) no_counts other)) (more_below limit (limit + 1) (get_or xs c no_counts) (h c) (omega arith))
-
-    either : (i < length xs) ⊎ (length xs ≤ i) → IsBelow (limit + 1) (get_or (set xs i (counted kind (get_or xs i no_counts))) c no_counts)
-    either (inl lt) = inside lt (cases_eq c i)
-    either (inr past) =
-        subst (λ (ys : List Counts). IsBelow (limit + 1) (get_or ys c no_counts)) (sym (set_past xs i (counted kind (get_or xs i no_counts)) past)) (more_below limit (limit + 1) (get_or xs c no_counts) (h c) (omega arith))
+use Rattle.arrival_lines.proofs.Counting.{columns_below, columns_length, columns_more, count_more, counts_eq, marks_few, plus_none}
 
 -- ---- of a tally
 

@@ -1,5 +1,5 @@
 -- The cells of several units may be added one behind the other: no unit has two of one place.
-use Rattle.std.proofs.Common.{◌≡◌, ℕ, zero, suc, ◌+◌, ◌<◌, ◌≤◌, ◌/◌, ◌%◌, Bool, true, false, cond, IsTrue, List, [], ◌∷◌, ◌++◌, All, refl, ap, sym, ◌∙◌, subst, arith, append_assoc, count_by, pos}
+use Rattle.std.proofs.Common.{◌≡◌, ℕ, zero, suc, ◌+◌, ◌<◌, ◌≤◌, ◌/◌, ◌%◌, Bool, true, false, cond, IsTrue, List, [], ◌∷◌, ◌++◌, All, refl, ap, sym, ◌∙◌, subst, arith, append_assoc, count_by}
 use Rattle.std.proofs.lemmas.List.Elements.{All-nil, All-append, All-push}
 use Rattle.std.proofs.lemmas.List.Sums.{sum_by-append}
 use Rattle.air_source.specs.declared.events.AirCell.{AirCell}
@@ -84,9 +84,6 @@ may_add mixer units count k c is few stands = subst (λ (x : AirCell). MayAdd mi
     agrees = All-append (Agrees k) (units_of units count) (first_cells k) (units_agree k units count) (first_agree k k);
   };
 })
-
-pub next_units : (units count : ℕ) → units_of (units + 1) count ≡ units_of units count ++ first_cells count
-next_units units count = let is : units + 1 ≡ suc units = omega arith in ap (λ (n : ℕ). units_of n count) is
 
 pub next_cells : (n : ℕ) → first_cells (n + 1) ≡ first_cells n ++ cell_of n ∷ []
 next_cells n = let is : n + 1 ≡ suc n = omega arith in ap first_cells is

@@ -27,15 +27,6 @@ none_of (Some x) e = cc
 
 -- ---- words that are no command
 
-pub too_many : (ws : List Text) → 5 < length ws → command_of ws ≡ None
-too_many [] more = refl
-too_many (a ∷ []) more = absurd (omega arith)
-too_many (a ∷ b ∷ []) more = absurd (omega arith)
-too_many (a ∷ b ∷ c ∷ []) more = absurd (omega arith)
-too_many (a ∷ b ∷ c ∷ d ∷ []) more = absurd (omega arith)
-too_many (a ∷ b ∷ c ∷ d ∷ e ∷ []) more = absurd (omega arith)
-too_many (a ∷ b ∷ c ∷ d ∷ e ∷ f ∷ ws) more = refl
-
 pub many_texts : (texts : List (Bor Text)) → 6 ≤ length texts → None ≡ command_of (map (λ w. w.now) texts)
 many_texts [] more = absurd (omega arith)
 many_texts (a ∷ []) more = absurd (omega arith)

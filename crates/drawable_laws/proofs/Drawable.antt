@@ -1,5 +1,5 @@
 -- The lines of an explanation are drawable.
-use Rattle.std.proofs.Common.{◌≡◌, ℕ, pos, ◌+ℤ◌, ◌≤ℤ◌, ℤ, false, List, [], ◌∷◌, ◌++◌, map, refl, sym, ap, ◌∙◌, arith, append_assoc}
+use Rattle.std.proofs.Common.{◌≡◌, ℕ, pos, ◌+ℤ◌, ◌≤ℤ◌, ℤ, false, List, [], ◌∷◌, ◌++◌, map, sym, ap, ◌∙◌, arith, append_assoc}
 use Rattle.std.specs.Prelude.{None}
 use Rattle.std.specs.List.{AllByRecursion}
 use Rattle.std.proofs.lemmas.Int.{ints}
@@ -48,9 +48,6 @@ range_of d T2aCpDl = cp_dl_of d.t2a_up d.advance
 range_of d T2aCpUl = d.t2a_cp_ul
 range_of d Ta3 = d.ta3
 range_of d Ta4 = d.ta4
-
-windows_are : (d : Delays) → window_lines d ≡ windows_of (range_of d)
-windows_are d = refl
 
 window_by : (k : ℕ) (low high : ℤ) → pos k ≤ℤ low → low ≤ℤ high → high ≤ℤ pos 2000000 → (pos 0 ≤ℤ low) × (high ≤ℤ pos 4000000)
 window_by k low high p q r = (omega (arith, ints, p), omega (arith, ints, r))

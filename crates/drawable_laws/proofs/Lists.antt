@@ -34,10 +34,6 @@ module _ {A : Type 0} (P : A → Type 0) where
   all_flat Q f h [] k = tt
   all_flat Q f h (b ∷ bs) k = all_both (f b) (flat_map f bs) (h b k.0) (all_flat Q f h bs k.1)
 
-  pub all_any : {B : Type 0} (f : B → List A) → ((b : B) → AllByRecursion P (f b)) → (bs : List B) → AllByRecursion P (flat_map f bs)
-  all_any f h [] = tt
-  all_any f h (b ∷ bs) = all_both (f b) (flat_map f bs) (h b) (all_any f h bs)
-
   pub all_each : (from count : ℕ) (f : ℕ → List A) → ((k : ℕ) → from ≤ k → k < from + count → AllByRecursion P (f k)) → AllByRecursion P (each from count f)
   unfolding each
   all_each from zero f h = tt

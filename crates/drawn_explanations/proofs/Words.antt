@@ -1,5 +1,5 @@
 -- Texts of words with a space before each, and the words of such a line, read again.
-use Rattle.std.proofs.Common.{◌≡◌, ℕ, ◌<◌, ◌≤◌, List, [], ◌∷◌, ◌++◌, length, drop, Bool, true, false, ◌&&◌, ◌==◌, nat_le, nat_lt, filter, cond, refl, sym, ap, ap₂, ◌∙◌, arith, append_assoc, append-nil}
+use Rattle.std.proofs.Common.{◌≡◌, ℕ, ◌<◌, ◌≤◌, List, [], ◌∷◌, ◌++◌, length, drop, Bool, true, false, ◌&&◌, ◌==◌, nat_le, nat_lt, filter, cond, refl, sym, ap, ap₂, ◌∙◌, arith, append-nil}
 use Rattle.std.specs.Prelude.{if◌then◌else◌}
 use Rattle.std.specs.List.{All, flat_map, list_all, slice_split}
 use Rattle.std.proofs.lemmas.Bool.Decides.{nat_tests}
@@ -37,12 +37,6 @@ pub ◌⊕◌ : {a b : List ℕ} {vs ws : List (List ℕ)} → AreWords a vs →
   is = ap₂ (λ (x y : List ℕ). x ++ y) p.is q.is ∙ sym (flat_map-append (λ w. 32 ∷ w) vs ws);
   words = All-append IsWord vs ws p.words q.words;
 }
-
--- one word more, whose first part is appended with the space before it, and then its last part
-pub and_word : {a : List ℕ} {vs : List (List ℕ)} → AreWords a vs → (front back : List ℕ) → IsWord (front ++ back) → AreWords (a ++ (32 ∷ front) ++ back) (vs ++ (front ++ back) ∷ [])
-and_word {a = a} p front back w =
-    let more = p ⊕ one_word (front ++ back) w in
-    record { is = append_assoc a (32 ∷ front) back ∙ more.is; words = more.words }
 
 pub words_if : (t : Bool) (w : List ℕ) → IsWord w → AreWords (if t then 32 ∷ w else []) (if t then w ∷ [] else [])
 words_if true w p = one_word w p

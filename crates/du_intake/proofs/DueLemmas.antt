@@ -173,10 +173,6 @@ module _ (c : Config) (planned : List Allocation) (m : UnitMemory) (clock : ℤ)
       (k.reports x.endpoint cell (used_cell x.endpoint cell x.start.0 swept below used) refl used ∙ ahead) (not_none (used_mask (claim_at planned cell)) used)
       (sym (one_cell x.endpoint cell start (claim_at planned cell) (known.blocks cell) h.reported done refl refl) ∙ here)
 
-  -- a symbol as it is gone over is the start of its place
-  start_is : (x : SymbolStart) → IsSwept c.endpoints x.ep x.endpoint x.slot x.symbol x.start.0 → (start_at x.ep x.endpoint x.slot x.symbol).start.0 ≡ x.start.0
-  start_is x swept = swept.starts
-
   -- where the cursor stands behind all symbols, nothing is due
   pub none_due : cursor.next ≡ None → (to : ℤ) → intake_due_of c planned h to ≡ []
   unfolding due

@@ -36,6 +36,3 @@ goes_all es k lines so_far goes end =
     ∙ ap (λ (ps : List PlannedLine). so_far ++ ps) (sym (no_lines es k))
     ∙ ap (λ (ls : List PlanLine). so_far ++ planned_from es k ls) (sym (drop_all k lines end))
     ∙ goes
-
-pub goes_start : (es : List EndpointConfig) (lines : List PlanLine) (all : List PlannedLine) → all ≡ [] → Goes es 0 lines all
-goes_start es lines all is = ap (λ (ps : List PlannedLine). ps ++ planned_from es 0 lines) is

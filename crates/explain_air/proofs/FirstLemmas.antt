@@ -1,10 +1,7 @@
 -- Lines that are told one after the other, each of an element.
-use Rattle.std.proofs.Common.{◌≡◌, List, [], ◌∷◌, map, refl, ap, arith}
+use Rattle.std.proofs.Common.{◌≡◌, List, [], ◌∷◌, map, refl, ap}
 use Rattle.std.specs.List.{flat_map}
-use Rattle.std.proofs.lemmas.Int.{ints}
 use Rattle.explain_lines.specs.declared.values.ExplainLine.{ExplainLine}
-use Rattle.window_config.specs.Limits.{IsRange}
-use Rattle.window_config.specs.declared.delays.Range.{Range}
 
 module _ {X : Type 0} (f : X → ExplainLine) where
   abbrev pub one_of : X → List ExplainLine
@@ -20,7 +17,3 @@ itself l = l
 pub all_itself : (ls : List ExplainLine) → flat_map (one_of itself) ls ≡ ls
 all_itself [] = refl
 all_itself (l ∷ ls) = ap (λ (rest : List ExplainLine). l ∷ rest) (all_itself ls)
-
--- a range whose minimum has a greater least value
-pub range_down : (r : Range) → IsRange 1 r → IsRange 0 r
-range_down r h = record { low = omega (arith, ints, h.low); order = h.order; high = h.high }

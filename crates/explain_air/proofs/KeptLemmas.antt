@@ -1,5 +1,5 @@
 -- What is kept of one event more.
-use Rattle.std.proofs.Common.{◌≡◌, ◌<◌, ◌^◌, ℕ, ℤ, suc, true, false, List, [], ◌∷◌, ◌++◌, Option, Some, None, refl, sym, ap, ap₂, subst, ◌∙◌, arith}
+use Rattle.std.proofs.Common.{◌≡◌, ◌<◌, ◌^◌, ℕ, ℤ, suc, List, [], ◌∷◌, ◌++◌, Option, Some, None, refl, sym, ap, ap₂, subst, ◌∙◌, arith}
 use Rattle.air_source.specs.declared.events.AirCell.{AirCell}
 use Rattle.air_source.specs.declared.events.Event.{Event}
 use Rattle.air_source.specs.declared.events.Event.TheVariants as event
@@ -14,14 +14,12 @@ use Rattle.explain_air.specs.declared.kept.Kept.{Kept}
 use Rattle.explain_air.specs.declared.notes.Notes.{Notes}
 use Rattle.explain_air.specs.declared.runs.RunLines.{RunLines}
 use Rattle.explain_model.proofs.GrowLemmas.{lines_go_on}
-use Rattle.explain_growth.proofs.Steps.{arrival_stories, cell_run, cell_stories, closed_more, count_none, count_one, delay_stories, no_run, no_stories, none_closed, none_counted, none_open, story_after}
+use Rattle.explain_growth.proofs.Steps.{cell_run, cell_stories, closed_more, count_none, count_one, delay_stories, no_run, no_stories, none_closed, none_counted, none_open}
 use Rattle.explain_growth.specs.Subjects.{Subject, added, ending, reason_lines}
 use Rattle.explain_lines.specs.declared.values.CellWord.{CellWord}
 use Rattle.explain_lines.specs.declared.values.ExplainLine.{ExplainLine}
 use Rattle.explain_lines.specs.declared.values.ExplainLine.TheVariants as line
-use Rattle.explain_model.specs.Cells.{CellRun, closed_lines, closing, entries, open_run, run_lines, run_with, word_of}
-use Rattle.explain_model.specs.Judged.{judged_before}
-use Rattle.explain_model.specs.Sections.{story_lines}
+use Rattle.explain_model.specs.Cells.{CellRun, closed_lines, closing, entries, run_lines, run_with, word_of}
 use Rattle.explain_model.specs.Stories.{Story, arrival_count, stories, told}
 use Rattle.explain_units.proofs.EventLemmas.{others_leave_it}
 use Rattle.explain_units.specs.Units.{IsUnitAfter, frame_lines}
@@ -180,10 +178,6 @@ module _ (s : Subject) (events : List Event) (k : Kept) (e : HasEnded s events k
       → IsUnitAfter Du s.config (events ++ event.Arrival Du at frame ∷ []) u → HaveHeard s.config (stories s.config (events ++ event.Arrival Du at frame ∷ [])) x
       → HasHeard s (events ++ event.Arrival Du at frame ∷ []) (record { number = n; ru = k.ru; du = u; runs = r; records = x; plan = k.plan })
   ended_distributed r u x none noted unit kept = after_distributed s events (record k { runs = e.before }) e.heard at frame n number_is low r none u x (noted_all Du r noted) unit kept
-
-  -- the lines by the number that was given
-  pub number_lines : (side : Side) → frame_lines side s.config events n at.0 frame ≡ lines_at s events side at frame
-  number_lines side = ap (λ (m : ℕ). frame_lines side s.config events m at.0 frame) number_is
 
   -- at either unit
   pub ended_at_ru : (side : Side) → side ≡ Ru → (r : RunLines) (u : UnitLines) (x : HeardRecords) → open_of r ≡ None → HasNoted k.runs.notes (frame_lines side s.config events n at.0 frame) r.notes

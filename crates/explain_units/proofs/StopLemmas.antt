@@ -32,9 +32,6 @@ module _ {W : Type 0} (grew : W → List ExplainLine → W → Type 0) (stopped 
   pub taken : (lines : List ExplainLine) (a c : W) → grew a lines c → StopsSome grew stopped lines a c
   taken lines a c h = Between (record { before = lines; after = []; is = sym (append-nil lines); heard = h })
 
-  pub none_taken : ((a : W) → grew a [] a) → (lines : List ExplainLine) (a : W) → StopsSome grew stopped lines a a
-  none_taken none lines a = Between (record { before = []; after = lines; is = refl; heard = none a })
-
   pub in_one : ((a : W) → grew a [] a) → (line : ExplainLine) (a c : W) → stopped a line c → StopsInLine grew stopped (line ∷ []) a c
   in_one none line a c stop = record { before = []; line = line; after = []; is = refl; middle = a; heard = none a; stop = stop }
 

@@ -31,9 +31,6 @@ use Rattle.generated_documents.proofs.Texts.{all_lines, deliver_line, endpoint_l
 
 -- ---- the lines of the plan
 
-low_one : (n : ℕ) → 1 ≤ 1 + n
-low_one n = omega arith
-
 can_read : (n e : ℕ) → n < 400 → e < 4 → CanRead (plan_line_of n e)
 can_read n e few is = record {
   is = record {

@@ -28,13 +28,6 @@ pub record CanRead (line : PlanLine) : Type 0 where
   pub id : line.id < 2 ^ 16
   pub prbs : line.num_prb < 2 ^ 8
 
-plan_kind : (a b c d : Bool) → a ≡ false → b ≡ false → c ≡ false → (if a then 5 else (if b then 4 else (if c then 3 else (if d then 2 else 1)))) ≤ 2
-plan_kind true b c d h k l = cc
-plan_kind false true c d h k l = cc
-plan_kind false false true d h k l = cc
-plan_kind false false false true h k l = omega arith
-plan_kind false false false false h k l = omega arith
-
 reached_plan : {A B C D E : Type 0} (ms : List A) (is : List B) (ds : List C) (ps : List D) (es : List E) → ms ≡ [] → is ≡ [] → ds ≡ []
     → (if nat_lt 0 (length ms) then 5 else (if nat_lt 0 (length is) then 4 else (if nat_lt 0 (length ds) then 3 else (if nat_lt 0 (length ps) then 2 else (if nat_lt 0 (length es) then 1 else 0))))) ≤ 2
 reached_plan [] [] [] [] [] a b c = omega arith

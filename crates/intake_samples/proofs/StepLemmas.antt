@@ -1,20 +1,13 @@
 -- What an intake's calls say of some history.
-use Rattle.std.proofs.Common.{◌≡◌, ℤ, pos, ◌-ℤ◌, ◌≤ℤ◌, List, [], Result, Ok, Err}
-use Rattle.std.specs.Prelude.{Some, IfOk}
-use Rattle.fh_base.specs.declared.fault.NoMemory.{NoMemory}
+use Rattle.std.proofs.Common.{◌≡◌, ℤ, pos, ◌-ℤ◌, ◌≤ℤ◌, List, []}
+use Rattle.std.specs.Prelude.{Some}
 use Rattle.fh_time.specs.declared.values.Ticks.{Ticks}
 use Rattle.window_config.specs.declared.config.Config.{Config}
-use Rattle.du_intake.specs.unit_model.specs.Standing.{History, nothing_yet}
+use Rattle.du_intake.specs.unit_model.specs.Standing.{History}
 use Rattle.du_intake.specs.unit_model.specs.declared.allocations.Allocation.{Allocation}
 use Rattle.du_intake.specs.history_laws.proofs.TickLemmas.{one_before}
-use Rattle.du_intake.specs.Calls.{IsIntakeDue, IntakeStandsFor}
+use Rattle.du_intake.specs.Calls.{IsIntakeDue}
 use Rattle.du_intake.specs.Units.{intake_due_of}
-use Rattle.du_intake.specs.declared.unit.Intake.{Intake}
-use Rattle.du_intake.specs.Closing.{IntakeStandsForSome}
 
 pub all_before : (c : Config) (ps : List Allocation) (h : History) (at : ℤ) (t : Ticks) → IsIntakeDue c ps h (Some t) → at ≤ℤ t.0 → intake_due_of c ps h (at -ℤ pos 1) ≡ []
 all_before c ps h at t due order = due.before (at -ℤ pos 1) (one_before at t.0 order)
-
-pub stands_some : (c : Config) (ps : List Allocation) (r : Result Intake NoMemory) → IfOk r (λ u. IntakeStandsFor c ps u nothing_yet) → IfOk r IntakeStandsForSome
-stands_some c ps (Ok u) h = record { config = c; planned = ps; history = nothing_yet; stands = h }
-stands_some c ps (Err e) h = tt

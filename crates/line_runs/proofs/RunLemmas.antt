@@ -55,9 +55,6 @@ module _ {T : Type 0} (related : T → T → Bool) (run_line : T → ℕ → Exp
       ≡ lines_of_runs run_line (closed_pieces (pieces related items)) ++ lines_of_runs run_line (as_piece (open_piece (pieces related items)))
   all_lines items = ap (lines_of_runs run_line) ((runs T).split related items) ∙ lines_append (closed_pieces (pieces related items)) (as_piece (open_piece (pieces related items)))
 
-  closed_lines : List T → List ExplainLine
-  closed_lines items = lines_of_runs run_line (closed_pieces (pieces related items))
-
   -- the closed runs of the first items are the first of all
   closed_stay : (items later : List T) → (more : List (List T)) × (closed_pieces (pieces related (items ++ later)) ≡ closed_pieces (pieces related items) ++ more)
   closed_stay items [] = ([], ap (λ xs. closed_pieces (pieces related xs)) (append-nil items) ∙ sym (append-nil (closed_pieces (pieces related items))))

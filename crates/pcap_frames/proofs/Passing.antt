@@ -12,10 +12,6 @@ use Rattle.pcap_frames.proofs.Steps.{next, last, ended}
 use Rattle.pcapng_blocks.specs.declared.values.Interface.{Interface}
 use Rattle.pcapng_blocks.specs.Blocks.{Block}
 
--- at first
-pub start_pass : (whose : Whose) (start : ℕ) (bytes : List ℕ) (o : Opened) → Passes whose start bytes o o.place None o.reading []
-start_pass whose start bytes o = record { first = refl; tests = refl; interfaces = refl }
-
 -- ---- the first time, and the fault, behind what a part may have of a wanted frame
 
 time_by : (fault : Option PcapWhy) (t : ℕ) (found : Option ℕ) (later : ℕ) → found_or fault t ≡ Ok found → t ≡ first_or found later

@@ -1,8 +1,7 @@
 -- From one part to the next.
-use Rattle.std.proofs.Common.{◌≡◌, ℕ, zero, suc, ◌-◌, ◌<◌, ◌≤◌, List, [], ◌∷◌, length, take, drop, Result, Ok, Err, refl, sym, ap, ◌∙◌, arith, Bool, true, false, cond, ltb, Some, None}
+use Rattle.std.proofs.Common.{◌≡◌, ℕ, zero, suc, ◌-◌, ◌<◌, ◌≤◌, List, [], ◌∷◌, length, drop, Result, Ok, Err, refl, ap, ◌∙◌, arith}
 use Rattle.std.proofs.lemmas.List.{drop_all, nil_from_length}
 use Rattle.pcap_frames.specs.declared.refusals.PcapWhy.{PcapWhy}
-use Rattle.pcap_frames.specs.Files.{Recorded, word_of, kept_of, record_of}
 use Rattle.pcap_frames.specs.Parts.{Reading, part_of, after, after_part, behind_first, parts_from}
 use Rattle.pcapng_blocks.specs.Blocks.{Block}
 
@@ -40,17 +39,3 @@ last r (b ∷ bytes) why some e =
 pub ended : (r : Reading) (bytes : List ℕ) → length bytes ≡ 0 → parts_from r 0 bytes ≡ []
 unfolding parts_from
 ended r bytes e = ap (parts_from r 0) (nil_from_length bytes e)
-
--- two tests that passed
-tested_twice : (b c : Bool) (s t : Recorded) → cond b None (cond c None (Some s)) ≡ Some t → (b ≡ false) × (c ≡ false) × (s ≡ t)
-tested_twice true c s t e = absurd cc
-tested_twice false true s t e = absurd cc
-tested_twice false false s t e = (refl, refl, cc)
-
--- the bytes of a record that were kept, as they stand
-pub kept_is : (little : Bool) (bytes : List ℕ) (r : Recorded) → record_of little bytes ≡ Some r → r.packet ≡ take (kept_of little bytes) (drop 16 bytes)
-kept_is little bytes r e =
-    let kept = kept_of little bytes in
-    let whole : Recorded = record { seconds = word_of little bytes; fraction = word_of little (drop 4 bytes); packet = take kept (drop 16 bytes) } in
-    let t = tested_twice (ltb (length bytes) 16) (ltb (length bytes - 16) kept) whole r e in
-    ap (λ s. s.packet) (sym t.2)

@@ -6,7 +6,7 @@ use Rattle.pcap_frames.specs.declared.values.Layout.TheVariants.{Records, Blocks
 use Rattle.pcap_frames.specs.declared.values.Whose.{Whose}
 use Rattle.pcap_frames.specs.declared.walks.Walk.{Walk}
 use Rattle.pcap_frames.specs.declared.refusals.PcapRefusal.{PcapRefusal}
-use Rattle.pcap_frames.specs.Parts.{Reading, part_of, after, parts_from, added, interfaces_in, Opened, opened, interfaces_by, interfaces_of}
+use Rattle.pcap_frames.specs.Parts.{Reading, part_of, after, parts_from, added, interfaces_in, opened, interfaces_by, interfaces_of}
 use Rattle.pcap_frames.specs.Packets.{reading_as}
 use Rattle.pcap_frames.specs.Wanted.{wanted_of, one_before, wanted_from, wanted_through, wanted_frames}
 use Rattle.pcap_frames.specs.Walks.{reading_of, left_in, later_in, IsWalk, Expects, IsBehind}
@@ -122,16 +122,6 @@ added_behind w behind held i size is next rest layout interfaces count =
     (adds_behind w behind i size (subst (λ (h : Held). Expects w h) is next) rest layout interfaces count)
 
 -- ---- at first
-
-pub begun_wanted : (whose : Whose) (bytes rest : List ℕ) (reading : Reading) (o : Opened) → opened bytes ≡ Ok o → rest ≡ drop o.place bytes → reading ≡ o.reading
-    → wanted_from whose (parts_from reading 0 rest) ≡ wanted_frames whose bytes
-begun_wanted whose bytes rest reading o e left is =
-    ap (λ b. wanted_from whose (parts_from reading 0 b)) left ∙ ap (λ r. wanted_from whose (parts_from r 0 (drop o.place bytes))) is ∙ ap (λ r. wanted_through whose r bytes) (sym e)
-
-pub begun_parts : (bytes rest : List ℕ) (reading : Reading) (o : Opened) → opened bytes ≡ Ok o → rest ≡ drop o.place bytes → reading ≡ o.reading
-    → interfaces_in (parts_from reading 0 rest) ≡ interfaces_of bytes
-begun_parts bytes rest reading o e left is =
-    ap (λ b. interfaces_in (parts_from reading 0 b)) left ∙ ap (λ r. interfaces_in (parts_from r 0 (drop o.place bytes))) is ∙ ap (λ r. interfaces_by r bytes) (sym e)
 
 pub refused_wanted : (whose : Whose) (bytes rest : List ℕ) (reading : Reading) (r : PcapRefusal) → opened bytes ≡ Err r → length rest ≡ 0
     → wanted_from whose (parts_from reading 0 rest) ≡ wanted_frames whose bytes

@@ -1,5 +1,5 @@
 -- Numbers of 32 bits, written and read.
-use Rattle.std.proofs.Common.{◌≡◌, ℕ, zero, suc, ◌^◌, ◌<◌, Bool, true, false, List, [], ◌∷◌, ◌++◌, length, drop, arith, refl}
+use Rattle.std.proofs.Common.{◌≡◌, ℕ, zero, suc, ◌^◌, ◌<◌, Bool, true, false, List, [], ◌∷◌, ◌++◌, drop, arith, refl}
 use Rattle.std.specs.Prelude.{All, slice_index}
 use Rattle.std.proofs.lemmas.List.Elements.{All-head, All-tail}
 use Rattle.std.proofs.lemmas.Nat.{from_be_bytes-to_be_bytes_4, from_le_bytes-to_le_bytes_4}
@@ -11,10 +11,6 @@ use Rattle.pcap_laws.specs.Classic.{word_bytes}
 pub word_back : (little : Bool) (n : ℕ) (rest : List ℕ) → n < 2 ^ 32 → word_of little (word_bytes little n ++ rest) ≡ n
 word_back true n rest small = omega (arith, from_le_bytes-to_le_bytes_4 n small)
 word_back false n rest small = omega (arith, from_be_bytes-to_be_bytes_4 n small)
-
-pub word_length : (little : Bool) (n : ℕ) → length (word_bytes little n) ≡ 4
-word_length true n = refl
-word_length false n = refl
 
 pub behind_word : (little : Bool) (n : ℕ) (rest : List ℕ) → drop 4 (word_bytes little n ++ rest) ≡ rest
 behind_word true n rest = refl

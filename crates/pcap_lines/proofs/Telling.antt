@@ -42,10 +42,6 @@ part_pair w v u o p a first second e h part = subst (λ (t : List ℕ). WritesPa
 pub first_part : (w v : Option (List ℕ)) (o all : List ℕ) → o ≡ [] → WritesPart w v (o ++ all) → WritesPart w v all
 first_part w v o all none part = subst (λ (t : List ℕ). WritesPart w v (t ++ all)) none part
 
--- a part of the second of three
-pub part_middle : (w v u : Option (List ℕ)) (o p a first second third : List ℕ) → a ≡ first → Carried w o a v p → WritesPart v u (p ++ second) → WritesPart w u (o ++ (first ++ (second ++ third)))
-part_middle w v u o p a first second third e h part = part_pair w v u o p a first (second ++ third) e h (part_before v u p second third part)
-
 -- the first of two, by what it is
 pub part_named : (w v : Option (List ℕ)) (o a first rest : List ℕ) → a ≡ first → WritesPart w v (o ++ a) → WritesPart w v (o ++ (first ++ rest))
 part_named w v o a first rest e part = part_before w v o first rest (subst (λ (t : List ℕ). WritesPart w v (o ++ t)) e part)

@@ -2,7 +2,7 @@
 use Rattle.std.proofs.Common.{◌≡◌, ℕ, zero, suc, ◌+◌, ◌/◌, ◌%◌, ◌<◌, ◌≤◌, List, [], ◌∷◌, ◌++◌, Bool, true, false, ◌&&◌, ◌||◌, ◌==◌, nat_le, nat_lt, ℤ, pos, negsuc, refl, ap₂, ◌∙◌, arith, codes, decimal}
 use Rattle.std.specs.Prelude.{if◌then◌else◌}
 use Rattle.std.specs.Fmt.{digits_onto, digits, signed_decimal, digit_glyph}
-use Rattle.std.specs.List.{list_all, flat_map}
+use Rattle.std.specs.List.{list_all}
 use Rattle.std.proofs.lemmas.Bool.Decides.{nat_tests}
 use Rattle.std.proofs.lemmas.List.Folds.{list_all-append}
 use Rattle.text_lines.specs.Words.{spaced_text}
@@ -74,10 +74,6 @@ pub each_plain : (text : ℕ → List ℕ) (n : ℕ) → ((k : ℕ) → IsPlain 
 unfolding each
 each_plain text zero p = lit refl
 each_plain text (suc n) p = each_plain text n p ⊕ p n
-
-pub map_plain : {A : Type 0} (f : A → List ℕ) (xs : List A) → ((x : A) → IsPlain (f x)) → IsPlain (flat_map f xs)
-map_plain f [] p = lit refl
-map_plain f (x ∷ xs) p = p x ⊕ map_plain f xs p
 
 -- ---- elements
 

@@ -1,10 +1,9 @@
 -- The blocks that sections of data give a cell, one section after the other.
-use Rattle.std.proofs.Common.{◌≡◌, ℕ, ◌+◌, ◌-◌, ◌<◌, ◌≤◌, Bool, true, false, ◌&&◌, List, [], length, get_or, drop, refl, sym, ap, ◌∙◌, arith}
-use Rattle.std.specs.Prelude.{◌==◌, Option, Some, None, if◌then◌else◌, slice_get, is_some}
+use Rattle.std.proofs.Common.{◌≡◌, ℕ, ◌+◌, ◌-◌, ◌<◌, ◌≤◌, Bool, true, false, ◌&&◌, List, [], length, get_or, drop, refl, ap, ◌∙◌, arith}
+use Rattle.std.specs.Prelude.{◌==◌, Option, Some, None, slice_get, is_some}
 use Rattle.std.proofs.lemmas.List.{at_drop_more, at_drop_all}
-use Rattle.std.proofs.lemmas.Option.{slice_get-get_or, get_or_from_slice_get}
-use Rattle.bfp_codec.specs.declared.samples.Wide.{Wide}
-use Rattle.unit_model.specs.Blocks.{timely, has_all, every_data_cell, data_slot, first_data_prb, data_prb_count, data_covers, block_of, block_in, block_at}
+use Rattle.std.proofs.lemmas.Option.{slice_get-get_or}
+use Rattle.unit_model.specs.Blocks.{timely, has_all, every_data_cell, data_slot, first_data_prb, data_prb_count, data_covers, block_in, block_at}
 use Rattle.unit_model.specs.Claims.{cell_at, is_from, same_way, same_slot}
 use Rattle.unit_model.specs.Lists.{every, or_else}
 use Rattle.unit_model.specs.Sound.{IsSoundData}
@@ -12,7 +11,7 @@ use Rattle.unit_model.specs.declared.cells.Block.{Block}
 use Rattle.unit_model.specs.declared.cells.Cell.{Cell}
 use Rattle.unit_model.specs.declared.decoded.UserSection.{UserSection}
 use Rattle.plain_units.proofs.TestLemmas.{every_begins}
-use Rattle.unit_model.proofs.ClaimLemmas.{within, starts_before}
+use Rattle.unit_model.proofs.ClaimLemmas.{within}
 
 last_holds : (a b c e f : Bool) → (a && (b && (c && (e && f)))) ≡ true → f ≡ true
 last_holds true true true true f h = h
@@ -26,20 +25,8 @@ prbs_cover d cell h =
     last_holds (d.ep == cell.ep) (same_way d.head.down cell.down) (same_slot (data_slot d) cell.slot) (d.section.symbol == cell.symbol)
     (is_from (first_data_prb d) (data_prb_count d) cell.prb) h
 
--- a covered cell's PRB is one of the section's
-pub covered_from : (d : UserSection) (cell : Cell) → data_covers d cell ≡ true → first_data_prb d ≤ cell.prb
-covered_from d cell h = starts_before (first_data_prb d) (data_prb_count d) cell.prb (prbs_cover d cell h)
-
 covered_below : (d : UserSection) (cell : Cell) → data_covers d cell ≡ true → cell.prb - first_data_prb d < data_prb_count d
 covered_below d cell h = within (first_data_prb d) (data_prb_count d) cell.prb (prbs_cover d cell h)
-
--- its block is there, and is the cell's
-pub block_is : (d : UserSection) (cell : Cell) (first : ℕ) (samples : List Wide) → data_covers d cell ≡ true → first ≡ first_data_prb d
-    → slice_get d.blocks (cell.prb - first) ≡ Some samples → Some (record { id = d.section.id; samples = samples }) ≡ block_in d cell
-block_is d cell first samples covered place is =
-    ap (λ (x : List Wide). Some (record { id = d.section.id; samples = x }))
-    (sym (get_or_from_slice_get d.blocks (cell.prb - first) samples [] is) ∙ ap (λ n. get_or d.blocks (cell.prb - n) []) place)
-    ∙ sym (ap (λ b. if b then Some (block_of d cell) else None) covered)
 
 pub block_there : (d : UserSection) (cell : Cell) (first k : ℕ) → IsSoundData d → data_covers d cell ≡ true → first ≡ first_data_prb d → k ≡ cell.prb - first
     → None ≡ slice_get d.blocks k → ⊥
@@ -47,10 +34,6 @@ block_there d cell first k sound covered place is none =
     let inside : k < length d.blocks = omega (arith, covered_below d cell covered, sound.blocks) in
     let e = slice_get-get_or d.blocks k [] inside in
     cc
-
--- a cell that is not covered has none of its
-pub block_none : (d : UserSection) (cell : Cell) → data_covers d cell ≡ false → None ≡ block_in d cell
-block_none d cell h = sym (ap (λ b. if b then Some (block_of d cell) else None) h)
 
 -- what is left of the list, and then what was found before it
 or_else_assoc : {A : Type 0} (x y z : Option A) → or_else (or_else x y) z ≡ or_else x (or_else y z)

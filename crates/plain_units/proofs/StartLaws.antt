@@ -14,7 +14,7 @@ use Rattle.fh_time.specs.Numbering.{slots_of, symbols_of}
 use Rattle.unit_model.specs.Terms.{EndpointConfig}
 use Rattle.unit_model.specs.Claims.{same_slot, same_way, is_from}
 use Rattle.unit_model.specs.Proper.{IsAt, IsProperAllocation}
-use Rattle.plain_units.specs.ClaimedStarts.{HasStarts, IsNotMissed, OfEachSymbol, IsQuiet, is_claimed_way, is_claimed_in, is_of_frame, names_frame, claimed_start}
+use Rattle.plain_units.specs.ClaimedStarts.{IsNotMissed, OfEachSymbol, IsQuiet, is_claimed_way, is_claimed_in, is_of_frame, names_frame, claimed_start}
 use Rattle.unit_model.specs.Starts.{start_at}
 use Rattle.unit_model.specs.Sweeps.{OfSymbol, slot_at, of_slot, of_subframe, of_frame, of_endpoint, of_endpoints, at_tick, sweep}
 use Rattle.unit_model.specs.declared.allocations.Allocation.{Allocation}
@@ -42,9 +42,6 @@ one_allocation_more from down a b xs i d h others before here =
     All-more (OfEachSymbol (IsNotMissed from b) down) xs i d h
     (All-weaker (OfEachSymbol (IsNotMissed from a) down) (OfEachSymbol (IsNotMissed from b) down) (λ x p same y l u. others _ (p same y l u)) (take i xs) before)
     here
-
-pub have_starts : (es : List EndpointConfig) (xs : List Allocation) → All (IsProperAllocation es) xs → All HasStarts xs
-have_starts es xs proper = All-weaker (IsProperAllocation es) HasStarts (λ x p. record { slot = p.slot; within = p.within }) xs proper
 
 -- ---- what is claimed in a symbol
 

@@ -135,9 +135,6 @@ clash_overlaps earlier a ps clear p h =
           (ap (λ (o : Option Claim). is_other a.section o) claim ∙ ap not (eqb_swap m.x.section a.section) ∙ other))
     ])
 
-pub overlap_is : (earlier : List Allocation) (a : Allocation) → AreProper earlier → AreClear earlier → IsProper a → overlaps earlier a ≡ list_any (clash a) earlier
-overlap_is earlier a ps clear p = both_ways _ _ (overlap_clashes earlier a) (clash_overlaps earlier a ps clear p)
-
 pub verdict_is : (earlier : List Allocation) (a : Allocation) → AreProper earlier → AreClear earlier → IsProper a
     → (repeats earlier a || overlaps earlier a) ≡ list_any (clash a) earlier
 verdict_is earlier a ps clear p = both_ways _ _

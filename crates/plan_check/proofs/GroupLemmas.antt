@@ -1,15 +1,14 @@
 -- The least of what the slots refuse, and a slot's lines as a list of their own.
-use Rattle.std.proofs.Common.{◌≡◌, ℕ, ◌+◌, ◌<◌, ◌≤◌, ◌⊎◌, inl, inr, Bool, true, false, nat_lt, if◌then◌else◌, List, [], ◌∷◌, map, filter, Option, Some, None, refl, ap, sym, ◌∙◌, subst, arith}
+use Rattle.std.proofs.Common.{◌≡◌, ℕ, ◌+◌, ◌<◌, ◌≤◌, ◌⊎◌, inl, inr, Bool, true, false, nat_lt, if◌then◌else◌, List, [], ◌∷◌, map, filter, Option, Some, None, refl, ap, sym, ◌∙◌, arith}
 use Rattle.std.proofs.lemmas.Bool.{lt-ltb, le-ltb}
 use Rattle.fh_time.specs.declared.values.Slot.{Slot}
 use Rattle.slot_rings.specs.unit_model.specs.declared.allocations.Allocation.{Allocation}
 use Rattle.plan_parts.specs.fragment_laws.specs.Apart.{IsIn}
-use Rattle.plan_parts.specs.plan_model.specs.Validity.{why_claimed, refused_at}
+use Rattle.plan_parts.specs.plan_model.specs.Validity.{refused_at}
 use Rattle.plan_parts.specs.plan_model.specs.declared.refusals.PlanWhy.{PlanWhy}
 use Rattle.plan_parts.specs.plan_model.specs.Lines.{line_allocation}
 use Rattle.plan_parts.specs.plan_model.specs.declared.lines.PlannedLine.{PlannedLine}
-use Rattle.plan_check.specs.Slots.{AreProper, why_judged, refused_along, refused_in, is_of_slot, IsFrom, lesser_refusal, numbered_lines, refused_of, entry_of, judged, of_home, judged_in, least_along}
-use Rattle.plan_check.proofs.SlotLemmas.{least_is}
+use Rattle.plan_check.specs.Slots.{why_judged, refused_in, is_of_slot, IsFrom, lesser_refusal, numbered_lines, refused_of, entry_of, judged, of_home, judged_in, least_along}
 
 -- ---- the lesser of two
 
@@ -120,18 +119,3 @@ from_none (Some q) h = absurd h
 pub from_nothing : (x : Option (ℕ × PlanWhy)) → IsFrom x None
 from_nothing None = tt
 from_nothing (Some p) = tt
-
--- where all slots of the lines are looked at, each by itself, the least of what they refuse is the first line that is refused
-pub slots_find : (ps qs : List PlannedLine) → map entry_of ps ≡ numbered_lines 0 (map line_allocation ps) → AreProper (map line_allocation ps)
-    → ((p : PlannedLine) → IsIn p ps → IsIn p qs) → least_along ps None qs ≡ refused_along why_claimed [] 0 (map line_allocation ps)
-slots_find ps qs placed proper all =
-    let l = least_is (map line_allocation ps) proper in
-    let r : Option (ℕ × PlanWhy) = refused_along why_claimed [] 0 (map line_allocation ps) in
-    let from : (q : PlannedLine) → IsFrom r (judged_in ps q) = λ q. subst (IsFrom r) (sym (judged_is ps q.ep q.line.slot placed)) (l.none_before q.ep q.line.slot) in
-    elim l.is_one [
-      | inl none ↦ from_none (least_along ps None qs) (subst (λ (x : Option (ℕ × PlanWhy)). IsFrom x (least_along ps None qs)) none (along_from ps r from None qs (from_nothing r))) ∙ sym none
-      | inr w ↦
-          let q = some_line ps w.0 w.1 in
-          along_one ps r from None qs q.0 (from_nothing r) (all q.0 q.1)
-          (judged_is ps q.0.ep q.0.line.slot placed ∙ ap (λ (a : Allocation). refused_in why_judged a.ep a.slot [] 0 (map line_allocation ps)) q.2 ∙ w.2)
-    ]

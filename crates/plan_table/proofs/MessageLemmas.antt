@@ -1,7 +1,7 @@
 -- The parts of a message among those of its stream.
-use Rattle.std.proofs.Common.{◌≡◌, ℕ, zero, suc, ◌+◌, ◌-◌, ◌<◌, ◌≤◌, inl, inr, Bool, true, false, if◌then◌else◌, List, [], ◌∷◌, ◌++◌, length, map, take, drop, drop-cons, get_or, append_assoc, refl, ap, ap₂, sym, ◌∙◌, subst, arith}
+use Rattle.std.proofs.Common.{◌≡◌, ℕ, zero, suc, ◌+◌, ◌-◌, ◌<◌, ◌≤◌, inl, inr, Bool, true, false, if◌then◌else◌, List, [], ◌∷◌, ◌++◌, length, map, take, drop, get_or, append_assoc, refl, ap, ap₂, sym, ◌∙◌, subst, arith}
 use Rattle.std.proofs.Math.Seq.{take-append_seam, drop-append-add}
-use Rattle.std.proofs.lemmas.List.{append-nil, drop_all, length-append, length-map, take-map, drop-map}
+use Rattle.std.proofs.lemmas.List.{length-append, length-map, take-map, drop-map}
 use Rattle.window_config.specs.declared.config.Config.{Config}
 use Rattle.window_config.specs.declared.endpoints.EndpointConfig.{EndpointConfig}
 use Rattle.fragment_laws.specs.Apart.{IsIn}
@@ -10,24 +10,12 @@ use Rattle.plan_runs.specs.plan_model.specs.Streams.{Part, frames_in, messages_o
 use Rattle.plan_runs.specs.plan_model.specs.declared.lines.PlannedLine.{PlannedLine}
 use Rattle.plan_runs.specs.plan_model.specs.declared.streams.Stream.{Stream}
 use Rattle.plan_runs.specs.plan_parts.specs.Parts.{timed}
-use Rattle.plan_runs.specs.plan_parts.specs.declared.parts.TimedPart.{TimedPart}
 use Rattle.plan_runs.specs.Runs.{first_sections, stream_begins}
 use Rattle.plan_table.specs.Kept.{placed_line_of, placed_line, IsStreamParts, message_in, HasMessage}
 use Rattle.plan_table.specs.declared.kept.PlacedLine.{PlacedLine}
 use Rattle.plan_table.specs.declared.kept.StreamParts.{StreamParts}
 
 -- ---- what is kept of parts
-
-pub placed_more : (parts : List TimedPart) (i : ℕ) (p : TimedPart) (x : PlacedLine) (before new : List PlacedLine) → i < length parts → p ≡ get_or parts i p → x ≡ placed_line_of p
-    → before ++ map placed_line_of (drop i parts) ≡ map placed_line_of parts → new ≡ before ++ x ∷ [] → new ++ map placed_line_of (drop (i + 1) parts) ≡ map placed_line_of parts
-placed_more parts i p x before new below is x_is so_far new_is =
-    let e : suc i ≡ i + 1 = omega arith in
-    let here : drop i parts ≡ p ∷ drop (i + 1) parts = drop-cons parts i p below ∙ ap₂ (λ (y : TimedPart) (n : ℕ). y ∷ drop n parts) (sym is) e in
-    ap (λ (xs : List PlacedLine). xs ++ map placed_line_of (drop (i + 1) parts)) (new_is ∙ ap (λ (y : PlacedLine). before ++ y ∷ []) x_is)
-    ∙ append_assoc before (placed_line_of p ∷ []) (map placed_line_of (drop (i + 1) parts)) ∙ ap (λ (xs : List TimedPart). before ++ map placed_line_of xs) (sym here) ∙ so_far
-
-pub placed_end : (parts : List TimedPart) (i : ℕ) (all : List PlacedLine) → length parts ≤ i → all ++ map placed_line_of (drop i parts) ≡ map placed_line_of parts → all ≡ map placed_line_of parts
-placed_end parts i all end h = sym (append-nil all) ∙ ap (λ (xs : List TimedPart). all ++ map placed_line_of xs) (sym (drop_all i parts end)) ∙ h
 
 pub lines_are : (stream : Stream) (ps : List Part) → map placed_line_of (map (timed stream) ps) ≡ map placed_line ps
 lines_are stream [] = refl

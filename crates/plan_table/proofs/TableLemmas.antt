@@ -56,13 +56,6 @@ pub record IsFilled (c : Config) (ps : List PlannedLine) (ep : ℕ) (streams : L
   pub each : (stream : Stream) (i : ℕ) (e : EndpointConfig) → stream_place stream < 3 → IsAt c.endpoints i e → i < ep → IsKeptInTable c ps stream i e streams
   pub rest : runs ++ runs_from c ps ep (drop ep c.endpoints) ≡ runs_of c ps
 
-pub filled_start : (c : Config) (ps : List PlannedLine) (streams : List StreamParts) (runs : List Run) → streams ≡ [] → runs ≡ [] → IsFilled c ps 0 streams runs
-filled_start c ps streams runs none nothing = record {
-  count = ap length none;
-  each = λ stream i e s at below. absurd (omega (arith, below));
-  rest = ap (λ (rs : List Run). rs ++ runs_from c ps 0 c.endpoints) nothing;
-}
-
 module _ (c : Config) (ps : List PlannedLine) (ep : ℕ) (old new : List StreamParts) (count : length old ≡ 3 * ep) (e : EndpointConfig) (adds : AddsEndpoint c ps ep e old new) where
   abbrev added : List StreamParts
   added = adds.down_commands ∷ adds.up_commands ∷ adds.down_data ∷ []

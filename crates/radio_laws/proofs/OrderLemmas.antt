@@ -1,27 +1,24 @@
 -- The order in which symbols are told, and what is left once the first of them was reported.
-use Rattle.std.proofs.Common.{◌≡◌, ℕ, zero, suc, ℤ, ◌+◌, ◌<◌, ◌≤◌, Bool, true, false, not, ◌&&◌, ◌||◌, ◌==◌, List, [], ◌∷◌, refl, sym, ap, ◌∙◌, subst, arith, inl, inr}
-use Rattle.std.specs.Prelude.{if◌then◌else◌}
-use Rattle.std.specs.List.{list_any}
-use Rattle.std.proofs.lemmas.Bool.{cases_Bool, eq-eqb, both_ways}
+use Rattle.std.proofs.Common.{◌≡◌, ℕ, zero, suc, ℤ, ◌+◌, ◌<◌, ◌≤◌, Bool, true, false, not, ◌&&◌, ◌||◌, ◌==◌, List, refl, sym, ap, ◌∙◌, subst, arith, inl, inr}
+use Rattle.std.proofs.lemmas.Bool.{cases_Bool, both_ways}
 use Rattle.unit_model.specs.Claims.{cell_at}
 use Rattle.unit_model.specs.Proper.{IsAt}
 use Rattle.fh_time.specs.declared.values.Slot.{Slot}
 use Rattle.air_source.specs.declared.events.AirCell.{AirCell}
-use Rattle.air_source.specs.declared.events.Side.TheVariants.{Ru}
 use Rattle.window_config.specs.declared.endpoints.EndpointConfig.{EndpointConfig}
 use Rattle.unit_model.specs.Lists.{some}
 use Rattle.unit_model.specs.Order.{comes_before}
-use Rattle.unit_model.specs.Radiated.{air_cell, used_mask}
+use Rattle.unit_model.specs.Radiated.{used_mask}
 use Rattle.unit_model.specs.declared.cells.Cell.{Cell}
 use Rattle.unit_model.specs.declared.symbol_start.SymbolStart.{SymbolStart}
 use Rattle.unit_laws.proofs.FarLemmas.{endpoints_equal}
 use Rattle.history_laws.proofs.UnitLemmas.{small_is}
 use Rattle.history_laws.proofs.BeforeLemmas.{IsSamePlace, same_place}
 use Rattle.slot_rings.specs.Places.{is_due}
-use Rattle.unit_cells.specs.Cells.{CellsValue, cells_block, cells_claim, cells_reported, endpoints_of}
-use Rattle.ru_reports.specs.Symbols.{ReportsTold, cell_in, is_left, is_told, left_at, left_told}
+use Rattle.unit_cells.specs.Cells.{CellsValue, cells_claim, cells_reported, endpoints_of}
+use Rattle.ru_reports.specs.Symbols.{ReportsTold, cell_in, is_left, is_told, left_at}
 use Rattle.symbol_search.specs.Symbols.{IsSymbol}
-use Rattle.ru_reports.proofs.AfterLemmas.{left_after, any_each as any_in_each}
+use Rattle.ru_reports.proofs.AfterLemmas.{left_after}
 use Rattle.ru_reports.proofs.ReportedLemmas.{symbol_cell}
 use Rattle.radio_laws.specs.Reporting.{IsFirstLeft, IsLeftAfter}
 use Rattle.unit_laws.proofs.ReportLemmas.{used_same}
@@ -54,11 +51,6 @@ due_mono false true told new e h = absurd (no new told e h)
     no false t e h = cc
 due_mono false false told new e h = refl
 
-due_over : (none old told new : Bool) → new ≡ (old || told) → (none ≡ false → old ≡ false → told ≡ true) → (not none && not new) ≡ false
-due_over true old told new e h = refl
-due_over false true told new e h = rw e refl
-due_over false false told new e h = rw e (rw (h refl refl) refl)
-
 used_is : (old new : CellsValue) (cell : Cell) → ((re : ℕ) → cells_claim new cell re ≡ cells_claim old cell re) → used_mask (cells_claim new cell) ≡ used_mask (cells_claim old cell)
 used_is old new cell same = used_same (cells_claim new cell) (cells_claim old cell) 12 (λ re below. same re)
 
@@ -81,21 +73,6 @@ module _ (m : SymbolStart) (told : List AirCell) (old new : CellsValue) (reports
             (reports.reports (cell_in x prb) (symbol_cell old x prb was (small_is prb x.endpoint.prbs below)) refl)
             (ap (λ (u : ℕ). not (u == 0) && not (cells_reported new (cell_in x prb))) (sym (used_is old new (cell_in x prb) (reports.known.claims (cell_in x prb)))) ∙ due)) h,
       )
-
--- nothing is left of a symbol that was reported
-one_told : (none reported_so : Bool) (a : AirCell) (prb : ℕ) → none ≡ false → reported_so ≡ false → a.prb ≡ prb
-    → list_any (λ x. x.prb == prb) (if reported_so then [] else (if none then [] else a ∷ [])) ≡ true
-one_told true reported_so a prb h k e = absurd cc
-one_told false true a prb h k e = absurd cc
-one_told false false a prb h k e = rw (eq-eqb a.prb prb e) refl
-
-told_at : (v : CellsValue) (m : SymbolStart) (prb : ℕ) → prb < m.endpoint.prbs → (used_mask (cells_claim v (cell_in m prb)) == 0) ≡ false
-    → cells_reported v (cell_in m prb) ≡ false → list_any (λ a. a.prb == prb) (left_at v m) ≡ true
-unfolding left_at
-told_at v m prb below used unreported_so =
-    any_in_each (λ a. a.prb == prb) 0 m.endpoint.prbs (left_told v m) prb (omega arith) (omega arith)
-    (one_told (used_mask (cells_claim v (cell_in m prb)) == 0) (cells_reported v (cell_in m prb))
-    (air_cell Ru m.endpoint (cell_in m prb) m.start.0 (cells_claim v (cell_in m prb)) (cells_block v (cell_in m prb))) prb used unreported_so refl)
 
 -- the same symbol, by its place
 abbrev due_at : CellsValue → SymbolStart → ℕ → Slot → ℕ → Bool

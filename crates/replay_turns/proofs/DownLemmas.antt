@@ -38,7 +38,8 @@ use Rattle.unit_moments.specs.Made.{made_as}
 use Rattle.replay_turns.specs.Down.{HasLandedDown, HasSentDown, WaitsDown, left_down}
 use Rattle.replay_turns.specs.Waiting.{LandsAfter, Waits, on_way}
 use Rattle.replay_turns.proofs.LeavingLemmas.{leaving_lands_after}
-use Rattle.replay_turns.proofs.OrderLemmas.{all_begun, left_short, sent_less}
+use Rattle.frame_sending.proofs.OrderLemmas.{sent_less}
+use Rattle.replay_turns.proofs.OrderLemmas.{all_begun, left_short}
 use Rattle.replay_turns.proofs.WayLemmas.{all_go_out, waits_until}
 
 pub plan_of : (d : Document) (now : ℤ) (p : Plan) (w : Way) → WaitsDown d now p w → IsPlan p

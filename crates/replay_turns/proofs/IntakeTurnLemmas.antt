@@ -10,8 +10,7 @@ use Rattle.du_intake.specs.Calls.{IntakeStandsFor}
 use Rattle.du_intake.specs.Units.{intake_due_of}
 use Rattle.du_intake.specs.declared.unit.Intake.{Intake}
 use Rattle.measured_traffic.specs.fh_document.specs.declared.document.Document.{Document}
-use Rattle.measured_traffic.specs.Doings.{Doings}
-use Rattle.measured_traffic.specs.Replayed.{begun, doings_at, landings_for, results_at, traffic_of}
+use Rattle.measured_traffic.specs.Replayed.{begun, landings_for, results_at, traffic_of}
 use Rattle.measured_traffic.proofs.ReplayedLemmas.{landings_are_replayed}
 use Rattle.replay_turns.specs.Turns.{events_before, intake_events, radio_events}
 use Rattle.replay_turns.proofs.StepLemmas.{AreEventsOf, arrivals_stay, cells_own, cells_stay, next_events, radio_own}
@@ -104,12 +103,6 @@ due_here d tick h xs doc turn ended came =
     let c = d.config in
     ap₂ (λ (xs : List Arrival) (rs : List AirCell). due Du c.delays c.endpoints (du_known c (planned_for d) xs) rs tick) (came ∙ came_here d tick h turn) turn.reported
     ∙ due_at_moment Du c (traffic_of d) tick tick (moment_here d tick doc turn.begun turn.ended) ended
-
--- ---- its events
-
--- what the unit has of delay measurement once the tick's measurements have begun
-abbrev pub begun_at : Document → ℤ → Doings
-begun_at d tick = begun d Du tick (doings_at d Du tick)
 
 -- ---- over the moment
 

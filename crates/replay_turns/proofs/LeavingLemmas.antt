@@ -25,22 +25,9 @@ ticks_all P now from (suc n) g order each =
 same_from : (now t at : ℤ) → now ≤ℤ t → int_eq at t ≡ true → now ≤ℤ at
 same_from now t at order is = subst (λ (z : ℤ). now ≤ℤ z) (sym ((Decides-int_eq at t).0 is)) order
 
-then_from : (ls : List Leaving) (now t : ℤ) → now ≤ℤ t → All (λ (f : Leaving). now ≤ℤ f.at) (filter (λ (f : Leaving). int_eq f.at t) ls)
-then_from ls now t order =
-    let p = λ (f : Leaving). int_eq f.at t in All-weaker (λ (f : Leaving). p f ≡ true) (λ (f : Leaving). now ≤ℤ f.at) (λ f is. same_from now t f.at order is) (filter p ls) (filter_passes p ls)
-
 flights_from : (fs : List Flight) (now t : ℤ) → now ≤ℤ t → All (λ (f : Flight). now ≤ℤ f.at) (flights_then fs t)
 flights_from fs now t order =
     let p = λ (f : Flight). int_eq f.at t in All-weaker (λ (f : Flight). p f ≡ true) (λ (f : Flight). now ≤ℤ f.at) (λ f is. same_from now t f.at order is) (filter p fs) (filter_passes p fs)
-
--- none of it leaves before the tick
-pub leaves_from : (fs : List Flight) (now : ℤ) (ls : List Leaving) → All (λ (f : Leaving). now ≤ℤ f.at) (leaving_from ls fs now)
-unfolding leaving_from
-leaves_from fs now ls =
-    let P = λ (f : Leaving). now ≤ℤ f.at in
-    ticks_all P now now (int_gap now (end_of_time +ℤ pos 1)) (leaving_then ls fs) (≤ℤ_refl now)
-    (λ t order.
-    All-append P (filter (λ (f : Leaving). int_eq f.at t) ls) (map leaving_flight (flights_then fs t)) (then_from ls now t order) (All-map P leaving_flight (flights_then fs t) (flights_from fs now t order)))
 
 -- where the others leave after the tick, all of it lands after the tick
 pub leaving_lands_after : (fs : List Flight) (tick : ℤ) (ls : List Leaving) → All (λ (f : Leaving). tick <ℤ f.at) ls → All (LandsAfter tick) (leaving_from ls fs tick)

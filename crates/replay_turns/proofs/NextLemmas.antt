@@ -28,7 +28,7 @@ use Rattle.measured_traffic.specs.Turns.{IsQuietBetween}
 use Rattle.measured_traffic.proofs.LeaveLemmas.{leaving_waits}
 use Rattle.measured_traffic.proofs.ReplayedLemmas.{landings_are_replayed}
 use Rattle.measured_traffic.proofs.TurnLemmas.{flights_wait}
-use Rattle.replay_turns.proofs.OrderLemmas.{sent_less}
+use Rattle.frame_sending.proofs.OrderLemmas.{sent_less}
 use Rattle.frame_sending.specs.Due.{AreSentFrom}
 use Rattle.du_scheduler.specs.declared.plans.Plan.{Plan}
 use Rattle.uplink_path.specs.declared.uplink.Uplink.{Uplink}

@@ -7,7 +7,6 @@ use Rattle.std.proofs.lemmas.Int.{ints}
 use Rattle.std.proofs.lemmas.List.Elements.{All-cons, All-head, All-nil}
 use Rattle.std.proofs.lemmas.Option.{same_Some}
 use Rattle.air_source.specs.declared.events.Side.TheVariants.{Ru as AtRu}
-use Rattle.fh_time.proofs.Orders.{at_most}
 use Rattle.fh_time.specs.Least.{IsLeastOf}
 use Rattle.fh_time.specs.declared.values.Ticks.{Ticks}
 use Rattle.frame_deliveries.specs.Leaving.{Leaving}
@@ -20,10 +19,8 @@ use Rattle.du_scheduler.specs.plan_model.proofs.ListLemmas.{all_of, in_right, of
 use Rattle.du_scheduler.specs.plan_model.specs.Lines.{planned}
 use Rattle.du_scheduler.specs.plan_model.specs.Sent.{SentFrame, frames_from, sent}
 use Rattle.du_scheduler.specs.schedule_laws.proofs.ListLemmas.{in_all, in_map, of_tick}
-use Rattle.du_scheduler.specs.schedule_laws.proofs.OrderLemmas.{IsRising}
 use Rattle.du_scheduler.specs.sent_order.proofs.BoundLemmas.{IsInTime, all_in_time}
 use Rattle.du_scheduler.specs.sent_order.specs.Runs.{turn_of}
-use Rattle.measured_traffic.specs.document_traffic.proofs.OrderLemmas.{leaving, rising_behind, sent_rising}
 use Rattle.measured_traffic.specs.document_traffic.proofs.ShortLemmas.{are_short}
 use Rattle.measured_traffic.specs.document_traffic.specs.Landing.{leaving_to}
 use Rattle.measured_traffic.specs.document_traffic.specs.Laws.{IsReplayable}
@@ -35,6 +32,7 @@ use Rattle.measured_traffic.specs.unit_model.specs.Radiated.{first_clock}
 use Rattle.measured_traffic.specs.unit_model.specs.Times.{end_of_time}
 use Rattle.window_config.specs.declared.config.Config.{Config}
 use Rattle.window_config.specs.declared.plan.PlanLine.{PlanLine}
+use Rattle.frame_sending.proofs.OrderLemmas.{first_is_least, sent_less}
 
 -- ---- each is sent at a time that is gone over
 
@@ -65,14 +63,6 @@ left_short d p left doc h =
     (in_map (leaving_of d) f (sent_for d) (is_sent d.config d.plan p f left h m)))
 
 -- ---- none leaves before the first one
-
-first_is_least : (c : Config) (lines : List PlanLine) (p : Plan) (f : SentFrame) (left : List SentFrame) → HasToSend c lines (f ∷ left) p → AreSentFrom f.at left
-first_is_least c lines p f left h =
-    let rising = subst (IsRising leaving) h.all (sent_rising c (planned c.endpoints lines)) in
-    all_of (λ (g : SentFrame). f.at ≤ℤ g.at) left (λ g m. (rising_behind leaving h.given (f ∷ left) rising).0 g m)
-
-pub sent_less : (a b : ℤ) (fs : List SentFrame) → a ≤ℤ b → AreSentFrom b fs → AreSentFrom a fs
-sent_less a b fs order h = λ k d lt. at_most a b _ order (h k d lt)
 
 not_past : (t : ℤ) → (t +ℤ pos 1) ≤ℤ t → ⊥
 not_past t h = omega (arith, ints, h)

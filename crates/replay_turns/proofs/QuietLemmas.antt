@@ -26,7 +26,7 @@ use Rattle.measured_traffic.specs.unit_model.specs.Meetings.{Arrival}
 use Rattle.measured_traffic.specs.unit_model.specs.Radiated.{first_clock}
 use Rattle.replay_turns.specs.Waiting.{LandsAfter, Waits, on_way}
 use Rattle.replay_turns.proofs.LeavingLemmas.{leaving_lands_after}
-use Rattle.replay_turns.proofs.WayLemmas.{lands_at, waits_until}
+use Rattle.replay_turns.proofs.WayLemmas.{lands_at}
 
 -- the ways to both units at a tick, and the frames of the classes c and u that are still to be sent: before another tick none of these
 -- leaves, none that is on its way lands, and no measurement begins
@@ -82,12 +82,3 @@ quiet_until flights d now tick left ways ready begun order ended s =
           calm_more (landings_for side d) now t (quiet.calm side)
           (calm_then flights d now tick t left ways ready begun low high (at_most t tick (end_of_time +ℤ pos 1) (weak t tick high) ended) s quiet side);
     })
-
--- and the ways stand at it with the same still to be sent
-pub both_wait : FlightsWait → (d : Document) (now tick : ℤ) (left : Side → List Leaving) (ways : Side → Way) → IsReplayable d → first_clock ≤ℤ now
-    → now ≤ℤ tick → tick ≤ℤ (end_of_time +ℤ pos 1) → AreSilent d now tick left ways → (side : Side) → Waits d side tick (leaving_with side d (left side) tick) (ways side)
-both_wait flights d now tick left ways ready begun order ended s side =
-    let ls = left side in
-    let quiet = quiet_until flights d now tick left ways ready begun order ended s in
-    subst (λ (fs : List Leaving). Waits d side tick fs (ways side)) (left_same flights d side now tick ls ready begun order ended (s.later side) quiet)
-    (waits_until d side now tick (leaving_with side d ls now) (ways side) (s.waits side) order (s.empty side))

@@ -24,7 +24,7 @@ use Rattle.measured_traffic.specs.replay_events.specs.history_laws.proofs.ListLe
 use Rattle.unit_moments.specs.Landing.{HasTaken, told_of_frames}
 use Rattle.ru_buffers.specs.Calls.{RadioMayTake}
 use Rattle.measured_traffic.specs.document_delays.specs.Settings.{compensation_of}
-use Rattle.unit_moments.specs.Stops.{HaltsBehind, RestsBehind, StopsBehind}
+use Rattle.unit_moments.specs.Stops.{HaltsBehind, StopsBehind}
 use Rattle.replay_turns.specs.Turns.{IsRadioInStep, IsRadioTurn, events_before, radio_events}
 use Rattle.unit_moments.proofs.StopLemmas.{halts_behind, halts_moved, stops_behind, stops_moved}
 use Rattle.replay_turns.proofs.TurnLemmas.{due_here}
@@ -90,19 +90,6 @@ stops_due grew stopped d tick h u a b doc turn ended s =
       stop = s.stop;
       step_is = cells_step d tick h (heard h s.told) s.told u turn own s.stands refl refl;
     }
-
--- memory ran out behind the cells
-pub rests_due : {A : Type 0} (grew : A → List Event → A → Type 0) (d : Document) (tick : ℤ) (h : History) (u : Ru) (a b : A)
-    → IsReplayable d → IsRadioTurn d tick h → tick ≤ℤ end_of_time → grew a (map Cell (due_of d.config h tick)) b
-    → StandsFor d.config u (at_clock (heard h (due_of d.config h tick)) tick)
-    → RestsBehind grew (InStep d u) (events_before d tick) (radio_events d tick) a b
-rests_due grew d tick h u a b doc turn ended first stands = record {
-  told = map Cell (due_of d.config h tick);
-  rest = told_at d tick;
-  is = events_are d tick h doc turn ended;
-  heard = first;
-  step_is = cells_step d tick h (at_clock (heard h (due_of d.config h tick)) tick) (due_of d.config h tick) u turn (due_own d tick h) stands refl refl;
-}
 
 -- ---- while frames land
 

@@ -4,13 +4,12 @@ use Rattle.std.specs.Prelude.{if◌then◌else◌}
 use Rattle.std.specs.Ordering.{int_eq}
 use Rattle.std.proofs.lemmas.Int.{ints}
 use Rattle.std.proofs.lemmas.Bool.Decides.{Decides-int_eq}
-use Rattle.std.proofs.lemmas.List.Elements.{All-head, All-tail, All-weaker}
-use Rattle.std.specs.Int.Signed.{<ℤ-≤ℤ_trans}
+use Rattle.std.proofs.lemmas.List.Elements.{All-head, All-tail}
 use Rattle.air_source.specs.declared.events.Side.{Side}
 use Rattle.fh_time.proofs.Orders.{next_order}
 use Rattle.frame_deliveries.specs.Landing.{copies_among, copies_in, injected_to, landing_at, landing_with}
 use Rattle.frame_deliveries.specs.Leaving.{Delayed, Leaving, SentCounts, counted, counted_all, delayed, delayed_behind, none_sent}
-use Rattle.frame_ways.specs.Ways.{IsCalmTo, LandsFrom, StandsFor, document_of, having_sent, having_sent_all, landings_on, nothing_sent}
+use Rattle.frame_ways.specs.Ways.{IsCalmTo, LandsFrom, StandsFor, document_of, having_sent_all, landings_on, nothing_sent}
 use Rattle.frame_ways.specs.declared.way.Way.{Way}
 use Rattle.frame_ways.proofs.ComingLemmas.{all_come}
 use Rattle.frame_ways.proofs.FlightLemmas.{landing-append}
@@ -20,7 +19,6 @@ use Rattle.frame_ways.proofs.TimeLemmas.{stands_until}
 use Rattle.measured_traffic.specs.Replayed.{all_leaving, landings_for}
 use Rattle.measured_traffic.specs.fh_document.specs.Proper.{IsDocument}
 use Rattle.measured_traffic.specs.fh_document.specs.declared.document.Document.{Document}
-use Rattle.measured_traffic.specs.replay_events.specs.Passing.{IsCalm}
 use Rattle.measured_traffic.specs.unit_model.specs.Meetings.{Arrival}
 use Rattle.measured_traffic.specs.unit_model.specs.Radiated.{first_clock}
 use Rattle.replay_turns.specs.Waiting.{LandsAfter, Waits, on_way}
@@ -32,10 +30,6 @@ clock_early = omega (arith, ints)
 
 pub starts : (d : Document) (side : Side) (w : Way) → ((now : ℤ) → now ≤ℤ pos 0 → StandsFor (nothing_sent d side) now w) → Waits d side first_clock (all_leaving side d) w
 starts d side w made = record { sent = []; all = refl; stands = made first_clock clock_early }
-
-pub goes_out : (d : Document) (side : Side) (now : ℤ) (f : Leaving) (left : List Leaving) (w x : Way) → (h : Waits d side now (f ∷ left) w)
-    → StandsFor (having_sent (on_way d side h.sent) f) now x → Waits d side now left x
-goes_out d side now f left w x h stands = record { sent = h.sent ++ f ∷ []; all = append_assoc h.sent (f ∷ []) left ∙ h.all; stands = stands }
 
 -- and so do several, one after the other, where these are the first of all that is still to be sent
 pub all_go_out : (d : Document) (side : Side) (now : ℤ) (gone left whole : List Leaving) (w x : Way) → (h : Waits d side now whole w) → whole ≡ gone ++ left
@@ -97,12 +91,6 @@ lands_at d side t sent left doc all later =
 
 -- ---- the time before a tick
 
-last_is : (tick t : ℤ) → t ≤ℤ (tick -ℤ pos 1) → (t +ℤ pos 1) ≤ℤ tick
-last_is tick t h = omega (arith, ints, h)
-
-before_last : (tick t : ℤ) → (t +ℤ pos 1) ≤ℤ tick → t ≤ℤ (tick -ℤ pos 1)
-before_last tick t h = omega (arith, ints, h)
-
 next_is : (tick : ℤ) → (tick -ℤ pos 1) +ℤ pos 1 ≡ tick
 next_is tick = omega (arith, ints)
 
@@ -117,10 +105,3 @@ waits_until d side now tick left w h order calm =
       stands = subst (λ (t : ℤ). StandsFor v t w) (next_is tick)
           (stands_until v now (tick -ℤ pos 1) w h.stands (subst (λ (t : ℤ). now ≤ℤ t) (sym (next_is tick)) order) calm);
     }
-
--- and where nothing leaves before it either, nothing lands before it
-pub calm_until : (d : Document) (side : Side) (now tick : ℤ) (left : List Leaving) (w : Way) → IsDocument d → (h : Waits d side now left w)
-    → IsCalmTo (landings_on (on_way d side h.sent)) now (tick -ℤ pos 1) → All (λ (f : Leaving). tick ≤ℤ f.at) left → IsCalm (landings_for side d) now tick
-calm_until d side now tick left w doc h calm later t low high =
-    sym (lands_at d side t h.sent left doc h.all (All-weaker (λ (f : Leaving). tick ≤ℤ f.at) (LandsAfter t) (λ f due. inl (<ℤ-≤ℤ_trans high due)) left later))
-    ∙ calm t low (before_last tick t (next_after t tick high))

@@ -1,8 +1,8 @@
 -- For callers: what is left after cells of a symbol were reported.
-use Rattle.std.proofs.Common.{◌≡◌, ℕ, zero, suc, ◌+◌, ◌<◌, ◌≤◌, ◌==◌, Bool, true, false, not, ◌&&◌, inl, inr, List, refl, sym, ap, ap₂, ◌∙◌, arith, Option}
+use Rattle.std.proofs.Common.{◌≡◌, ℕ, zero, suc, ◌+◌, ◌<◌, ◌≤◌, ◌==◌, Bool, true, false, not, ◌&&◌, inl, inr, List, refl, sym, ap, ◌∙◌, arith, Option}
 use Rattle.std.specs.Prelude.{◌||◌}
 use Rattle.std.specs.List.{list_any}
-use Rattle.std.proofs.lemmas.Bool.{and_from, and_parts, cases_Bool, cases_eq, eq-eqb, eqb-true, false_from_ne_true}
+use Rattle.std.proofs.lemmas.Bool.{and_from, cases_Bool, cases_eq, eq-eqb}
 use Rattle.std.proofs.lemmas.List.Folds.{list_any-append}
 use Rattle.air_source.specs.declared.events.AirCell.{AirCell}
 use Rattle.air_source.specs.declared.events.Side.TheVariants.{Ru}
@@ -11,56 +11,21 @@ use Rattle.symbol_search.specs.unit_model.specs.Lists.{each}
 use Rattle.symbol_search.specs.unit_model.specs.Radiated.{air_cell, used_mask}
 use Rattle.symbol_search.specs.unit_model.specs.declared.cells.Claim.{Claim}
 use Rattle.symbol_search.specs.unit_model.specs.declared.symbol_start.SymbolStart.{SymbolStart}
-use Rattle.symbol_search.specs.unit_laws.proofs.ListLemmas.{each_same}
 use Rattle.symbol_search.specs.slot_rings.specs.Places.{is_due}
 use Rattle.symbol_search.specs.slot_rings.proofs.RangeLemmas.{some_from}
 use Rattle.symbol_search.specs.unit_cells.specs.Cells.{CellsValue, cells_block, cells_claim, cells_reported}
 use Rattle.symbol_search.specs.unit_cells.specs.Keeping.{SameKnown}
 use Rattle.ru_reports.specs.Symbols.{ReportsTold, cell_in, is_left, is_told, left_at, left_told}
 use Rattle.symbol_search.specs.Symbols.{IsSymbol}
-use Rattle.ru_reports.proofs.ReportedLemmas.{left_same, symbol_cell, told_alone}
-use Rattle.symbol_search.specs.unit_model.proofs.ClaimLemmas.{same_slot_is as slot_is, slot_self as slot_own, some_same}
+use Rattle.ru_reports.proofs.ReportedLemmas.{symbol_cell, told_alone}
+use Rattle.symbol_search.specs.unit_model.proofs.ClaimLemmas.{slot_self as slot_own}
 
 same_claims : (old new : CellsValue) (m : SymbolStart) (prb : ℕ) → SameKnown old new → cells_claim new (cell_in m prb) ≡ cells_claim old (cell_in m prb)
 same_claims old new m prb same = λ i re. same.claims (cell_in m prb) re i
 
-or_none : (a b : Bool) → b ≡ false → (a || b) ≡ a
-or_none true b e = refl
-or_none false b e = e
-
 or_second : (a b : Bool) → b ≡ true → (a || b) ≡ true
 or_second true b e = refl
 or_second false b e = e
-
--- ---- of another symbol
-
-told_not : (m x : SymbolStart) (told : List AirCell) (prb : ℕ) → (x.ep ≡ m.ep → x.slot ≡ m.slot → x.symbol ≡ m.symbol → ⊥) → is_told m told (cell_in x prb) ≡ false
-told_not m x told prb apart = false_from_ne_true (is_told m told (cell_in x prb)) (λ t.
-    let p = and_parts (x.ep == m.ep) _ t in
-    let q = and_parts (same_slot x.slot m.slot) _ p.1 in
-    let r = and_parts (x.symbol == m.symbol) _ q.1 in
-    apart (eqb-true _ _ p.0) (slot_is x.slot m.slot q.0) (eqb-true _ _ r.0))
-
-reported_apart : (m x : SymbolStart) (told : List AirCell) (old new : CellsValue) (prb : ℕ) → ReportsTold m told old new → IsSymbol old x
-    → (x.ep ≡ m.ep → x.slot ≡ m.slot → x.symbol ≡ m.symbol → ⊥) → prb < x.endpoint.prbs → cells_reported new (cell_in x prb) ≡ cells_reported old (cell_in x prb)
-reported_apart m x told old new prb reports is apart below =
-    reports.reports (cell_in x prb) (symbol_cell old x prb is below) refl ∙ or_none (cells_reported old (cell_in x prb)) _ (told_not m x told prb apart)
-
--- the same is left of it
-pub left_apart : (m x : SymbolStart) (told : List AirCell) (old new : CellsValue) → ReportsTold m told old new → IsSymbol old x
-    → (x.ep ≡ m.ep → x.slot ≡ m.slot → x.symbol ≡ m.symbol → ⊥) → left_at new x ≡ left_at old x
-unfolding left_at
-left_apart m x told old new reports is apart =
-    each_same 0 x.endpoint.prbs (left_told new x) (left_told old x)
-    (λ prb low high. left_same x old new prb reports.known (reported_apart m x told old new prb reports is apart (omega (arith, high))))
-
-pub is_left_apart : (m x : SymbolStart) (told : List AirCell) (old new : CellsValue) → ReportsTold m told old new → IsSymbol old x
-    → (x.ep ≡ m.ep → x.slot ≡ m.slot → x.symbol ≡ m.symbol → ⊥) → is_left new x ≡ is_left old x
-is_left_apart m x told old new reports is apart =
-    some_same 0 x.endpoint.prbs (λ prb. is_due (cells_claim new (cell_in x prb)) (cells_reported new (cell_in x prb)))
-    (λ prb. is_due (cells_claim old (cell_in x prb)) (cells_reported old (cell_in x prb)))
-    (λ prb low high. ap₂ (λ (c : ℕ → Option Claim) (d : Bool). is_due c d) (same_claims old new x prb reports.known)
-    (reported_apart m x told old new prb reports is apart (omega (arith, high))))
 
 -- ---- of the symbol itself
 

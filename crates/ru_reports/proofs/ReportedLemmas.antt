@@ -1,6 +1,6 @@
 -- The cells of a symbol that were told, set as reported.
 use Rattle.std.proofs.Common.{◌≡◌, ◌≢◌, ℕ, zero, suc, ◌+◌, ◌<◌, ◌≤◌, ◌==◌, Bool, true, false, not, ◌&&◌, inl, inr, List, [], ◌∷◌, refl, sym, ap, ap₂, ◌∙◌, arith}
-use Rattle.std.specs.Prelude.{◌||◌, if◌then◌else◌}
+use Rattle.std.specs.Prelude.{◌||◌}
 use Rattle.std.specs.List.{list_any}
 use Rattle.std.proofs.lemmas.Bool.{and_from, and_parts, cases_Bool, cases_eq, cases_lt, eq-eqb, eqb-true, ne_eqb, and_left}
 use Rattle.std.proofs.lemmas.List.Folds.{list_any-append}
@@ -9,14 +9,12 @@ use Rattle.air_source.specs.declared.events.AirCell.{AirCell}
 use Rattle.air_source.specs.declared.events.Side.TheVariants.{Ru}
 use Rattle.symbol_search.specs.unit_model.specs.Claims.{cell_at, same_slot}
 use Rattle.symbol_search.specs.unit_model.specs.Lists.{each}
-use Rattle.symbol_search.specs.unit_model.specs.Radiated.{Known, air_cell, used_mask}
-use Rattle.symbol_search.specs.unit_model.specs.Starts.{cell_told}
+use Rattle.symbol_search.specs.unit_model.specs.Radiated.{air_cell, used_mask}
 use Rattle.symbol_search.specs.unit_model.specs.declared.cells.Cell.{Cell}
 use Rattle.symbol_search.specs.unit_model.specs.declared.symbol_start.SymbolStart.{SymbolStart}
 use Rattle.symbol_search.specs.slot_rings.specs.Places.{is_in_use}
 use Rattle.symbol_search.specs.unit_cells.specs.Cells.{CellsValue, IsCellIn, cells_block, cells_claim, cells_reported}
-use Rattle.symbol_search.specs.unit_cells.specs.Keeping.{SameKnown}
-use Rattle.ru_reports.specs.Symbols.{cell_in, is_told, known_by, left_told}
+use Rattle.ru_reports.specs.Symbols.{cell_in, is_told, left_told}
 use Rattle.symbol_search.specs.Symbols.{IsSymbol}
 use Rattle.symbol_search.specs.unit_model.proofs.ClaimLemmas.{same_slot_is as slot_is, slot_self as slot_own}
 use Rattle.fh_time.proofs.Orders.{or_false, unequal, all_three}
@@ -154,14 +152,3 @@ used_reported m n old new here others cell is down = elim (cases_Bool (of_symbol
 
 pub symbol_cell : (v : CellsValue) (m : SymbolStart) (prb : ℕ) → IsSymbol v m → prb < m.endpoint.prbs → IsCellIn v (cell_in m prb)
 symbol_cell v m prb is below = record { endpoint = m.endpoint; at = is.at; slot_is = is.slot_is; symbol = is.symbol_is; prb = below }
-
--- ---- what is left where the same is reported of a cell
-
-known_same : (old new : CellsValue) → SameKnown old new → known_by new ≡ known_by old
-known_same old new same = λ i. let k : Known = record { claims = λ cell re. same.claims cell re i; blocks = λ cell. same.blocks cell i } in k
-
-pub left_same : (m : SymbolStart) (old new : CellsValue) (k : ℕ) → SameKnown old new → cells_reported new (cell_in m k) ≡ cells_reported old (cell_in m k)
-    → left_told new m k ≡ left_told old m k
-left_same m old new k same reported =
-    ap (λ (t : Bool). if t then [] else cell_told Ru (known_by new) m k) reported
-    ∙ ap (λ (x : Known). if cells_reported old (cell_in m k) then [] else cell_told Ru x m k) (known_same old new same)

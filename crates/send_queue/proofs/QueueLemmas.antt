@@ -1,5 +1,5 @@
 -- What a frame more, and a frame less, make of a queue, for callers.
-use Rattle.std.proofs.Common.{◌≡◌, ◌≢◌, ℕ, ℤ, pos, zero, suc, ◌+◌, ◌<◌, ◌≤◌, ◌+ℤ◌, ◌≤ℤ◌, ◌<ℤ◌, inl, inr, Bool, true, false, ◌&&◌, ◌||◌, ◌==◌, if◌then◌else◌, List, [], ◌∷◌, ◌++◌, length, Option, Some, None, int_lt, ◌-ℤ◌, IfSome, refl, ap, ap₂, sym, ◌∙◌, subst, arith, append-nil, append_assoc}
+use Rattle.std.proofs.Common.{◌≡◌, ◌≢◌, ℕ, ℤ, pos, zero, suc, ◌+◌, ◌<◌, ◌≤◌, ◌+ℤ◌, ◌≤ℤ◌, ◌<ℤ◌, inl, inr, Bool, true, false, ◌&&◌, ◌||◌, ◌==◌, if◌then◌else◌, List, [], ◌∷◌, ◌++◌, Option, Some, None, int_lt, ◌-ℤ◌, IfSome, refl, ap, ap₂, sym, ◌∙◌, subst, arith, append-nil, append_assoc}
 use Rattle.std.specs.Prelude.{nat_lt}
 use Rattle.std.specs.List.{AllByRecursion}
 use Rattle.std.specs.Ordering.{int_eq}
@@ -341,7 +341,3 @@ pub gives : (n : ℕ) (tick : Ticks) (handed gone : List LinkFrame) (o : Option 
 gives n tick handed gone None before now took l = subst (λ (q : List LinkFrame). AllHaveLeft n tick.0 handed gone q) (sym took.0) (all_left n tick handed gone before took.1 l)
 gives n tick handed gone (Some f) before now took l =
     left n tick.0 handed gone f now (ap (λ (t : Ticks). t.0) took.1) (subst (λ (q : List LinkFrame). Leaves n tick.0 handed gone q) took.0 l)
-
--- and fewer wait
-pub fewer : (tick : Ticks) (f : LinkFrame) (before now : List LinkFrame) → Took tick (Some f) before now → length now < length before
-fewer tick f before now took = let long = ap length took.0 in omega (arith, long)

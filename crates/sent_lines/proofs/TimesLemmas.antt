@@ -1,25 +1,5 @@
 -- The times of copies, one after the other.
-use Rattle.std.proofs.Common.{◌≡◌, ℕ, ℤ, ◌+◌, ◌<◌, ◌≤◌, List, [], ◌∷◌, ◌++◌, get_or, length, take, append_assoc, append-nil, ap, sym, ◌∙◌}
-use Rattle.std.specs.List.{flat_map}
-use Rattle.std.proofs.lemmas.Grind.{flat_map-append}
-use Rattle.std.proofs.lemmas.List.{take_all, take_more}
-use Rattle.text_lines.specs.Words.{spaced_signed_text}
-
-abbrev pub times_text : List ℤ → List ℕ
-times_text ns = flat_map spaced_signed_text ns
-
-pub times_more : (xs : List ℤ) (k : ℕ) (x : ℤ) (first old new : List ℕ) → k < length xs → x ≡ get_or xs k x → old ≡ first ++ times_text (take k xs) → new ≡ old ++ spaced_signed_text x
-    → new ≡ first ++ times_text (take (k + 1) xs)
-times_more xs k x first old new below is so_far told =
-    told ∙ ap (λ (t : List ℕ). t ++ spaced_signed_text x) so_far ∙ append_assoc first (times_text (take k xs)) (spaced_signed_text x)
-    ∙ ap (λ (t : List ℕ). first ++ t)
-    (ap (λ (t : List ℕ). times_text (take k xs) ++ t) (sym (append-nil (spaced_signed_text x)))
-    ∙ sym (flat_map-append spaced_signed_text (take k xs) (x ∷ []))
-    ∙ ap (λ (ys : List ℤ). times_text (take k xs ++ ys)) (ap (λ (y : ℤ). y ∷ []) is)
-    ∙ ap times_text (sym (take_more xs k x below)))
-
-pub times_all : (xs : List ℤ) (k : ℕ) (first new : List ℕ) → length xs ≤ k → new ≡ first ++ times_text (take k xs) → new ≡ first ++ times_text xs
-times_all xs k first new past is = is ∙ ap (λ (ys : List ℤ). first ++ times_text ys) (take_all k xs past)
+use Rattle.std.proofs.Common.{◌≡◌, ℕ, ◌+◌, List, [], ◌++◌, ap, ◌∙◌}
 
 -- ---- a line of six texts
 

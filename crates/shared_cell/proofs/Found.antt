@@ -1,5 +1,5 @@
 -- The index at which the combined cell of a place stands, through each change of the list.
-use Rattle.std.proofs.Common.{◌≡◌, ℕ, suc, zero, ◌<◌, Bool, true, false, cond, List, [], ◌∷◌, ◌++◌, length, take, get_or, set, Option, Some, None, refl, ap, sym, ◌∙◌, arith, subst}
+use Rattle.std.proofs.Common.{◌≡◌, ℕ, suc, zero, ◌<◌, Bool, true, false, cond, List, [], ◌∷◌, ◌++◌, length, get_or, set, Option, Some, None, refl, ap, sym, ◌∙◌, arith, subst}
 use Rattle.std.specs.Option.{option_map}
 use Rattle.std.specs.Ordering.{is_eq}
 use Rattle.air_source.specs.declared.events.AirCell.{AirCell}
@@ -11,11 +11,6 @@ use Rattle.shared_cell.specs.Finding.{index_of}
 use Rattle.shared_cell.proofs.Same.{is_eq-place_cmp, same_is, same_turned}
 
 -- ---- one more combined cell at the end
-
--- what stood before the last
-pub take-before : (ms : List Mixed) (m : Mixed) → take (length ms) (ms ++ m ∷ []) ≡ ms
-take-before [] m = refl
-take-before (x ∷ xs) m = ap (λ ys. x ∷ ys) (take-before xs m)
 
 -- the place is found where it was, or else at the new one
 pub index_of-push : (q : CellPlace) (m : Mixed) (ms : List Mixed) → index_of q ms ≡ None → index_of q (ms ++ m ∷ []) ≡ cond (is_mixed_at q m) (Some (length ms)) None

@@ -12,11 +12,6 @@ use Rattle.shared_lines.specs.Lines.{combined_text, end_text, mixed_text, mixes_
 from_none : (w v : Option (List ℕ)) (o all : List ℕ) → o ≡ [] → WritesPart w v (o ++ all) → WritesPart w v all
 from_none w v o all none part = subst (λ (t : List ℕ). WritesPart w v (t ++ all)) none part
 
--- a part of the line above
-pub first_cut : (ms : List Mixed) (w v : Option (List ℕ)) (o : List ℕ) → o ≡ [] → WritesPart w v (o ++ combined_text) → WritesPart w v (mixes_text ms)
-unfolding mixes_text
-first_cut ms w v o none part = from_none w v o (combined_text ++ (flat_map mixed_text ms ++ end_text)) none (part_before w v o combined_text (flat_map mixed_text ms ++ end_text) part)
-
 -- that line, and a part of the cells' lines
 pub cells_cut : (ms : List Mixed) (w v u : Option (List ℕ)) (o p : List ℕ) → o ≡ [] → Carried w o combined_text v p → WritesPart v u (p ++ flat_map mixed_text ms) → WritesPart w u (mixes_text ms)
 unfolding mixes_text

@@ -1,6 +1,6 @@
 -- What a place answers, by its lists.
-use Rattle.std.proofs.Common.{◌≡◌, ℕ, ◌+◌, ◌*◌, ◌<◌, ◌⊎◌, inl, inr, Bool, true, false, not, ◌&&◌, ◌==◌, nat_le, if◌then◌else◌, List, length, get_or, reverse, refl, ap, sym, ◌∙◌, Option, Some, None}
-use Rattle.std.proofs.lemmas.Bool.{eq-eqb, leb-false, cases_Bool}
+use Rattle.std.proofs.Common.{◌≡◌, ℕ, ◌+◌, ◌*◌, ◌<◌, ◌⊎◌, inl, inr, Bool, true, false, not, ◌&&◌, ◌==◌, if◌then◌else◌, List, length, get_or, reverse, refl, ap, sym, ◌∙◌, Option, Some, None}
+use Rattle.std.proofs.lemmas.Bool.{eq-eqb, cases_Bool}
 use Rattle.std.proofs.lemmas.List.{length-reverse}
 use Rattle.fh_time.specs.declared.values.Slot.{Slot}
 use Rattle.fh_time.specs.Carrier.{is_outside}
@@ -9,8 +9,7 @@ use Rattle.unit_model.specs.Commands.{is_uplink}
 use Rattle.unit_model.specs.declared.allocations.Allocation.{Allocation}
 use Rattle.unit_model.specs.declared.cells.Cell.{Cell}
 use Rattle.unit_model.specs.declared.cells.Claim.{Claim}
-use Rattle.unit_model.specs.declared.verdicts.CommandVerdict.{CommandVerdict}
-use Rattle.unit_model.specs.declared.verdicts.CommandVerdict.TheVariants.{Range, Repeat, Overlap, Full, Accepted}
+use Rattle.unit_model.specs.declared.verdicts.CommandVerdict.TheVariants.{Accepted}
 use Rattle.slot_rings.specs.Places.{PlaceValue, claim_in, claims_in, no_claims, is_place_of, claims_of, claims_seen, place_claim, place_uplink}
 use Rattle.slot_rings.specs.Verdicts.{overlaps_by, verdict_by, claim_after}
 use Rattle.slot_rings.specs.declared.claims.CellClaims.{CellClaims}
@@ -55,23 +54,6 @@ pub record IsFree (claims : Cell → ℕ → Option Claim) (uplinks : ℕ) (a : 
   pub inside : is_outside a.endpoint.prbs a.start_prb a.num_prb ≡ false
   pub free : overlaps_by claims a ≡ false
   pub few : is_uplink a ≡ true → uplinks < SLOT_SECTIONS
-
-parts : (o r v f : Bool) → (let w : CommandVerdict = if o then Range else (if r then Repeat else (if v then Overlap else (if f then Full else Accepted))) in w) ≡ Accepted
-    → (o ≡ false) × (v ≡ false) × (f ≡ false)
-parts true r v f is = cc
-parts false true v f is = cc
-parts false false true f is = cc
-parts false false false true is = cc
-parts false false false false is = (refl, refl, refl)
-
-below_most : (b : Bool) (n : ℕ) → (b && nat_le SLOT_SECTIONS n) ≡ false → b ≡ true → n < SLOT_SECTIONS
-below_most true n h is = leb-false SLOT_SECTIONS n h
-below_most false n h is = cc
-
-pub accepted_is : (claims : Cell → ℕ → Option Claim) (uplinks : ℕ) (a : Allocation) → verdict_by claims uplinks a ≡ Accepted → IsFree claims uplinks a
-accepted_is claims uplinks a is =
-    let p = parts _ _ _ _ is in
-    record { inside = p.0; free = p.1; few = below_most (is_uplink a) uplinks p.2 }
 
 pub free_seen : (prbs : ℕ) (p : PlaceValue) (a : Allocation) (ms : List CellClaims) → is_place_of p.slot a.slot ≡ true → claims_of p a.down ≡ ms
     → overlaps_by (place_claim prbs p) a ≡ false → overlaps_by (claims_in prbs ms) a ≡ false

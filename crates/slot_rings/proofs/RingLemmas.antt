@@ -40,9 +40,6 @@ index_within r s some = go (slot_number r.endpoint.numerology s)
     go (pos a) = omega (arith, mod_below a (length r.places) some)
     go (negsuc a) = omega (arith, some)
 
-pub place_prbs : (r : RingValue) (s : Slot) → IsRing r → (place_of r s).prbs ≡ r.endpoint.prbs
-place_prbs r s ring = ring.widths (place_index r s) (index_within r s ring.some)
-
 -- ---- another place at an index
 
 abbrev pub put : RingValue → ℕ → PlaceValue → RingValue
@@ -55,11 +52,6 @@ pub put_own : (r : RingValue) (i : ℕ) (q : PlaceValue) (s : Slot) → IsRing r
 put_own r i q s ring i_is =
     ap (λ (j : ℕ). get_or (set r.places i q) j blank) (index_put r i q s ∙ sym i_is)
     ∙ get_or-set_same r.places i q blank (subst (λ (j : ℕ). j < length r.places) (sym i_is) (index_within r s ring.some))
-
-pub put_other : (r : RingValue) (i : ℕ) (q : PlaceValue) (s : Slot) → (place_index r s ≡ i → ⊥) → place_of (put r i q) s ≡ place_of r s
-put_other r i q s ne =
-    ap (λ (j : ℕ). get_or (set r.places i q) j blank) (index_put r i q s)
-    ∙ get_or-set_other r.places i (place_index r s) q blank ne
 
 pub put_ring : (r : RingValue) (i : ℕ) (q : PlaceValue) → IsRing r → i < length r.places
     → q.prbs ≡ r.endpoint.prbs → ((s : Slot) → q.slot ≡ Some s → IsSlot r.endpoint.numerology s × (place_index r s ≡ i))

@@ -1,6 +1,6 @@
 -- What is known of the claims of a symbol.
-use Rattle.std.proofs.Common.{◌≡◌, ℕ, zero, suc, ◌+◌, ◌-◌, ◌*◌, ◌<◌, ◌≤◌, inl, inr, Bool, true, false, not, ◌&&◌, ◌||◌, ◌==◌, nat_le, nat_lt, min, max, if◌then◌else◌, is_some, List, [], ◌∷◌, length, get_or, set, get_or-set_same, get_or-set_other, refl, ap, ap₂, sym, ◌∙◌, subst, arith, Option, Some, None}
-use Rattle.std.proofs.lemmas.Bool.{and_from, and_parts, cases_Bool, cases_eq, cases_lt, le-leb, le-ltb, leb-true, lt-ltb, ltb-false, ltb-true}
+use Rattle.std.proofs.Common.{◌≡◌, ℕ, zero, suc, ◌+◌, ◌-◌, ◌*◌, ◌<◌, ◌≤◌, inl, inr, Bool, true, false, not, ◌&&◌, ◌||◌, ◌==◌, nat_le, nat_lt, min, max, if◌then◌else◌, is_some, List, [], ◌∷◌, length, get_or, set, get_or-set_same, get_or-set_other, refl, ap, sym, ◌∙◌, subst, arith, Option, Some, None}
+use Rattle.std.proofs.lemmas.Bool.{and_from, and_parts, cases_Bool, cases_eq, cases_lt, le-leb, leb-true, lt-ltb, ltb-false, ltb-true}
 use Rattle.unit_model.specs.Claims.{claim_of, first_prb, in_mask, is_claimed, is_from, is_other, is_overlapped, is_under, prb_count}
 use Rattle.unit_model.specs.Lists.{every, some}
 use Rattle.unit_model.specs.declared.allocations.Allocation.{Allocation}
@@ -142,117 +142,6 @@ misses_run r first count id mask is =
       ]
     ]))
 
--- ---- a run that grows
-
-id_in : (r : Run) (n re : ℕ) → claim_id (claim_in (row_claims r n) re) ≡ (if is_from r.first r.count n && in_mask r.claimed re then Some r.id else None)
-id_in r n re = elim (cases_Bool (is_from r.first r.count n)) [
-  | inl own ↦ elim (cases_Bool (in_mask r.claimed re)) [
-    | inl named ↦ rw (own, named) refl
-    | inr none ↦ rw (own, none) refl
-  ]
-  | inr other ↦ let e = no_claim re in rw (other, e) refl
-]
-
--- by the numbers of the cells
-grows_by : (old more new : Run) → new.id ≡ more.id → new.claimed ≡ more.claimed → ((n : ℕ) → is_from old.first old.count n ≡ true → (old.id ≡ more.id) × (old.claimed ≡ more.claimed))
-    → ((n : ℕ) → is_from new.first new.count n ≡ (is_from more.first more.count n || is_from old.first old.count n)) → Grows more (Known old) (Known new)
-grows_by old more new id claimed own is n re below = id_in new n re
-    ∙ ap₂ (λ i c. if is_from new.first new.count n && in_mask c re then Some i else None) id claimed
-    ∙ ap (λ b. if b && in_mask more.claimed re then Some more.id else None) (is n)
-    ∙ parts (is_from more.first more.count n) (is_from old.first old.count n) (own n)
-    ∙ ap (id_with more n re) (sym (id_in old n re))
-  where
-    parts : (a b : Bool) → (b ≡ true → (old.id ≡ more.id) × (old.claimed ≡ more.claimed))
-        → (if (a || b) && in_mask more.claimed re then Some more.id else None) ≡ (if a && in_mask more.claimed re then Some more.id else (if b && in_mask old.claimed re then Some old.id else None))
-    parts true true same = both (in_mask more.claimed re) (in_mask old.claimed re) (ap (λ c. in_mask c re) (sym (same refl).1))
-      where
-        both : (m o : Bool) → m ≡ o → (if m then Some more.id else None) ≡ (if m then Some more.id else (if o then Some old.id else None))
-        both true o e = refl
-        both false true e = cc
-        both false false e = refl
-    parts true false same = refl
-    parts false true same = let e = same refl in ap₂ (λ i c. if in_mask c re then Some i else None) (sym e.0) (sym e.1)
-    parts false false same = refl
-
-nothing : (old : Run) (n : ℕ) → old.count ≡ 0 → is_from old.first old.count n ≡ false
-nothing old n none = elim (cases_lt n old.first) [
-  | inl below ↦ from_below old.first old.count n below
-  | inr low ↦ from_above old.first old.count n (omega (arith, low, none))
-]
-
-pub grows_first : (old more : Run) → old.count ≡ 0 → Grows more (Known old) (Known more)
-grows_first old more none = grows_by old more more refl refl (λ n is. absurd (differ _ is (nothing old n none)))
-    (λ n. let e = nothing old n none in rw e (or_false (is_from more.first more.count n)))
-  where
-    differ : (b : Bool) → b ≡ true → b ≡ false → ⊥
-    differ b p q = cc
-
-    or_false : (b : Bool) → b ≡ (b || false)
-    or_false true = refl
-    or_false false = refl
-
--- two runs side by side
-side_by_side : (f c g d n : ℕ) → f + c ≡ g → is_from f (c + d) n ≡ (is_from g d n || is_from f c n)
-side_by_side f c g d n at = elim (cases_lt n f) [
-  | inl below ↦
-      let a = from_below f (c + d) n below in
-      let b = from_below g d n (omega (arith, at, below)) in
-      let e = from_below f c n below in rw (a, b, e) refl
-  | inr low ↦ elim (cases_lt n g) [
-    | inl mid ↦
-        let a = from_in f (c + d) n low (omega (arith, at, mid)) in
-        let b = from_below g d n mid in
-        let e = from_in f c n low (omega (arith, at, mid)) in rw (a, b, e) refl
-    | inr high ↦
-        let e = from_above f c n (omega (arith, at, high)) in
-        elim (cases_lt n (g + d)) [
-          | inl inside ↦
-              let a = from_in f (c + d) n low (omega (arith, at, inside)) in
-              let b = from_in g d n high inside in rw (a, b) refl
-          | inr out ↦
-              let a = from_above f (c + d) n (omega (arith, at, out)) in
-              let b = from_above g d n out in rw (a, b, e) refl
-        ]
-  ]
-]
-
-pub grows_behind : (old more : Run) (count : ℕ) → more.id ≡ old.id → more.claimed ≡ old.claimed → count ≡ old.count + more.count → old.first + old.count ≡ more.first
-    → Grows more (Known old) (Known (record old { count = count }))
-grows_behind old more count id claimed sum at = grows_by old more (record old { count = count }) (sym id) (sym claimed) (λ n is. (sym id, sym claimed))
-    (λ n. ap (λ c. is_from old.first c n) sum ∙ side_by_side old.first old.count more.first more.count n at)
-
-pub grows_before : (old more : Run) (count : ℕ) → more.id ≡ old.id → more.claimed ≡ old.claimed → count ≡ old.count + more.count → more.first + more.count ≡ old.first
-    → Grows more (Known old) (Known (record more { count = count }))
-grows_before old more count id claimed sum at = grows_by old more (record more { count = count }) refl refl (λ n is. (sym id, sym claimed))
-    (λ n. ap (λ c. is_from more.first c n) (sum ∙ turned old.count more.count) ∙ side_by_side more.first more.count old.first old.count n at
-    ∙ flip (is_from old.first old.count n) (is_from more.first more.count n))
-  where
-    turned : (a b : ℕ) → a + b ≡ b + a
-    turned a b = omega arith
-
-    flip : (a b : Bool) → (a || b) ≡ (b || a)
-    flip true true = refl
-    flip true false = refl
-    flip false true = refl
-    flip false false = refl
-
--- ---- the rows of a slot
-
-empty_claims : (n : ℕ) → row_claims (record { first = 0; count = 0; id = 0; claimed = 0 }) n ≡ no_claims
-empty_claims n = behind_run (record { first = 0; count = 0; id = 0; claimed = 0 }) n (omega arith)
-
--- no claims, and nothing is noted
-pub rows_empty : (prbs : ℕ) (rows : List Row) → ((s : ℕ) → s < SLOT_SYMBOLS → get_or rows s empty_row ≡ empty_row) → AreRows prbs [] rows
-rows_empty prbs rows none = record {
-  each = λ s. elim (cases_lt s SLOT_SYMBOLS) [
-    | inl below ↦
-        let l = lt-ltb s SLOT_SYMBOLS below in
-        let e = none s below in
-        rw (l, e) (record { each = λ n re a b. ap (λ m. claim_id (claim_in m re)) (sym (empty_claims n)) })
-    | inr above ↦ let l = le-ltb s SLOT_SYMBOLS above in rw l tt
-  ];
-}
-
 -- ---- a symbol by its row
 
 pub run_at : (prbs : ℕ) (claims : List CellClaims) (rows : List Row) (symbol : ℕ) (r : Run) → AreRows prbs claims rows → Known r ≡ row_at rows symbol → IsRun prbs claims symbol r
@@ -356,6 +245,3 @@ note_others was rows first k x low others s out = elim (cases_eq s k) [
   where
     differ : (b : Bool) → b ≡ true → b ≡ false → ⊥
     differ b p q = cc
-
-pub to_note : (first count s : ℕ) → is_from first count s ≡ true → (first ≤ s) × (s < first + count)
-to_note first count s is = let p = and_parts _ _ is in (leb-true first s p.0, ltb-true s (first + count) p.1)

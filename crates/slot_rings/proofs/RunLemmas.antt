@@ -4,7 +4,6 @@ use Rattle.std.proofs.lemmas.Bool.{cases_eq, false_from_ne_true}
 use Rattle.std.proofs.lemmas.Bool.Decides.{nat_tests}
 use Rattle.std.proofs.lemmas.Nat.{mul-le}
 use Rattle.std.proofs.lemmas.List.{drop-drop}
-use Rattle.std.proofs.Math.Nat.{mul-le-mul_right}
 use Rattle.bfp_codec.specs.declared.methods.Method.{Method}
 use Rattle.bfp_codec.specs.declared.samples.Wide.{Wide}
 use Rattle.bfp_codec.specs.Layout.{length_of, unpacked_of}
@@ -31,10 +30,6 @@ run_at method (suc n) (suc k) bytes below =
 pub run_length : (method : Method) (n : ℕ) (bytes : List ℕ) → length (unpacked_run method n bytes) ≡ n
 run_length method zero bytes = refl
 run_length method (suc n) bytes = let more = run_length method n (drop (length_of method) bytes) in omega (arith, more)
-
--- it lies within all bytes
-pub prb_within : (k n len size : ℕ) → k < n → size ≡ n * len → k * len + len ≤ size
-prb_within k n len size below is = let rows : (k + 1) * len ≤ n * len = mul-le-mul_right len (let h : k + 1 ≤ n = omega arith in h) in omega (arith, rows)
 
 -- ---- numbers from one on
 

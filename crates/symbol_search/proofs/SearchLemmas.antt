@@ -15,13 +15,12 @@ use Rattle.unit_cells.specs.unit_model.specs.Order.{comes_before, symbol_before}
 use Rattle.unit_cells.specs.unit_model.specs.declared.symbol_start.SymbolStart.{SymbolStart}
 use Rattle.unit_cells.specs.Cells.{CellsValue, endpoints_of}
 use Rattle.symbol_search.specs.Places.{IsPlace, start_in}
-use Rattle.symbol_search.specs.Searches.{HasLead, IsNotBefore, Searched, is_earlier, is_passed}
-use Rattle.symbol_search.specs.Symbols.{FitsFrom, HasNone, InSlot, IsFirst, IsFitting, IsSymbol, OfEndpoint}
+use Rattle.symbol_search.specs.Searches.{IsNotBefore, Searched, is_earlier, is_passed}
+use Rattle.symbol_search.specs.Symbols.{FitsFrom, HasNone, InSlot, IsFirst, IsFitting, IsSymbol}
 use Rattle.symbol_search.specs.declared.places.SlotPlace.{SlotPlace}
 use Rattle.symbol_search.proofs.OrderLemmas.{earlier_symbol, not_before_earlier, not_before_itself, not_before_later}
 use Rattle.symbol_search.proofs.SymbolLemmas.{symbol_one}
 use Rattle.fh_time.proofs.Orders.{both_ways as unfit}
-use Rattle.fh_time.proofs.Options.{some_is as some_equal}
 
 -- ---- what was found
 
@@ -64,16 +63,6 @@ pub searched_from : (v : CellsValue) (fits : SymbolStart → Bool) (Over : Symbo
     → ((m : SymbolStart) → Over m → m.ep ≡ ep) → FitsFrom v fits Over (Some t) → is_passed found ep t.0 ≡ true → Searched v fits Over found found
 searched_from v fits Over found ep t own from passed =
     searched_passed v fits Over found (λ m w o. not_before_passed m found ep t.0 (own m o) (from m w o) passed)
-
--- ---- the endpoint with which a search begins
-
-pub lead_searched : (v : CellsValue) (fits : SymbolStart → Bool) (ep : ℕ) (found : Option SymbolStart) → Searched v fits (OfEndpoint ep) None found
-    → HasLead v fits (Some ep) found
-lead_searched v fits ep found s m w is = s.finds m w (sym (some_equal ep m.ep is))
-
-pub lead_passed : (v : CellsValue) (fits : SymbolStart → Bool) (ep : ℕ) (found : Option SymbolStart) → HasLead v fits (Some ep) found
-    → Searched v fits (OfEndpoint ep) found found
-lead_passed v fits ep found has = searched_passed v fits (OfEndpoint ep) found (λ m w o. has m w (ap Some (sym o)))
 
 -- ---- over more symbols
 

@@ -1,5 +1,5 @@
 -- A command over a document that was read, or was not.
-use Rattle.std.proofs.Common.{◌≡◌, ℕ, List, [], Option, Result, Ok, Err, refl, sym, ap, subst}
+use Rattle.std.proofs.Common.{◌≡◌, ℕ, List, [], Option, Result, Err, refl, sym, ap, subst}
 use Rattle.fh_base.proofs.Known.{append_nothing}
 use Rattle.fh_base.proofs.Progress.{front_none}
 use Rattle.pcap_lines.specs.fh_document.specs.declared.document.Document.{Document}
@@ -15,13 +15,6 @@ use Rattle.top_call.specs.Answers.{Answer, of_document, refused}
 use Rattle.top_call.specs.Endings.{unread_status}
 use Rattle.top_call.specs.Run.{Performs}
 use Rattle.top_call.proofs.Parts.{part_none}
-
-pub read_as : (answer : Document → Answer) (bytes : List ℕ) (result : Result Document DocFault) (d : Document) (old new : Option (List ℕ)) (before now : ℕ) (status : Status)
-    → result ≡ Ok d → Answers (document_of bytes) result → Performs (answer d) old new before now status
-    → Performs (of_document answer (document_of bytes)) old new before now status
-read_as answer bytes result d old new before now status is answers performs =
-    let wanted : document_of bytes ≡ Ok d = subst (Answers (document_of bytes)) is answers in
-    subst (λ (a : Answer). Performs a old new before now status) (sym (ap (of_document answer) wanted)) performs
 
 -- nothing was done for want of memory
 pub wanting : (a : Answer) (written : Option (List ℕ)) (faults : ℕ) → Performs a written written faults faults NoMemory

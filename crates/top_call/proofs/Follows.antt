@@ -150,12 +150,6 @@ only_readers_refuse (Some DrawWindows) bytes line why e = refl
 only_readers_refuse (Some (Pcap side start)) bytes line why e = refl
 only_readers_refuse (Some (PcapCapture side start)) bytes line why e = refl
 
--- was read to its end, and is refused at this very line for this very reason
-pub bad_document : (words : List (List ℕ)) (left_old left_new : Option (List ℕ)) (s t : ℕ) (old new : Option (List ℕ)) (before now : ℕ) (line : ℕ) (why : LineWhy)
-    → (o : Outcome words left_old left_new s t old new before now (BadDocument line why)) → IsAtEnd left_new × ((asked (command_of words) o.came).status ≡ BadDocument line why)
-bad_document words left_old left_new s t old new before now line why o =
-    (o.ended tt (only_readers_refuse (command_of words) o.came line why o.answers), o.answers)
-
 -- one that can be read whole is answered so, or for want of memory, whatever the sink does
 pub refused : (words : List (List ℕ)) (bytes : List ℕ) (left_old left_new : Option (List ℕ)) (s t : ℕ) (old new : Option (List ℕ)) (before now : ℕ) (status : Status) (line : ℕ) (why : LineWhy)
     → Outcome words left_old left_new s t old new before now status → IsSome (command_of words) → (Rose s t → ⊥) → left_old ≡ Some bytes → length bytes ≤ INPUT_LIMIT

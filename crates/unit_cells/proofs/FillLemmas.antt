@@ -33,7 +33,7 @@ use Rattle.slot_rings.specs.Runs.{packed_block}
 use Rattle.unit_cells.specs.Cells.{CellsValue, block_from, claim_from, ring_of, uplink_from}
 use Rattle.unit_cells.specs.Headings.{IsProperHeading, IsSoundHeading, data_under}
 use Rattle.unit_cells.specs.Keeping.{Keeps}
-use Rattle.unit_cells.specs.Steps.{Fills, SetsReported}
+use Rattle.unit_cells.specs.Steps.{Fills}
 use Rattle.unit_cells.specs.Told.{IsTold, told_block_at}
 use Rattle.unit_cells.specs.declared.heading.DataHeading.{DataHeading}
 use Rattle.unit_cells.proofs.KeepLemmas.{IsStep, cell_in_ring, lifted, ring_is}
@@ -153,20 +153,6 @@ fill_keeps side c clock h blocks run prb before after old new acc ds step fills 
               let is_in = data_covers_is (data_under h blocks) cell covers in
               not_next first reported (length run) cell.prb (ne (sym is_in.symbol)) (from_first first (data_prb_count (data_under h blocks)) cell.prb is_in.prb)))
         ]
-
--- ---- cells set as reported
-
-pub reported_keeps : (side : Side) (c : Config) (clock : ℤ) (ep : ℕ) (e : EndpointConfig) (slot : Slot) (symbol prb : ℕ) (before after : RingValue) (old new : CellsValue)
-    (acc : List Allocation) (ds : List UserSection)
-    → IsStep side c clock ep e slot before after old new → SetsReported slot symbol prb before after → Keeps side c clock old acc ds → Keeps side c clock new acc ds
-reported_keeps side c clock ep e slot symbol prb before after old new acc ds step reports keeps =
-    lifted side c clock ep e slot before after old new step acc acc ds ds keeps
-    (λ cell re is live at here small. reports.claims cell re here ∙ claims_of_old side c clock ep e slot before after old new step acc ds keeps cell re is live at small)
-    (λ cell re ne. refl)
-    (λ cell is down live at here. reports.blocks cell here ∙ blocks_of_old side c clock ep e slot before after old new step acc ds keeps cell is down live at)
-    (λ cell ne. refl)
-    (reports.uplink ∙ uplink_of_old side c clock ep e slot before after old new step acc ds keeps)
-    (λ k s ne. refl) keeps.accepted keeps.timely
 
 -- ---- a section that begins
 

@@ -1,5 +1,5 @@
 -- What holds of the cells and the counters behind some sections of a message, and behind a message.
-use Rattle.std.proofs.Common.{◌≡◌, ℕ, ℤ, ◌+◌, ◌≤ℤ◌, Bool, true, false, List, [], ◌∷◌, ◌++◌, map, sym, ap, ◌∙◌, subst, arith}
+use Rattle.std.proofs.Common.{◌≡◌, ℕ, ℤ, ◌+◌, Bool, true, false, List, [], ◌∷◌, ◌++◌, map, sym, ap, ◌∙◌, subst, arith}
 use Rattle.std.proofs.lemmas.Bool.{not-true}
 use Rattle.std.specs.Prelude.{Option, Some, None, MatchOption, if◌then◌else◌}
 use Rattle.air_source.specs.declared.events.Side.{Side}
@@ -14,21 +14,17 @@ use Rattle.fh_time.specs.declared.values.Shape.{Shape}
 use Rattle.fh_time.specs.declared.values.Ticks.{Ticks}
 use Rattle.uplane_sections.specs.declared.steps.UFeed.TheVariants as feed
 use Rattle.uplane_sections.specs.Messages.{Item, Telling, told}
-use Rattle.uplane_sections.specs.Writes.{IsHeadAdmitted}
 use Rattle.window_config.specs.declared.config.Config.{Config}
 use Rattle.window_config.specs.declared.endpoints.EndpointConfig.{EndpointConfig}
 use Rattle.unit_model.specs.Decoding.{Backwards, Decoded, Gathering, SectionBlocks, Refused, Sections, data_with, decode, decoded_from, decoded_with, gathered, has_way, nothing_told, sections_of}
-use Rattle.unit_model.specs.Proper.{IsAt, IsTime}
 use Rattle.unit_model.specs.declared.allocations.Allocation.{Allocation}
 use Rattle.unit_model.specs.declared.decoded.UserSection.{UserSection}
 use Rattle.unit_cells.specs.Cells.{CellsValue}
-use Rattle.unit_cells.specs.Headings.{IsProperHeading}
 use Rattle.unit_cells.specs.declared.heading.DataHeading.{DataHeading}
 use Rattle.uplane_messages.specs.Left.{TellsFirst, NothingLeft}
-use Rattle.uplane_messages.specs.Whole.{AreSections, IsSectionAdmitted, IsWhole}
-use Rattle.uplane_messages.proofs.Steps.{section_next}
+use Rattle.uplane_messages.specs.Whole.{AreSections, IsWhole}
 use Rattle.unit_memory.specs.Holding.{HoldsData}
-use Rattle.unit_memory.specs.Sections.{AreBehind, Came}
+use Rattle.unit_memory.specs.Sections.{Came}
 use Rattle.unit_memory.proofs.DataHoldLemmas.{Stays, stays_none, stays_on}
 use Rattle.unit_memory.proofs.WalkLemmas.{behind_head, gathered_all, gathered_head, gathered_section, gathering, same_head}
 use Rattle.air_source.specs.Units.{is_down}
@@ -62,12 +58,6 @@ module _ (ep : ℕ) (e : EndpointConfig) (first last : Ticks) (head : UHead) whe
         stays = stays_none last.0 v;
       }
 
-  pub section_admitted : (items left next : List Item) (s : USection) (old new : CellsValue) (before after : List ℕ) → Treated items left old new before after
-      → TellsFirst left next (feed.Section s) → IsSectionAdmitted e.prbs (shape_of e.numerology) s × AreBehind (heading_of ep e first last head s) next
-  section_admitted items left next s old new before after t f =
-      let step = section_next e.prbs (shape_of e.numerology) 0 0 s left next f t.behind in
-      (step.1, step.2)
-
   unfoldable pub one_treated : (items left next rest : List Item) (s : USection) (old mid new : CellsValue) (before between after : List ℕ) → Treated items left old mid before between
       → TellsFirst left next (feed.Section s) → Came (heading_of ep e first last head s) next rest mid new between after → Stays last.0 mid new
       → Treated items rest old new before after
@@ -86,15 +76,6 @@ module _ (ep : ℕ) (e : EndpointConfig) (first last : Ticks) (head : UHead) whe
   all_treated items left old new before after t none side c n acc ds holds =
       let all : gathered nothing_told items ≡ gathering head t.parts = t.told ∙ gathered_all (gathering head t.parts) left none in
       subst (λ (g : Gathering). HoldsData side c last.0 n acc (sections_with g.parts ++ ds) new after) (sym all) (t.holds side c n acc ds holds)
-
-  pub heading_proper : (side : Side) (es : List EndpointConfig) (s : USection) → IsAt es ep e → IsTime first.0 → IsTime last.0 → first.0 ≤ℤ last.0 → head.down ≡ is_down side
-      → IsHeadAdmitted (shape_of e.numerology) head → IsSectionAdmitted e.prbs (shape_of e.numerology) s → IsProperHeading side es (heading_of ep e first last head s)
-  heading_proper side es s at f l order down admitted is = record {
-    endpoint = at;
-    sound = record { first = f; last = l; subframe = omega (arith, admitted.subframe); slot = admitted.slot; symbol = is.symbol; within = is.within };
-    down = down;
-    order = order;
-  }
 
 -- ---- a whole message
 

@@ -1,6 +1,5 @@
 -- The frames of a message, one after the other.
-use Rattle.std.proofs.Common.{◌≡◌, ℕ, ℤ, suc, ◌+◌, ◌*◌, ◌-◌, ◌/◌, ◌<◌, ◌≤◌, ◌==◌, min, List, [], ◌∷◌, ◌++◌, refl, sym, ap, ◌∙◌, arith, append_assoc, append-nil, Result, Ok, Err, OnErr}
-use Rattle.std.proofs.Math.Nat.{le-div_iff_mul-le}
+use Rattle.std.proofs.Common.{◌≡◌, ℕ, ℤ, suc, ◌+◌, ◌*◌, ◌-◌, ◌<◌, ◌==◌, min, List, [], ◌∷◌, ◌++◌, refl, sym, ap, ◌∙◌, arith, append_assoc, append-nil, Result, Ok, Err, OnErr}
 use Rattle.window_config.specs.declared.config.Config.{Config}
 use Rattle.window_config.specs.declared.endpoints.EndpointConfig.{EndpointConfig}
 use Rattle.uplink_model.specs.air_source.specs.declared.links.LinkFrame.{LinkFrame}
@@ -19,21 +18,6 @@ use Rattle.uplink_path.specs.declared.pending.Pending.{Pending}
 use Rattle.uplink_path.specs.declared.rules.Rules.{Rules}
 use Rattle.uplink_model.specs.frame_bytes.specs.Headers.{carrier_of}
 use Rattle.ecpri_fragments.specs.Pieces.{piece_count}
-
--- ---- numbers
-
-one_more : (i f : ℕ) → (i + 1) * f ≡ i * f + f
-one_more i f = omega arith
-
--- frame `sub` begins within the message
-pub begins_within : (f size sub : ℕ) → 0 < f → sub < (size + (f - 1)) / f → sub * f + 1 ≤ size
-begins_within f size sub some below =
-    let next = sub + 1 in
-    let total = size + (f - 1) in
-    let under : next ≤ total / f = omega (arith, below) in
-    let most : next * f ≤ total = (le-div_iff_mul-le {k = f} {x = next} {y = total} some).0 under in
-    let is = one_more sub f in
-    omega (arith, most, is, some)
 
 -- ---- frames
 

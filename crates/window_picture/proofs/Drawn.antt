@@ -1,25 +1,18 @@
 -- What was drawn of a text.
-use Rattle.std.proofs.Common.{◌≡◌, ◌≢◌, ℕ, ◌≤◌, List, [], ◌∷◌, ◌++◌, length, Option, inl, refl, sym, ap, ◌∙◌, arith}
-use Rattle.std.specs.Prelude.{Result, Ok, Err}
+use Rattle.std.proofs.Common.{◌≡◌, ◌≢◌, ℕ, ◌≤◌, List, [], ◌∷◌, ◌++◌, length, Option, arith}
 use Rattle.fh_base.specs.Told.{WritesPart}
 use Rattle.fh_base.proofs.Progress.{front_none}
 use Rattle.owed_bytes.proofs.Parts.{front_part}
-use Rattle.picture_lines.specs.Refusals.{Draws}
-use Rattle.picture_lines.specs.declared.faults.DrawFault.{DrawFault}
-use Rattle.picture_lines.specs.declared.faults.DrawFault.TheVariants as draw
-use Rattle.picture_lines.specs.declared.faults.TextWhy.{TextWhy}
 use Rattle.arrival_lines.proofs.Flows.{row_downlink_commands, row_uplink_commands, row_downlink_data, row_uplink_data}
 use Rattle.arrival_lines.proofs.Tallying.{tally_length}
 use Rattle.arrival_lines.specs.Rows.{of_flow, rows_of}
 use Rattle.arrival_lines.specs.Tallies.{Tally, tally_of}
-use Rattle.arrival_lines.specs.Text.{Gathers}
 use Rattle.arrival_lines.specs.declared.arrivals.Arrival.{Arrival}
 use Rattle.arrival_lines.specs.declared.arrivals.Flow.TheVariants.{DownlinkCommands, UplinkCommands, DownlinkData, UplinkData}
-use Rattle.arrival_lines.specs.declared.reading.Gathered.{Gathered}
 use Rattle.arrival_lines.specs.declared.rows.Rows.{Rows}
 use Rattle.arrival_lines.specs.declared.windows.Windows.{Windows}
 use Rattle.svg_elements.specs.Opening.{closing_text}
-use Rattle.window_picture.specs.Picture.{HasColumns, commands_text, data_text, foot_text, head_text, picture_for, windows_picture}
+use Rattle.window_picture.specs.Picture.{HasColumns, commands_text, data_text, foot_text, head_text, windows_picture}
 
 -- ---- columns
 
@@ -52,16 +45,3 @@ pub nothing_yet : (ws : Windows) (rows : Rows) (old : Option (List ℕ)) → Wri
 unfolding windows_picture
 nothing_yet ws rows old =
     front_part old old (head_text ws ++ commands_text ws rows ++ data_text ws rows) (foot_text ws) (foot_some ws) (front_none old (head_text ws ++ commands_text ws rows ++ data_text ws rows))
-
--- ---- the answer
-
-pub draws_fault : (wanted : Result (Windows × List Arrival) (ℕ × TextWhy)) (fault : DrawFault) (old : Option (List ℕ))
-    → Gathers wanted (let answer : Result Gathered DrawFault = Err fault in answer) → Draws (picture_for wanted) old old (Err fault)
-draws_fault wanted (draw.Refused line w) old h = (ap picture_for h, refl)
-draws_fault wanted draw.WriteFault old h = absurd h
-draws_fault wanted draw.NoMemory old h = inl refl
-
--- the picture of what was gathered is the wanted one
-pub gathered_picture : (wanted : Result (Windows × List Arrival) (ℕ × TextWhy)) (g : Gathered) (came : List Arrival) → wanted ≡ Ok (g.windows, came) → g.rows ≡ rows_of came
-    → picture_for wanted ≡ Ok (windows_picture g.windows g.rows)
-gathered_picture wanted g came is rows = ap picture_for is ∙ ap (λ (r : Rows). Ok (windows_picture g.windows r)) (sym rows)

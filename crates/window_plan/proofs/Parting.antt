@@ -1,5 +1,5 @@
 -- Two frames that arrive more than the hold apart fall in two generations.
-use Rattle.std.proofs.Common.{◌≡◌, ℕ, ℤ, pos, ◌+ℤ◌, ◌-ℤ◌, ◌≤ℤ◌, ◌<ℤ◌, neg_ℤ, Bool, true, false, List, [], ◌∷◌, Some, None, IsTrue, IsNone, IfSome, ◌↔◌, refl, sym, ap, ap₂, subst, ◌∙◌, arith}
+use Rattle.std.proofs.Common.{◌≡◌, ℕ, ℤ, pos, ◌+ℤ◌, ◌-ℤ◌, ◌≤ℤ◌, ◌<ℤ◌, neg_ℤ, Bool, true, false, List, [], ◌∷◌, refl, sym, ap, ap₂, subst, ◌∙◌, arith}
 use Rattle.std.specs.Prelude.{⊤, if◌then◌else◌}
 use Rattle.std.proofs.lemmas.Int.{ints}
 use Rattle.window_config.specs.declared.delays.Delays.{Delays}
@@ -9,8 +9,7 @@ use Rattle.window_config.specs.Limits.{IsWithinLimits}
 use Rattle.window_config.specs.Windows.{ticks_of_ns}
 use Rattle.window_config.specs.Relations.{holds}
 use Rattle.ecpri_fragments.specs.Generations.{Fragment, Generation, is_of, of_id, is_within, with_fragment, generations, generations_of, begins, start_in, is_first, begun, joined}
-use Rattle.window_plan.specs.declared.breaches.Breach.{Breach}
-use Rattle.window_plan.specs.Breaches.{before, sent_in, delayed_by, hold_of, arrival, IsIn, NoneAfter, Parts, extreme_of, breach_of, Breaks}
+use Rattle.window_plan.specs.Breaches.{before, sent_in, delayed_by, hold_of, arrival, IsIn, NoneAfter, Parts, extreme_of, Breaks}
 use Rattle.window_plan.proofs.Missing.{at_min, at_max, turned, up_max_misses, up_min_misses, cp_ul_max_misses, cp_ul_min_misses, ta4_min_misses, ta4_max_misses}
 use Rattle.fh_time.proofs.Orders.{le_false as not_at_most}
 use Rattle.ecpri_fragments.proofs.Ids.{same_id as own_id}
@@ -132,18 +131,3 @@ extreme_breaks HoldUl d is fails = (
   parts HoldUl d d.hold_ul _ _ _ _ refl is.hold_ul.low (at_min d.ta3 is.ta3.order) (at_min d.t34 is.t34.order)
       (at_max d.ta3 is.ta3.order) (at_max d.t34 is.t34.order) (not_at_most _ _ fails),
 )
-
--- none exactly where the relation holds
-chosen_none : (b : Bool) (x : Breach) → IsNone (if b then None else Some x) ↔ IsTrue b
-chosen_none true x = (λ _. refl, λ _. refl)
-chosen_none false x = (λ h. cc, λ h. cc)
-
-pub breach_none : (r : Relation) (d : Delays) → IsNone (breach_of r d) ↔ IsTrue (holds r d)
-breach_none r d = chosen_none (holds r d) (extreme_of r d)
-
-chosen_some : (b : Bool) (x : Breach) (P : Breach → Type 0) → (b ≡ false → P x) → IfSome (if b then None else Some x) P
-chosen_some true x P h = tt
-chosen_some false x P h = h refl
-
-pub breach_breaks : (r : Relation) (d : Delays) → IsWithinLimits d → IfSome (breach_of r d) (Breaks r d)
-breach_breaks r d is = chosen_some (holds r d) (extreme_of r d) (Breaks r d) (extreme_breaks r d is)
