@@ -28,7 +28,7 @@ use Rattle.measured_traffic.specs.Replayed.{traffic_of}
 use Rattle.measured_traffic.specs.Turns.{IsQuietBetween}
 use Rattle.replay_turns.specs.Down.{NoneComesDown}
 use Rattle.replay_turns.specs.Turns.{events_before}
-use Rattle.replay_turns.proofs.OrderLemmas.{sent_less}
+use Rattle.frame_sending.proofs.OrderLemmas.{sent_less}
 use Rattle.du_scheduler.specs.plan_model.specs.Sent.{SentFrame}
 use Rattle.capture_air.specs.air_source.specs.declared.links.LinkFrame.{LinkFrame}
 use Rattle.measured_traffic.specs.frame_deliveries.specs.Leaving.{Leaving}
