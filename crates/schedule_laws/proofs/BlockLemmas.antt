@@ -23,7 +23,7 @@ use Rattle.plan_model.specs.Streams.{Part, part_in}
 use Rattle.plan_model.specs.Validity.{clash, share_bit, share_cell}
 use Rattle.plan_model.specs.declared.lines.PlannedLine.{PlannedLine}
 use Rattle.plan_model.proofs.ClashLemmas.{both_cover}
-use Rattle.schedule_laws.specs.Data.{AreDecodedOnce, AreWritten, Blocks, IsDataFor, planned_block, radiates_in}
+use Rattle.schedule_laws.specs.Data.{AreDecodedOnce, AreWritten, Blocks, IsDataFor, planned_block, radiates_in, EachIsDecodedOnce}
 use Rattle.schedule_laws.specs.Premise.{AllArrive, Texts}
 use Rattle.schedule_laws.proofs.LineLemmas.{are_one}
 use Rattle.schedule_laws.proofs.WholeLemmas.{IsTimely, each_timely, ds, line_sent, whole_once}
@@ -243,3 +243,6 @@ module _ (c : Config) (lines : List PlanLine) (text : Texts) (blocks : Blocks) (
         (let d = line_sent c lines text blocks arrivals h w p symbol m down (ap not idle) within in record { section = d.0; came = d.1; carries = d.2.carries; slot = d.2.slot_is });
     blocks_are = λ cell down. ap (λ (xs : List UserSection). block_at xs cell) timely_all ∙ block_planned cell down (find_radiating ps cell);
   }
+
+pub each_is_decoded_once : EachIsDecodedOnce
+each_is_decoded_once = decoded_once

@@ -34,7 +34,7 @@ use Rattle.plan_model.specs.Validity.{clash, share_bit, share_cell}
 use Rattle.plan_model.specs.declared.lines.PlannedLine.{PlannedLine}
 use Rattle.plan_model.proofs.ListLemmas.{among, any_in}
 use Rattle.plan_model.proofs.ClashLemmas.{both_cover, claimed}
-use Rattle.schedule_laws.specs.Cells.{mask_below, planned_air, planned_cell, planned_event, planned_mask, planned_section, planned_symbol, radiates}
+use Rattle.schedule_laws.specs.Cells.{mask_below, planned_air, planned_cell, planned_event, planned_mask, planned_section, planned_symbol, radiates, ThePlanRadiates}
 use Rattle.schedule_laws.specs.Data.{AreWritten, Blocks, planned_block, radiates_in}
 use Rattle.schedule_laws.specs.Premise.{AllArrive, Texts}
 use Rattle.schedule_laws.proofs.AcceptedLemmas.{AreAllowed}
@@ -51,19 +51,6 @@ unfolding used_below mask_below
 mask_same claims test zero h = refl
 mask_same claims test (suc n) h =
     ap₂ (λ (low : ℕ) (b : Bool). 2 * low + (if b then 1 else 0)) (mask_same claims test n (λ re below. h re (omega arith))) (h n (omega arith))
-
--- a mask that is not 0 has an element
-twice : (m : ℕ) (b : Bool) → 2 * m + (let n : ℕ = if b then 1 else 0 in n) ≡ 0 → (m ≡ 0) × (b ≡ false)
-twice m true e = absurd (omega (arith, e))
-twice m false e = (omega (arith, e), refl)
-
-none_zero : (test : ℕ → Bool) (n : ℕ) → ((re : ℕ) → re < n → test re ≡ false) → mask_below test n ≡ 0
-unfolding mask_below
-none_zero test zero h = refl
-none_zero test (suc n) h =
-    let before = none_zero test n (λ re below. h re (omega arith)) in
-    let here = h n (omega arith) in
-    ap₂ (λ (m : ℕ) (b : Bool). 2 * m + (if b then 1 else 0)) before here
 
 pub has_element : (test : ℕ → Bool) (n : ℕ) → (mask_below test n ≡ 0) ⊎ ((re : ℕ) × (re < n) × (test re ≡ true))
 unfolding mask_below
@@ -253,3 +240,6 @@ module _ (c : Config) (lines : List PlanLine) (text : Texts) (blocks : Blocks) (
   plan_radiates to =
       ap₂ (λ (f t : ℤ). sweep (symbol_report Ru (ru_known c arrivals)) c.endpoints f (t +ℤ pos 1)) (no_wait first_clock) (no_wait to)
       ∙ sweep-same (symbol_report Ru (ru_known c arrivals)) (planned_symbol blocks ps) c.endpoints first_clock (to +ℤ pos 1) (λ ep e slot symbol tick low high swept. symbol_is ep e slot symbol)
+
+pub the_plan_radiates : ThePlanRadiates
+the_plan_radiates = plan_radiates

@@ -46,8 +46,8 @@ use Rattle.plan_model.specs.declared.lines.PlannedLine.{PlannedLine}
 use Rattle.plan_model.specs.declared.streams.Stream.{Stream}
 use Rattle.plan_model.specs.declared.streams.Stream.TheVariants.{DownCommands, UpCommands, DownData, UpData}
 use Rattle.plan_model.proofs.ListLemmas.{in_right}
-use Rattle.schedule_laws.specs.Commands.{AreCommandedOnce, IsAnsweredOnce, IsCommanded}
-use Rattle.schedule_laws.specs.Premise.{AllArrive, IsCommandFor, IsCopyOf, Texts}
+use Rattle.schedule_laws.specs.Commands.{AreCommandedOnce, IsAnsweredOnce, IsCommanded, EachIsCommandedOnce}
+use Rattle.schedule_laws.specs.Premise.{IsCommandFor, IsCopyOf, Texts}
 use Rattle.schedule_laws.proofs.AcceptedLemmas.{AreAllowed, IsTimely, again, named_all, new_one}
 use Rattle.schedule_laws.proofs.ClashLemmas.{claims_same}
 use Rattle.schedule_laws.proofs.LineLemmas.{allowed, are_same, good, part_line, start_in_time}
@@ -433,7 +433,7 @@ module _ (c : Config) (lines : List PlanLine) (text : Texts) (arrivals : List Ar
     claims = claims_are;
   }
 
-pub commanded_once : (c : Config) (lines : List PlanLine) (text : Texts) (arrivals : List Arrival) → AllArrive c lines text arrivals → AreCommandedOnce c (planned c.endpoints lines) arrivals
+pub commanded_once : EachIsCommandedOnce
 commanded_once c lines text arrivals h =
     commanded_by c lines text arrivals (record {
       config = h.config;

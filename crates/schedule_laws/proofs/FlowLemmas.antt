@@ -10,8 +10,7 @@ use Rattle.std.proofs.lemmas.Int.{ints}
 use Rattle.fh_time.specs.Air.{air_of}
 use Rattle.fh_time.specs.declared.values.Slot.{Slot}
 use Rattle.fragment_laws.specs.Apart.{IsIn}
-use Rattle.fragment_laws.specs.Flow.{IsDistant, IsSound, size_to}
-use Rattle.fragment_laws.specs.Flow.{sent_at as flow_sent_at}
+use Rattle.fragment_laws.specs.Flow.{IsDistant, IsSound, size_to, sent_at as flow_sent_at}
 use Rattle.unit_laws.specs.window_config.specs.Configs.{IsConfig}
 use Rattle.unit_laws.specs.window_config.specs.Plans.{IsPlanLine}
 use Rattle.unit_laws.specs.window_config.specs.Relations.{PassesCheck}

@@ -3,12 +3,12 @@ use Rattle.std.proofs.Common.{◌≡◌, ◌≢◌, ℕ, zero, suc, ◌+◌, ◌
 use Rattle.std.specs.Prelude.{slice_index}
 use Rattle.std.specs.List.{slice_get}
 use Rattle.std.proofs.lemmas.Bool.{eq-eqb, ne_eqb}
-use Rattle.eaxc_map.specs.Endpoints.{AppearOnce}
 use Rattle.unit_laws.specs.window_config.specs.Endpoints.{ids_of}
 use Rattle.unit_laws.specs.window_config.specs.declared.endpoints.EndpointConfig.{EndpointConfig}
-use Rattle.unit_laws.specs.unit_model.specs.Meetings.{find_endpoint, find_from}
+use Rattle.unit_laws.specs.unit_model.specs.Meetings.{find_from}
 use Rattle.unit_laws.specs.unit_model.specs.Proper.{IsAt}
 use Rattle.schedule_laws.proofs.OrderLemmas.{below_get, get_map}
+use Rattle.schedule_laws.specs.Found.{EndpointsAreFound}
 
 -- the first of an id
 first_found : (start : ℕ) (es : List EndpointConfig) (k : ℕ) (e : EndpointConfig) → IsAt es k e → ((i : ℕ) (f : EndpointConfig) → i < k → IsAt es i f → f.id ≢ e.id)
@@ -30,7 +30,7 @@ index_is [] k x h = absurd cc
 index_is (y ∷ xs) zero x h = cc
 index_is (y ∷ xs) (suc k) x h = index_is xs k x h
 
-pub found : (es : List EndpointConfig) (ep : ℕ) (e : EndpointConfig) → AppearOnce (ids_of es) → IsAt es ep e → find_endpoint es e.id ≡ Some (ep, e)
+pub found : EndpointsAreFound
 found es ep e once at =
     let here : 0 + ep ≡ ep = omega arith in
     first_found 0 es ep e at (λ i f below at_f same.

@@ -1,38 +1,37 @@
 -- Each frame once, with the least delay, meets the premise.
 use Rattle.std.proofs.Common.{ℕ, ℤ, pos, ◌+ℤ◌, ◌*ℤ◌, ◌≤ℤ◌, inl, inr, List, [], ◌∷◌, map, refl, sym, subst, arith}
-use Rattle.std.specs.Prelude.{All, filter}
+use Rattle.std.specs.Prelude.{filter}
 use Rattle.std.specs.Int.{int_gap}
 use Rattle.std.specs.Ordering.{int_eq}
 use Rattle.std.proofs.lemmas.Bool.Decides.{Decides-int_eq}
 use Rattle.std.proofs.lemmas.Int.{ints}
 use Rattle.fragment_laws.specs.Apart.{IsIn}
 use Rattle.unit_laws.specs.window_config.specs.Configs.{IsConfig}
-use Rattle.unit_laws.specs.window_config.specs.Plans.{IsPlanLine}
-use Rattle.unit_laws.specs.window_config.specs.Relations.{PassesCheck}
 use Rattle.unit_laws.specs.window_config.specs.Windows.{ticks_of_ns}
 use Rattle.unit_laws.specs.window_config.specs.declared.config.Config.{Config}
-use Rattle.unit_laws.specs.window_config.specs.declared.plan.PlanLine.{PlanLine}
 use Rattle.unit_laws.specs.unit_model.specs.Lists.{onto}
 use Rattle.unit_laws.specs.unit_model.specs.Meetings.{Arrival}
 use Rattle.unit_laws.specs.unit_model.specs.Radiated.{first_clock}
 use Rattle.unit_laws.specs.unit_model.specs.Times.{end_of_time}
 use Rattle.plan_model.specs.Lines.{planned}
 use Rattle.plan_model.specs.Sent.{SentFrame, frames_from, sent}
-use Rattle.plan_model.specs.Valid.{IsValid}
 use Rattle.plan_model.specs.declared.lines.PlannedLine.{PlannedLine}
 use Rattle.plan_model.proofs.ListLemmas.{of_filter}
-use Rattle.schedule_laws.specs.Least.{AreReadable, least_arrival, with_least_delay}
-use Rattle.schedule_laws.specs.Premise.{AllArrive, AreInOrder, IsCopyOf, Texts}
+use Rattle.schedule_laws.specs.Least.{AreReadable, least_arrival, LeastDelaysArrive}
+use Rattle.schedule_laws.specs.Premise.{AreInOrder, IsCopyOf, Texts}
 use Rattle.schedule_laws.proofs.ListLemmas.{in_map, in_onto, of_map, onto_right}
 use Rattle.schedule_laws.proofs.OrderLemmas.{IsRising, ticks_rising}
 use Rattle.fh_time.specs.declared.nanoseconds.TheConstants.{NANOSECOND}
 
 -- what is sent is in the order of time
-sent_rising : (c : Config) (ps : List PlannedLine) → IsRising (λ (f : SentFrame). f.at) (sent c ps)
+abbrev pub leaving : SentFrame → ℤ
+leaving f = f.at
+
+pub sent_rising : (c : Config) (ps : List PlannedLine) → IsRising leaving (sent c ps)
 unfolding sent
 sent_rising c ps =
     let all = frames_from c ps 0 c.endpoints in
-    ticks_rising (λ (f : SentFrame). f.at) first_clock (int_gap first_clock (end_of_time +ℤ pos 1)) (λ t. filter (λ (f : SentFrame). int_eq f.at t) all) (λ t f m.
+    ticks_rising leaving first_clock (int_gap first_clock (end_of_time +ℤ pos 1)) (λ t. filter (λ (f : SentFrame). int_eq f.at t) all) (λ t f m.
     (Decides-int_eq f.at t).0 (of_filter (λ (g : SentFrame). int_eq g.at t) f all m).1)
 
 pub later_both : (a b k : ℤ) → a ≤ℤ b → (a +ℤ k) ≤ℤ (b +ℤ k)
@@ -62,8 +61,7 @@ least_is a k = omega (arith, ints)
 pub least_under : (a least most : ℤ) → least ≤ℤ most → (a +ℤ least *ℤ pos NANOSECOND) ≤ℤ (a +ℤ most *ℤ pos NANOSECOND)
 least_under a least most h = omega (arith, ints, h)
 
-pub least_arrive : (c : Config) (lines : List PlanLine) (text : Texts) (bytes : SentFrame → List ℕ) → IsConfig c → All IsPlanLine lines → IsValid c lines → PassesCheck c.delays
-    → AreReadable c (planned c.endpoints lines) text bytes → AllArrive c lines text (with_least_delay c (planned c.endpoints lines) bytes)
+pub least_arrive : LeastDelaysArrive
 least_arrive c lines text bytes config fit valid check readable =
     let ps = planned c.endpoints lines in
     let k = ticks_of_ns c.delays.t12.min in

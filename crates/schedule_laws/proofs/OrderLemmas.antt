@@ -80,6 +80,11 @@ ticks_rising key from (suc n) f h =
     rising_join key (f from) (each_tick (from +ℤ pos 1) n f) (rising_same key from (f from) (h from)) (ticks_rising key (from +ℤ pos 1) n f h) (λ x y l r.
     (let a = h from x l in let b = later_tick from (key y) (ticks_from key (from +ℤ pos 1) n f h y r) in subst (λ z. z ≤ℤ key y) (sym a) b))
 
+-- what is left where the first of them are gone
+pub rising_behind : {X : Type 0} (key : X → ℤ) (xs ys : List X) → IsRising key (xs ++ ys) → IsRising key ys
+rising_behind key [] ys h = h
+rising_behind key (x ∷ xs) ys h = rising_behind key xs ys h.1
+
 -- ---- packs
 
 fold_more : {P : Type 0} (size : P → ℕ) (a : ℕ) (ps : List P) (p : P) → fold ◌+◌ a (map size (ps ++ p ∷ [])) ≡ fold ◌+◌ a (map size ps) + size p
@@ -90,8 +95,6 @@ head_sum : (s t p : ℕ) → s ≡ t + p → 4 + s ≡ (4 + t) + p
 head_sum s t p e = omega (arith, e)
 
 module _ {P : Type 0} (f : PartFields P) (most : ℕ) where
-  first_of : (m : Message P) → IsIn m.first (parts_of m)
-  first_of m = inl refl
 
   -- in the order of a key of their first parts
   behind_rising : (key : P → ℤ) (m : Message P) (ps : List P) → ((q : P) → IsIn q ps → key m.first ≤ℤ key q) → IsRising key ps → IsRising (λ n. key n.first) (packs_behind f most m ps)

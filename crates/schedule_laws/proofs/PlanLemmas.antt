@@ -1,5 +1,5 @@
 -- What the tests of a plan give.
-use Rattle.std.proofs.Common.{◌≡◌, ℕ, suc, ◌+◌, ◌≤◌, inl, inr, Bool, true, false, ◌&&◌, ◌==◌, nat_le, if◌then◌else◌, List, [], ◌∷◌, ◌++◌, map, Option, Some, None, refl, ap, ap₂, sym, ◌∙◌, subst, true≢false, arith}
+use Rattle.std.proofs.Common.{◌≡◌, ℕ, ◌+◌, ◌≤◌, inl, inr, Bool, true, false, ◌&&◌, ◌==◌, nat_le, if◌then◌else◌, List, [], ◌∷◌, ◌++◌, map, Option, Some, None, refl, ap, ap₂, sym, ◌∙◌, subst, true≢false, arith}
 use Rattle.std.specs.Prelude.{⊤}
 use Rattle.std.specs.List.{list_any}
 use Rattle.std.specs.Option.{option_to_list}
@@ -12,7 +12,7 @@ use Rattle.unit_laws.specs.window_config.specs.declared.plan.PlanLine.{PlanLine}
 use Rattle.unit_laws.specs.unit_model.specs.Claims.{same_slot}
 use Rattle.unit_laws.specs.unit_model.specs.Commands.{is_full, is_uplink, uplink_in}
 use Rattle.unit_laws.specs.unit_model.specs.Lists.{or_else}
-use Rattle.unit_laws.specs.unit_model.specs.Meetings.{find_endpoint, find_from}
+use Rattle.unit_laws.specs.unit_model.specs.Meetings.{find_endpoint}
 use Rattle.unit_laws.specs.unit_model.specs.Proper.{IsAt}
 use Rattle.unit_laws.specs.unit_model.specs.declared.allocations.Allocation.{Allocation}
 use Rattle.plan_model.specs.Dense.{dense}
@@ -30,23 +30,6 @@ use Rattle.unit_laws.specs.unit_model.proofs.ClaimLemmas.{same_slot_is as slots_
 use Rattle.unit_laws.proofs.HistoryLemmas.{found_at}
 
 -- ---- a line at its endpoint
-
-record FoundAt (es : List EndpointConfig) (start ep : ℕ) (e : EndpointConfig) : Type 0 where
-  place : ℕ
-  ep_is : ep ≡ start + place
-  at : IsAt es place e
-
-find_at : (start : ℕ) (es : List EndpointConfig) (id ep : ℕ) (e : EndpointConfig) → find_from start es id ≡ Some (ep, e) → FoundAt es start ep e
-find_at start [] id ep e h = absurd cc
-find_at start (f ∷ fs) id ep e h = go (f.id == id) h (find_at (start + 1) fs id ep e)
-  where
-    go : (b : Bool) → (if b then Some (start, f) else find_from (start + 1) fs id) ≡ Some (ep, e) → (find_from (start + 1) fs id ≡ Some (ep, e) → FoundAt fs (start + 1) ep e)
-        → FoundAt (f ∷ fs) start ep e
-    go true found rest = let same : (start, f) ≡ (ep, e) = cc in
-        let number = ap (λ (o : ℕ × EndpointConfig). o.0) same in
-        let here = ap (λ (o : ℕ × EndpointConfig). o.1) same in
-        record { place = 0; ep_is = omega (arith, number); at = ap (λ (x : EndpointConfig). Some x) here }
-    go false found rest = let r = rest found in record { place = suc r.place; ep_is = omega (arith, r.ep_is); at = r.at }
 
 pub record IsLineOf (es : List EndpointConfig) (lines : List PlanLine) (p : PlannedLine) : Type 0 where
   pub at : IsAt es p.ep p.endpoint

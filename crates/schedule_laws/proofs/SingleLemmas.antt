@@ -27,7 +27,7 @@ use Rattle.plan_model.proofs.ListLemmas.{any_in}
 use Rattle.schedule_laws.specs.Cells.{mask_below, planned_air, planned_cell, planned_event, planned_mask, planned_symbol, radiates}
 use Rattle.schedule_laws.specs.Data.{AreWritten, Blocks}
 use Rattle.schedule_laws.specs.Premise.{AllArrive, Texts}
-use Rattle.schedule_laws.specs.Singles.{event_of}
+use Rattle.schedule_laws.specs.Singles.{event_of, EachCellRadiatesOnce}
 use Rattle.schedule_laws.proofs.CellLemmas.{plan_radiates}
 use Rattle.schedule_laws.proofs.LineLemmas.{good, start_in_time}
 use Rattle.schedule_laws.proofs.ListLemmas.{in_each, in_piece, numerology_short}
@@ -57,9 +57,6 @@ only_one y (x ∷ xs) d (inr t) =
     rw other (only_one y xs d.1 t)
 
 -- ---- a cell's event is there
-
-below_zero : (a b : ℕ) → a ≡ 0 → 2 * a + b ≡ b
-below_zero a b e = omega (arith, e)
 
 pub mask_some : (test : ℕ → Bool) (n re : ℕ) → re < n → test re ≡ true → mask_below test n ≡ 0 → ⊥
 unfolding mask_below
@@ -118,3 +115,6 @@ module _ (c : Config) (lines : List PlanLine) (text : Texts) (blocks : Blocks) (
     where
       under : (s m n : ℕ) → s < m → m ≤ n → s < n
       under s m n k l = omega (arith, k, l)
+
+pub each_cell_radiates_once : EachCellRadiatesOnce
+each_cell_radiates_once = radiates_once
