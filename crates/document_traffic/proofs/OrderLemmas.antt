@@ -1,5 +1,5 @@
 -- What leaves for a unit is in the order of time.
-use Rattle.std.proofs.Common.{◌≡◌, ℕ, ℤ, pos, ◌+ℤ◌, ◌≤ℤ◌, List, [], ◌∷◌, ◌++◌, length, map, sym, subst, arith}
+use Rattle.std.proofs.Common.{◌≡◌, ℕ, ℤ, pos, ◌+ℤ◌, ◌≤ℤ◌, List, [], ◌∷◌, length, map, sym, subst, arith}
 use Rattle.std.specs.Int.{int_gap}
 use Rattle.std.specs.List.{AllPairs}
 use Rattle.std.proofs.lemmas.List.Kept.{AllPairs-cons}
@@ -7,34 +7,17 @@ use Rattle.frame_deliveries.specs.air_source.specs.declared.events.Side.{Side}
 use Rattle.frame_deliveries.specs.air_source.specs.declared.events.Side.TheVariants.{Ru, Du}
 use Rattle.frame_deliveries.specs.air_source.specs.declared.links.LinkFrame.{LinkFrame}
 use Rattle.frame_deliveries.specs.fh_document.specs.declared.document.Document.{Document}
-use Rattle.sent_order.specs.plan_model.specs.Sent.{SentFrame, frames_from, sent}
-use Rattle.sent_order.specs.plan_model.specs.declared.lines.PlannedLine.{PlannedLine}
 use Rattle.sent_order.specs.schedule_laws.proofs.ListLemmas.{in_all, of_map}
 use Rattle.sent_order.specs.schedule_laws.proofs.OrderLemmas.{IsRising, ticks_rising}
-use Rattle.sent_order.proofs.KeptLemmas.{at_time, time_is}
+use Rattle.schedule_laws.proofs.LeastLemmas.{sent_rising}
 use Rattle.replay_laws.specs.unit_model.specs.Radiated.{first_clock}
 use Rattle.replay_laws.specs.unit_model.specs.Times.{end_of_time}
 use Rattle.uplink_laws.specs.uplink_model.proofs.SentLemmas.{leaving_leave_then}
 use Rattle.uplink_laws.specs.uplink_model.specs.Sent.{in_sent_order, leaving_at}
-use Rattle.frame_deliveries.specs.window_config.specs.declared.config.Config.{Config}
 use Rattle.sent_order.specs.plan_model.proofs.ListLemmas.{all_of}
 use Rattle.document_traffic.specs.Landing.{handed_for, leaving_answer, leaving_to}
 use Rattle.document_traffic.specs.Laws.{LeavingAreInOrder}
 use Rattle.document_traffic.specs.Sending.{Leaving, leaving_of, lines_of, sent_for}
-
-abbrev pub leaving : SentFrame → ℤ
-leaving f = f.at
-
-pub sent_rising : (c : Config) (lines : List PlannedLine) → IsRising leaving (sent c lines)
-unfolding sent
-sent_rising c lines =
-    let all = frames_from c lines 0 c.endpoints in
-    ticks_rising leaving first_clock (int_gap first_clock (end_of_time +ℤ pos 1)) (at_time all) (time_is all)
-
--- so are those that are left where the first of them have left
-pub rising_behind : {X : Type 0} (key : X → ℤ) (xs ys : List X) → IsRising key (xs ++ ys) → IsRising key ys
-rising_behind key [] ys h = h
-rising_behind key (x ∷ xs) ys h = rising_behind key xs ys h.1
 
 -- ---- what leaves for either unit
 

@@ -1,5 +1,5 @@
 -- The frames that a plan has still to send: each at its time, none before the first of them.
-use Rattle.std.proofs.Common.{◌≡◌, ℕ, ℤ, pos, ◌+◌, ◌<◌, ◌+ℤ◌, ◌≤ℤ◌, Bool, true, false, List, [], ◌∷◌, ◌++◌, inl, inr, refl, sym, ap, ◌∙◌, subst, arith}
+use Rattle.std.proofs.Common.{◌≡◌, ℕ, ℤ, pos, ◌+◌, ◌<◌, ◌+ℤ◌, ◌≤ℤ◌, Bool, true, false, List, [], ◌∷◌, inl, inr, refl, sym, ap, ◌∙◌, subst, arith}
 use Rattle.std.specs.Prelude.{map, filter, if◌then◌else◌}
 use Rattle.std.specs.Int.{int_gap}
 use Rattle.std.specs.Ordering.{int_eq}
@@ -13,12 +13,11 @@ use Rattle.du_scheduler.specs.frame_order.specs.Turns.{is_turn, times}
 use Rattle.du_scheduler.specs.frame_order.specs.declared.turns.Turn.{Turn}
 use Rattle.du_scheduler.specs.plan_model.specs.Lines.{planned}
 use Rattle.du_scheduler.specs.plan_model.specs.Sent.{SentFrame, frames_from, sent}
-use Rattle.du_scheduler.specs.plan_model.specs.declared.lines.PlannedLine.{PlannedLine}
-use Rattle.du_scheduler.specs.schedule_laws.proofs.ListLemmas.{of_tick}
-use Rattle.du_scheduler.specs.schedule_laws.proofs.OrderLemmas.{IsRising, ticks_rising}
+use Rattle.schedule_laws.proofs.ListLemmas.{of_tick}
+use Rattle.schedule_laws.proofs.LeastLemmas.{leaving, sent_rising}
+use Rattle.schedule_laws.proofs.OrderLemmas.{IsRising, rising_behind}
 use Rattle.du_scheduler.specs.sent_order.specs.Runs.{turn_of}
 use Rattle.du_scheduler.specs.sent_order.proofs.BoundLemmas.{IsInTime, all_in_time}
-use Rattle.du_scheduler.specs.sent_order.proofs.KeptLemmas.{at_time, time_is as time_then}
 use Rattle.du_scheduler.specs.unit_model.specs.Radiated.{first_clock}
 use Rattle.du_scheduler.specs.unit_model.specs.Times.{end_of_time}
 use Rattle.du_scheduler.specs.unit_model.proofs.SweepLaws.{gap_is}
@@ -53,28 +52,12 @@ is_sent c lines p f left h m = subst (λ (fs : List SentFrame). IsIn f fs) (sym 
 pub sent_time : (c : Config) (lines : List PlanLine) (p : Plan) (f : SentFrame) (left : List SentFrame) → HasToSend c lines left p → IsIn f left → IsSentTime f.at
 sent_time c lines p f left h m = time_is f.at (all_in_time c lines h.config h.fit h.valid f (in_frames c lines f (is_sent c lines p f left h m)))
 
--- ---- what is sent is in the order of time
-
-abbrev leaving : SentFrame → ℤ
-leaving f = f.at
-
-sent_rising : (c : Config) (lines : List PlannedLine) → IsRising leaving (sent c lines)
-unfolding sent
-sent_rising c lines =
-    let all = frames_from c lines 0 c.endpoints in
-    ticks_rising leaving first_clock (int_gap first_clock (end_of_time +ℤ pos 1)) (at_time all) (time_then all)
-
--- so are those that are left where the first of them have left
-rising_behind : (xs ys : List SentFrame) → IsRising leaving (xs ++ ys) → IsRising leaving ys
-rising_behind [] ys h = h
-rising_behind (x ∷ xs) ys h = rising_behind xs ys h.1
-
 -- ---- none leaves before the first one
 
 pub first_is_least : (c : Config) (lines : List PlanLine) (p : Plan) (f : SentFrame) (left : List SentFrame) → HasToSend c lines (f ∷ left) p → AreSentFrom f.at left
 first_is_least c lines p f left h =
     let rising = subst (IsRising leaving) h.all (sent_rising c (planned c.endpoints lines)) in
-    all_of (λ (g : SentFrame). f.at ≤ℤ g.at) left (λ g m. (rising_behind h.given (f ∷ left) rising).0 g m)
+    all_of (λ (g : SentFrame). f.at ≤ℤ g.at) left (λ g m. (rising_behind leaving h.given (f ∷ left) rising).0 g m)
 
 pub sent_less : (a b : ℤ) (fs : List SentFrame) → a ≤ℤ b → AreSentFrom b fs → AreSentFrom a fs
 sent_less a b fs order h = λ k d lt. at_most a b _ order (h k d lt)

@@ -19,7 +19,7 @@ use Rattle.plan_model.proofs.TickLemmas.{ticks_same}
 use Rattle.schedule_laws.proofs.OrderLemmas.{IsRising}
 use Rattle.document_traffic.specs.Landing.{all_delayed, copies_among, copies_in, injected_to, landings_of}
 use Rattle.document_traffic.specs.Sending.{Delayed, SentCounts, class_of, count_of, counted, delayed_behind, leaving_of, lines_of, none_sent, sent_for}
-use Rattle.document_traffic.proofs.OrderLemmas.{leaving, sent_rising}
+use Rattle.schedule_laws.proofs.LeastLemmas.{leaving, sent_rising}
 use Rattle.measured_traffic.specs.Measured.{exchanges, flights_then}
 use Rattle.measured_traffic.specs.Replayed.{landings_for}
 use Rattle.measured_traffic.proofs.AlikeLemmas.{lands_alike}
