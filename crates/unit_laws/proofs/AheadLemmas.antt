@@ -12,15 +12,14 @@ use Rattle.unit_model.specs.Claims.{cell_at}
 use Rattle.unit_model.specs.Lists.{in_order}
 use Rattle.unit_model.specs.Meetings.{Arrival}
 use Rattle.unit_model.specs.Radiated.{Known, air_cell, cell_report, symbol_report}
-use Rattle.unit_model.specs.Reports.{accepted_of, commands_of, data_of, ru_known, timely_of}
-use Rattle.unit_model.specs.Sides.{reach_of}
+use Rattle.unit_model.specs.Reports.{accepted_of, commands_of, ru_known}
 use Rattle.unit_model.specs.Standing.{AreInTime}
 use Rattle.unit_model.specs.Uplink.{symbol_jobs}
 use Rattle.unit_model.specs.declared.allocations.Allocation.{Allocation}
-use Rattle.unit_laws.specs.Far.{IsReached, IsReachedData}
-use Rattle.unit_laws.specs.Histories.{NoClaimsAhead, NoBlocksAhead, NoUplinkAhead, NoReportsAhead, NoJobsAhead}
-use Rattle.unit_laws.proofs.FarLemmas.{accepted_reached, timely_reached, far_unclaimed, far_no_block, far_no_uplink}
-use Rattle.unit_laws.proofs.HistoryLemmas.{commands_are_heard, data_are_heard}
+use Rattle.unit_laws.specs.Far.{IsReached}
+use Rattle.unit_laws.specs.Histories.{NoClaimsAhead, NoUplinkAhead, NoReportsAhead, NoJobsAhead}
+use Rattle.unit_laws.proofs.FarLemmas.{accepted_reached, far_unclaimed, far_no_uplink}
+use Rattle.unit_laws.proofs.HistoryLemmas.{commands_are_heard}
 use Rattle.unit_laws.proofs.LookupLemmas.{jobs_of_their_slot}
 use Rattle.unit_model.proofs.SweepLaws.{each_none as each_nothing}
 use Rattle.unit_model.proofs.ClaimLemmas.{none_used as unused}
@@ -29,17 +28,9 @@ reached : (c : Config) (clock : ℤ) (arrivals : List Arrival) → IsWithinLimit
     → All (IsReached c.endpoints (ru_reach_of c.delays) clock) (accepted_of c arrivals)
 reached c clock arrivals limits h = accepted_reached c.endpoints c.delays clock (commands_of Ru c arrivals) limits (commands_are_heard Ru c clock arrivals h)
 
-reached_data : (side : Side) (c : Config) (clock : ℤ) (arrivals : List Arrival) → IsWithinLimits c.delays → AreInTime clock arrivals
-    → All (IsReachedData c.endpoints (reach_of side c.delays) clock) (timely_of side c arrivals)
-reached_data side c clock arrivals limits h = timely_reached side c.endpoints c.delays clock (data_of side c arrivals) limits (data_are_heard side c clock arrivals h)
-
 pub no_claims_ahead : NoClaimsAhead
 no_claims_ahead c clock arrivals e cell re limits h at far =
     far_unclaimed c.endpoints (ru_reach_of c.delays) clock (accepted_of c arrivals) e cell re (reached c clock arrivals limits h) at far
-
-pub no_blocks_ahead : NoBlocksAhead
-no_blocks_ahead side c clock arrivals e cell limits h at far =
-    far_no_block c.endpoints (reach_of side c.delays) clock (timely_of side c arrivals) e cell (reached_data side c clock arrivals limits h) at far
 
 pub no_uplink_ahead : NoUplinkAhead
 no_uplink_ahead c clock arrivals e ep slot limits h at far =

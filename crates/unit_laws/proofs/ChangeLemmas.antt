@@ -17,7 +17,7 @@ use Rattle.unit_model.specs.declared.decoded.ControlSection.{ControlSection}
 use Rattle.unit_model.specs.declared.decoded.UserSection.{UserSection}
 use Rattle.unit_model.specs.declared.verdicts.CommandVerdict.{CommandVerdict}
 use Rattle.unit_model.specs.declared.verdicts.CommandVerdict.TheVariants.{Mismatch, Late, Early, Range, Repeat, Overlap, Full, Accepted}
-use Rattle.unit_laws.specs.Changes.{OnlyAcceptedClaims, ClaimsStay, OnlyTimelyGives, BlocksStay}
+use Rattle.unit_laws.specs.Changes.{OnlyAcceptedClaims, ClaimsStay, OnlyTimelyGives}
 use Rattle.unit_laws.proofs.AcceptanceLemmas.{accepted_is_acceptable}
 use Rattle.unit_laws.proofs.CellLemmas.{unclaimed}
 
@@ -132,15 +132,3 @@ only_timely side d x earlier cell = elim (timely_more side d x earlier) [
     | inr covered ↦ inr (is.0, covered)
   ]
 ]
-
-pub block_kept : (x : UserSection) (earlier : List UserSection) (cell : Cell) (block : Block) → block_at earlier cell ≡ Some block → block_at (x ∷ earlier) cell ≡ Some block
-block_kept x earlier cell block there = block-cons x earlier cell ∙ ap (λ (o : Option Block). or_else o (block_in x cell)) there
-
-pub block_stays : BlocksStay
-block_stays side d [] earlier cell block there = there
-block_stays side d (x ∷ later) earlier cell block there =
-    let before = block_stays side d later earlier cell block there in
-    elim (timely_more side d x (later ++ earlier)) [
-      | inl e ↦ ap (λ (xs : List UserSection). block_at xs cell) e ∙ before
-      | inr is ↦ ap (λ (xs : List UserSection). block_at xs cell) is.1 ∙ block_kept x (timely side d (later ++ earlier)) cell block before
-    ]

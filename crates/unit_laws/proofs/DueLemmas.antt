@@ -14,7 +14,7 @@ use Rattle.unit_model.specs.Claims.{cell_at}
 use Rattle.unit_model.specs.Radiated.{Known, air_cell, cell_report, first_clock, reported, symbol_report, used_mask, wait_of}
 use Rattle.unit_model.specs.Standing.{due, is_reported, same_cell, still_reported}
 use Rattle.unit_model.specs.Sweeps.{sweep}
-use Rattle.unit_laws.specs.Due.{AreDifferent, ReportedAreDifferent, DueAreDifferent, AllIsDue, DueInPieces, DueOnce, DueAppends}
+use Rattle.unit_laws.specs.Due.{AreDifferent, ReportedAreDifferent, DueAreDifferent, AllIsDue, DueInPieces, DueOnce}
 use Rattle.unit_laws.proofs.DifferLemmas.{IsOther, IsOwn, TellsOwn, all_kept, differ-append, differ-filter, differ-parts, each_differ, not_less, other_swap, same_self, sweep_differ}
 use Rattle.unit_laws.proofs.SweepLemmas.{IsKept, each_related, sweep_related, sweep-append, sweep-none, sweep-same}
 use Rattle.fh_time.proofs.Orders.{up_to, weak}
@@ -230,9 +230,3 @@ due_begins side d es k heard to later order =
     by_lt_z mid from
     (λ before. (sweep g es from end, ap (λ (xs : List AirCell). xs ++ sweep g es from end) (sym (sweep-none g es from mid (weak mid from before)))))
     (λ after. (sweep g es mid end, sweep-append g es from mid end after (up_to to later (wait_of side d) order)))
-
-pub due_appends : DueAppends
-due_appends side d es k heard to later once order =
-    let begins = due_begins side d es k heard to later order in
-    let now = due side d es k heard to in
-    begins.1 ∙ ap (λ (xs : List AirCell). now ++ xs) (sym (due_in_pieces side d es k heard now begins.0 later once begins.1))

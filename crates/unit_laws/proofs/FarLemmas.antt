@@ -10,18 +10,15 @@ use Rattle.window_config.specs.Rings.{ru_reach_of}
 use Rattle.window_config.specs.Windows.{ticks_of_ns}
 use Rattle.window_config.specs.declared.endpoints.EndpointConfig.{EndpointConfig}
 use Rattle.window_config.specs.declared.rings.Reach.{Reach}
-use Rattle.unit_model.specs.Blocks.{block_at, data_covers, data_slot, timely}
 use Rattle.unit_model.specs.Claims.{claim_at, covers, in_mask, names, same_slot}
 use Rattle.unit_model.specs.Commands.{accepted, allocation_of, is_uplink}
 use Rattle.unit_model.specs.Proper.{IsAt}
-use Rattle.unit_model.specs.Sides.{reach_of}
 use Rattle.unit_model.specs.Standing.{uplink_of}
 use Rattle.unit_model.specs.declared.allocations.Allocation.{Allocation}
-use Rattle.unit_laws.specs.Far.{WasLive, IsFar, IsReached, IsReachedData, IsHeard, IsHeardData, AcceptedAreReached, TimelyAreReached, FarIsUnclaimed, FarHasNoUplink, FarHasNoBlock}
+use Rattle.unit_laws.specs.Far.{WasLive, IsFar, IsReached, IsHeard, AcceptedAreReached, FarIsUnclaimed, FarHasNoUplink}
 use Rattle.unit_laws.specs.Touched.{is_uplink_of}
-use Rattle.unit_laws.proofs.CellLemmas.{data_covers_is}
-use Rattle.unit_laws.proofs.ChangeLemmas.{accepted_more, timely_more, claim_same, block_same, either_way}
-use Rattle.unit_laws.proofs.LiveLemmas.{command_live, data_live}
+use Rattle.unit_laws.proofs.ChangeLemmas.{accepted_more, claim_same, either_way}
+use Rattle.unit_laws.proofs.LiveLemmas.{command_live}
 use Rattle.unit_model.proofs.ClaimLemmas.{same_slot_is as slots_equal, covers_is}
 use Rattle.fh_time.proofs.Orders.{beyond}
 
@@ -58,23 +55,6 @@ accepted_reached es d clock (c ∷ earlier) limits heard =
           subst (All P) (sym is.1) (All-cons P (allocation_of c) (accepted d earlier) here before)
     ]
 
-pub timely_reached : TimelyAreReached
-unfolding timely
-timely_reached side es d clock [] limits heard = All-nil (IsReachedData es (reach_of side d) clock)
-timely_reached side es d clock (x ∷ earlier) limits heard =
-    let P = IsReachedData es (reach_of side d) clock in
-    let before : All P (timely side d earlier) = timely_reached side es d clock earlier limits (All-tail (IsHeardData es clock) x earlier heard) in
-    let first : IsHeardData es clock x = All-head (IsHeardData es clock) x earlier heard in
-    elim (timely_more side d x earlier) [
-      | inl e ↦ subst (All P) (sym e) before
-      | inr is ↦
-          let here : P x = record {
-            endpoint = first.endpoint;
-            live = record { when = x.last.0; come = first.come; live = data_live side d x limits first.symbol first.order is.0 };
-          } in
-          subst (All P) (sym is.1) (All-cons P x (timely side d earlier) here before)
-    ]
-
 pub far_unclaimed : FarIsUnclaimed
 unfolding claim_at
 far_unclaimed es r clock [] e cell re all at far = refl
@@ -102,17 +82,4 @@ far_no_uplink es r clock (a ∷ earlier) e ep slot all at far =
       | inr own ↦
           let parts = and_parts (a.ep == ep) (same_slot a.slot slot) (and_parts (is_uplink a) _ own).1 in
           absurd (far_other es r clock a.ep ep a.endpoint e a.slot slot first.endpoint at (eqb-true a.ep ep parts.0) (slots_equal a.slot slot parts.1) first.live far)
-    ]
-
-pub far_no_block : FarHasNoBlock
-unfolding block_at
-far_no_block es r clock [] e cell all at far = refl
-far_no_block es r clock (x ∷ earlier) e cell all at far =
-    let before : block_at earlier cell ≡ None = far_no_block es r clock earlier e cell (All-tail (IsReachedData es r clock) x earlier all) at far in
-    let first : IsReachedData es r clock x = All-head (IsReachedData es r clock) x earlier all in
-    elim (either_way (data_covers x cell)) [
-      | inl other ↦ block_same x earlier cell other ∙ before
-      | inr own ↦
-          let is = data_covers_is x cell own in
-          absurd (far_other es r clock x.ep cell.ep x.endpoint e (data_slot x) cell.slot first.endpoint at is.ep is.slot first.live far)
     ]

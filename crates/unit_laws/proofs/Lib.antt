@@ -16,9 +16,7 @@ pub mod LookupLemmas
 pub mod ReadLemmas
 pub mod HistoryLemmas
 pub mod AheadLemmas
-pub mod RunLemmas
 pub mod FrameLemmas
 pub mod TickLemmas
-pub mod TouchLemmas
 pub mod EndLemmas
 pub mod BeginLemmas

@@ -17,7 +17,6 @@ use Rattle.unit_model.specs.declared.decoded.ControlSection.{ControlSection}
 use Rattle.unit_model.specs.declared.decoded.UserSection.{UserSection}
 use Rattle.unit_model.specs.declared.verdicts.CommandVerdict.TheVariants.{Accepted}
 use Rattle.window_config.specs.declared.verdicts.Class.TheVariants.{OnTime}
-use Rattle.unit_laws.specs.Live.{AcceptedIsLive, TimelyIsLive}
 use Rattle.unit_laws.proofs.AcceptanceLemmas.{accepted_is_acceptable}
 use Rattle.fh_time.proofs.Orders.{low_one as some_more, not_negative}
 use Rattle.std.specs.Int.Signed.{≤ℤ_refl}
@@ -49,9 +48,3 @@ data_live Ru d x limits symbol order h =
     (not_negative d.ta3.min d.ta3.max limits.ta3.low limits.ta3.order) h
 data_live Du d x limits symbol order h =
     live_on_time_up x.endpoint.numerology (data_slot x) x.section.symbol x.first.0 x.last.0 d.ta4 d.ta4.max symbol order limits.ta4.low (≤ℤ_refl d.ta4.max) h
-
-pub accepted_live : AcceptedIsLive
-accepted_live es d earlier c limits proper h = command_live d earlier c limits proper.start_symbol h
-
-pub timely_live : TimelyIsLive
-timely_live side es d x limits proper order h = data_live side d x limits proper.symbol order h

@@ -17,13 +17,11 @@ use Rattle.unit_model.specs.Standing.{cell_heard, same_cell, uplink_of}
 use Rattle.unit_model.specs.Uplink.{is_before, job_of, sends_in, symbol_jobs}
 use Rattle.unit_model.specs.declared.allocations.Allocation.{Allocation}
 use Rattle.unit_model.specs.declared.cells.Cell.{Cell}
-use Rattle.unit_laws.specs.Lookups.{CoveredAreCells, DataCoverCells, RepeatsByLookup, OverlapsByLookup, HasAllByLookup, UplinkIsCounted, JobsAreOfTheirSlot, ReportedByLookup}
-use Rattle.unit_laws.proofs.CellLemmas.{data_covers_is}
+use Rattle.unit_laws.specs.Lookups.{CoveredAreCells, RepeatsByLookup, OverlapsByLookup, HasAllByLookup, UplinkIsCounted, JobsAreOfTheirSlot, ReportedByLookup}
 use Rattle.unit_laws.proofs.DifferLemmas.{other_swap}
 use Rattle.unit_laws.proofs.DueLemmas.{filter_both}
 use Rattle.unit_laws.specs.Touched.{is_uplink_of}
 use Rattle.unit_model.proofs.ClaimLemmas.{within_carrier, is_in, way_self, slot_self, every_same, some_same, claimed_same, overlapped_same, from_within, covers_is}
-use Rattle.fh_time.proofs.Orders.{same_below}
 
 -- ---- the cells that are covered
 
@@ -38,16 +36,6 @@ covered_cells c a cell proper covered =
       slot = subst (IsSlot a.endpoint.numerology) is.slot proper.slot;
       symbol = below_all a.symbol a.num_symbol _ cell.symbol proper.within (from_within a.symbol a.num_symbol cell.symbol is.symbol);
       prb = within_carrier a.endpoint.prbs a.start_prb a.num_prb cell.prb proper.prbs is.prb;
-    }
-
-pub data_cover_cells : DataCoverCells
-data_cover_cells c x cell proper slot covered =
-    let is = data_covers_is x cell covered in
-    record {
-      endpoint = subst (λ (k : ℕ). IsAt c.endpoints k x.endpoint) is.ep proper.endpoint;
-      slot = subst (IsSlot x.endpoint.numerology) is.slot slot;
-      symbol = same_below x.section.symbol cell.symbol _ proper.symbol is.symbol;
-      prb = within_carrier x.endpoint.prbs x.section.start_prb x.section.num_prb cell.prb proper.within is.prb;
     }
 
 covers_own : (a : Allocation) (y n : ℕ) → a.symbol ≤ y → y < a.symbol + a.num_symbol → first_prb a ≤ n → n < first_prb a + prb_count a → covers a (cell_of a y n) ≡ true

@@ -40,9 +40,6 @@ later least s at some h = omega (arith, ints)
 sum_some : (a b : ℤ) → pos 1 ≤ℤ a → pos 0 ≤ℤ b → pos 1 ≤ℤ (a +ℤ b)
 sum_some a b h k = omega (arith, ints)
 
-over : (at s t : ℤ) → at <ℤ s → s ≤ℤ t → t ≤ℤ at → ⊥
-over at s t a b c = omega (arith, ints)
-
 beyond : (at s t u : ℤ) → at <ℤ s → s ≤ℤ t → t ≤ℤ u → at <ℤ u
 beyond at s t u a b c = omega (arith, ints)
 

@@ -1,10 +1,9 @@
 -- What is sent and reported up to a time.
-use Rattle.std.proofs.Common.{◌≡◌, ℕ, ℤ, pos, ◌+ℤ◌, ◌-ℤ◌, ◌≤ℤ◌, ◌<ℤ◌, List, ◌∷◌, ◌++◌, inl, inr, sym, ap, ◌∙◌, arith}
+use Rattle.std.proofs.Common.{◌≡◌, ℕ, ℤ, pos, ◌+ℤ◌, ◌-ℤ◌, ◌≤ℤ◌, ◌<ℤ◌, List, ◌∷◌, ◌++◌, sym, ap, arith}
 use Rattle.std.specs.Prelude.{filter}
 use Rattle.std.proofs.lemmas.Int.{ints, by_lt_z}
 use Rattle.fh_time.specs.Air.{air_of}
 use Rattle.fh_time.specs.declared.values.Slot.{Slot}
-use Rattle.fh_time.proofs.Order.{symbols_in_order}
 use Rattle.unit_model.specs.Terms.{AirCell, Side, Ru, Du}
 use Rattle.window_config.specs.declared.delays.Delays.{Delays}
 use Rattle.window_config.specs.declared.endpoints.EndpointConfig.{EndpointConfig}
@@ -14,16 +13,13 @@ use Rattle.unit_model.specs.Proper.{IsAt}
 use Rattle.unit_model.specs.Radiated.{Known, first_clock, known_of, reported, symbol_report, wait_of}
 use Rattle.unit_model.specs.Standing.{due, past_of, still_reported}
 use Rattle.unit_model.specs.Sweeps.{sweep}
-use Rattle.unit_model.specs.Uplink.{jobs, sends_in, symbol_jobs}
+use Rattle.unit_model.specs.Uplink.{jobs, symbol_jobs}
 use Rattle.unit_laws.specs.Past.{IsPast}
-use Rattle.unit_laws.specs.Sent.{JobsBegin, JobsAppend, LaterSendsNothing, CommandLeavesSent}
+use Rattle.unit_laws.specs.Sent.{JobsBegin, JobsAppend, CommandLeavesSent}
 use Rattle.unit_laws.specs.Told.{CommandLeavesReported, DataLeaveReported, CommandLeavesDue, DataLeaveDue}
-use Rattle.unit_laws.proofs.ChangeLemmas.{either_way}
 use Rattle.unit_laws.proofs.DueLemmas.{unheard}
-use Rattle.unit_laws.proofs.FarLemmas.{endpoints_equal}
-use Rattle.unit_laws.proofs.PastLemmas.{command_leaves_jobs, command_leaves_reports, data_leave_reports, jobs_same, sends_is}
+use Rattle.unit_laws.proofs.PastLemmas.{command_leaves_jobs, command_leaves_reports, data_leave_reports}
 use Rattle.unit_laws.proofs.SweepLemmas.{sweep-append, sweep-none, sweep-same}
-use Rattle.unit_model.proofs.ClaimLemmas.{starts_before as from_first}
 use Rattle.fh_time.proofs.Orders.{weak, next_order, next_later}
 
 pub jobs_append : JobsAppend
@@ -40,28 +36,6 @@ jobs_begin es claimed to later order =
     by_lt_z mid first_clock
     (λ before. (sweep g es first_clock end, ap (λ (xs : List _). xs ++ sweep g es first_clock end) (sym (sweep-none g es first_clock mid (weak mid first_clock before)))))
     (λ after. (sweep g es mid end, sweep-append g es first_clock mid end after (next_order to later order)))
-
-by_end : (s t u : ℤ) → s <ℤ (t +ℤ pos 1) → t ≤ℤ u → s ≤ℤ u
-by_end s t u a b = omega (arith, ints)
-
-too_late : (to start t s : ℤ) → to <ℤ start → start ≤ℤ t → t ≡ s → s <ℤ (to +ℤ pos 1) → ⊥
-too_late to start t s a b c d = omega (arith, ints)
-
-pub later_sends_nothing : LaterSendsNothing
-unfolding jobs
-later_sends_nothing es a claimed to at_a after =
-    sweep-same (symbol_jobs (a ∷ claimed)) (symbol_jobs claimed) es first_clock (to +ℤ pos 1) (λ ep e slot symbol tick low high swept.
-    elim (either_way (sends_in ep slot symbol a)) [
-      | inl other ↦ jobs_same a claimed ep e slot symbol other
-      | inr own ↦
-          let is = sends_is ep slot symbol a own in
-          let n = a.endpoint.numerology in
-          let times : air_of n a.slot symbol ≡ tick =
-          ap (λ (x : EndpointConfig). air_of x.numerology a.slot symbol) (endpoints_equal es a.ep ep a.endpoint e at_a swept.endpoint is.ep_is)
-          ∙ ap (λ (x : Slot). air_of e.numerology x symbol) is.slot_is ∙ swept.starts in
-          absurd (too_late to (air_of n a.slot a.symbol) (air_of n a.slot symbol) tick after
-          (symbols_in_order n a.slot a.symbol symbol (from_first a.symbol a.num_symbol symbol is.symbol_is)) times high)
-    ])
 
 at_or_before : (start tick to at : ℤ) → start ≡ tick → tick <ℤ (to +ℤ pos 1) → to ≤ℤ at → start ≤ℤ at
 at_or_before start tick to at a b c = omega (arith, ints)

@@ -13,8 +13,7 @@ use Rattle.unit_model.specs.Lists.{each, each_tick}
 use Rattle.unit_model.specs.Proper.{IsAt}
 use Rattle.unit_model.specs.Sweeps.{OfSymbol, at_tick, first_swept, of_endpoint, of_endpoints, of_frame, of_slot, of_subframe, of_symbol, slot_at, sweep}
 use Rattle.unit_laws.specs.Swept.{IsSwept}
-use Rattle.unit_laws.specs.Swept.{SweepsAppend, SweepsAreSame, SweepsOfNothing, TicksOfNothing}
-use Rattle.unit_model.proofs.SweepLaws.{ticks_split as each_tick-add, gap_is as gap_reaches, gap_none, sweep_quiet as sweep-nothing}
+use Rattle.unit_model.proofs.SweepLaws.{ticks_split as each_tick-add, gap_is as gap_reaches, gap_none}
 use Rattle.fh_time.proofs.Orders.{at_most as no_order, same_gap, above_next, frame_low_is}
 use Rattle.std.specs.Int.Signed.{≤ℤ_refl}
 
@@ -25,9 +24,6 @@ gap_below (pos a) (pos b) s above below = omega (arith, ints)
 gap_below (pos a) (negsuc b) s above below = omega (arith, ints)
 gap_below (negsuc a) (pos b) s above below = omega (arith, ints)
 gap_below (negsuc a) (negsuc b) s above below = omega (arith, ints)
-
-start_next : (from : ℤ) (n : ℕ) → from +ℤ pos (suc n) ≡ (from +ℤ pos 1) +ℤ pos n
-start_next from n = omega (arith, ints)
 
 -- ---- one after the other
 
@@ -177,17 +173,3 @@ pub tick-nothing : {A : Type 0} (g : OfSymbol A) (es : List EndpointConfig) (tic
     → ((ep : ℕ) (e : EndpointConfig) (slot : Slot) (symbol : ℕ) → IsSwept es ep e slot symbol tick → g ep e slot symbol ≡ [])
     → at_tick g es tick ≡ []
 tick-nothing g es tick none = at_tick_related (λ xs ys. xs ≡ []) none_kept g g es tick none
-
--- ---- the laws, as they are stated
-
-pub sweeps_append : {A : Type 0} → SweepsAppend A
-sweeps_append = sweep-append
-
-pub sweeps_are_same : {A : Type 0} → SweepsAreSame A
-sweeps_are_same = sweep-same
-
-pub sweeps_of_nothing : {A : Type 0} → SweepsOfNothing A
-sweeps_of_nothing = sweep-nothing
-
-pub ticks_of_nothing : {A : Type 0} → TicksOfNothing A
-ticks_of_nothing = tick-nothing

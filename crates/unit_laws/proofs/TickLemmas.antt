@@ -16,16 +16,13 @@ use Rattle.window_config.specs.declared.delays.Delays.{Delays}
 use Rattle.window_config.specs.declared.endpoints.EndpointConfig.{EndpointConfig}
 use Rattle.window_config.specs.declared.rings.Reach.{Reach}
 use Rattle.unit_model.specs.Radiated.{Known, first_clock, symbol_report, wait_of}
-use Rattle.unit_model.specs.Reports.{accepted_of, ru_known}
 use Rattle.unit_model.specs.Standing.{due, still_reported}
 use Rattle.unit_model.specs.Sweeps.{sweep}
-use Rattle.unit_model.specs.Uplink.{jobs, symbol_jobs}
+use Rattle.unit_model.specs.Uplink.{jobs}
 use Rattle.unit_laws.specs.Far.{IsFar}
-use Rattle.unit_laws.specs.Ticks.{LiveLater, LaterSymbolsAreAhead, IsLiveSlot, QuietOfCells, QuietOfJobs, CellsOfLive, JobsOfLive, DueAfterClock, GivenInOrder}
-use Rattle.unit_laws.proofs.AheadLemmas.{no_jobs_ahead, no_reports_ahead}
+use Rattle.unit_laws.specs.Ticks.{LiveLater, LaterSymbolsAreAhead, IsLiveSlot, DueAfterClock, GivenInOrder}
 use Rattle.unit_laws.proofs.DueLemmas.{unheard}
-use Rattle.unit_laws.proofs.FrameLemmas.{endpoint_in_a_row}
-use Rattle.unit_laws.proofs.SweepLemmas.{sweep-append, tick-nothing}
+use Rattle.unit_laws.proofs.SweepLemmas.{sweep-append}
 use Rattle.fh_time.proofs.Orders.{not_negative, up_to as to_last, at_most}
 
 live_or_far : (n : Numerology) (r : Reach) (clock : ℤ) (slot : Slot) → clock ≤ℤ (air_of n slot 0 +ℤ pos (span_of n) +ℤ ticks_of_ns r.after)
@@ -55,38 +52,6 @@ pub still_nothing : (k : Known) (heard : List AirCell) (ep : ℕ) (e : EndpointC
     → still_reported Ru k heard ep e slot symbol ≡ []
 unfolding still_reported
 still_nothing k heard ep e slot symbol none = ap (filter (unheard heard)) none
-
-pub quiet_of_cells : QuietOfCells
-quiet_of_cells c clock arrivals heard tick limits h order none =
-    tick-nothing (still_reported Ru (ru_known c arrivals) heard) c.endpoints tick (λ ep e slot symbol swept.
-    elim (starts_at c.delays e clock tick slot symbol limits order swept.symbol_is swept.starts) [
-      | inl live ↦ none ep e slot symbol swept live
-      | inr far ↦ still_nothing (ru_known c arrivals) heard ep e slot symbol (no_reports_ahead Ru c clock arrivals e ep slot symbol limits h swept.endpoint far)
-    ])
-
-pub quiet_of_jobs : QuietOfJobs
-quiet_of_jobs c clock arrivals tick limits h order none =
-    tick-nothing (symbol_jobs (accepted_of c arrivals)) c.endpoints tick (λ ep e slot symbol swept.
-    elim (starts_at c.delays e clock tick slot symbol limits order swept.symbol_is swept.starts) [
-      | inl live ↦ none ep e slot symbol swept live
-      | inr far ↦ no_jobs_ahead c clock arrivals e ep slot symbol limits h swept.endpoint far
-    ])
-
-pub cells_of_live : CellsOfLive
-cells_of_live c clock arrivals heard ep e tick start count limits h order at short is all =
-    endpoint_in_a_row (still_reported Ru (ru_known c arrivals) heard ep e) e tick start count short is (λ slot symbol is_slot elsewhere small starts.
-    elim (starts_at c.delays e clock tick slot symbol limits order small starts) [
-      | inl live ↦ absurd (all slot is_slot live elsewhere)
-      | inr far ↦ still_nothing (ru_known c arrivals) heard ep e slot symbol (no_reports_ahead Ru c clock arrivals e ep slot symbol limits h at far)
-    ])
-
-pub jobs_of_live : JobsOfLive
-jobs_of_live c clock arrivals ep e tick start count limits h order at short is all =
-    endpoint_in_a_row (symbol_jobs (accepted_of c arrivals) ep e) e tick start count short is (λ slot symbol is_slot elsewhere small starts.
-    elim (starts_at c.delays e clock tick slot symbol limits order small starts) [
-      | inl live ↦ absurd (all slot is_slot live elsewhere)
-      | inr far ↦ no_jobs_ahead c clock arrivals e ep slot symbol limits h at far
-    ])
 
 -- ---- from the clock on
 

@@ -6,7 +6,6 @@ use Rattle.window_config.specs.declared.verdicts.Class.TheVariants.{OnTime}
 use Rattle.unit_model.specs.Blocks.{block_at, data_class, data_covers, timely}
 use Rattle.unit_model.specs.Claims.{claim_at, names}
 use Rattle.unit_model.specs.Commands.{accepted, allocation_of, command_verdict}
-use Rattle.unit_model.specs.declared.cells.Block.{Block}
 use Rattle.unit_model.specs.declared.cells.Cell.{Cell}
 use Rattle.unit_model.specs.declared.cells.Claim.{Claim}
 use Rattle.unit_model.specs.declared.decoded.ControlSection.{ControlSection}
@@ -32,9 +31,3 @@ OnlyTimelyGives =
     (side : Side) (d : Delays) (x : UserSection) (earlier : List UserSection) (cell : Cell)
     → (block_at (timely side d (x ∷ earlier)) cell ≡ block_at (timely side d earlier) cell)
     ⊎ ((data_class side d x ≡ OnTime) × (data_covers x cell ≡ true))
-
--- a block that is there stays as it is, whatever data come later
-abbrev pub BlocksStay : Type 0
-BlocksStay =
-    (side : Side) (d : Delays) (later earlier : List UserSection) (cell : Cell) (block : Block)
-    → block_at (timely side d earlier) cell ≡ Some block → block_at (timely side d (later ++ earlier)) cell ≡ Some block

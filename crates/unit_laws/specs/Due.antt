@@ -1,5 +1,5 @@
 -- What is due falls apart at each time: no cell is told twice, and what is told is due no more.
-use Rattle.std.specs.Prelude.{◌≡◌, ℤ, ◌≤ℤ◌, List, [], ◌++◌}
+use Rattle.std.specs.Prelude.{◌≡◌, ℤ, List, [], ◌++◌}
 use Rattle.unit_model.specs.Terms.{AirCell, Side}
 use Rattle.eaxc_map.specs.Endpoints.{AppearOnce}
 use Rattle.window_config.specs.Endpoints.{ids_of}
@@ -34,9 +34,3 @@ abbrev pub DueOnce : Type 0
 DueOnce =
     (side : Side) (d : Delays) (es : List EndpointConfig) (k : Known) (heard : List AirCell) (to : ℤ) → AppearOnce (ids_of es)
     → due side d es k (heard ++ due side d es k heard to) to ≡ []
-
--- what is due up to a later time is what is due up to an earlier one, and then what is due once that was heard
-abbrev pub DueAppends : Type 0
-DueAppends =
-    (side : Side) (d : Delays) (es : List EndpointConfig) (k : Known) (heard : List AirCell) (to later : ℤ) → AppearOnce (ids_of es) → to ≤ℤ later
-    → due side d es k heard later ≡ due side d es k heard to ++ due side d es k (heard ++ due side d es k heard to) later

@@ -4,18 +4,16 @@ use Rattle.fh_time.specs.Air.{air_of}
 use Rattle.fh_time.specs.Numbering.{symbols_of}
 use Rattle.fh_time.specs.declared.numerology.Numerology.{Numerology}
 use Rattle.fh_time.specs.declared.values.Slot.{Slot}
-use Rattle.unit_model.specs.Terms.{Side}
 use Rattle.window_config.specs.Limits.{IsWithinLimits}
 use Rattle.window_config.specs.Rings.{IsLive, ru_reach_of}
 use Rattle.window_config.specs.Windows.{ticks_of_ns}
 use Rattle.window_config.specs.declared.delays.Delays.{Delays}
 use Rattle.window_config.specs.declared.endpoints.EndpointConfig.{EndpointConfig}
 use Rattle.window_config.specs.declared.rings.Reach.{Reach}
-use Rattle.unit_model.specs.Blocks.{block_at, data_slot, timely}
+use Rattle.unit_model.specs.Blocks.{data_slot}
 use Rattle.unit_model.specs.Claims.{claim_at}
 use Rattle.unit_model.specs.Commands.{accepted}
 use Rattle.unit_model.specs.Proper.{IsAt}
-use Rattle.unit_model.specs.Sides.{reach_of}
 use Rattle.unit_model.specs.Standing.{uplink_of}
 use Rattle.unit_model.specs.declared.allocations.Allocation.{Allocation}
 use Rattle.unit_model.specs.declared.cells.Cell.{Cell}
@@ -59,11 +57,6 @@ AcceptedAreReached =
     (es : List EndpointConfig) (d : Delays) (clock : ℤ) (cs : List ControlSection) → IsWithinLimits d → All (IsHeard es clock) cs
     → All (IsReached es (ru_reach_of d) clock) (accepted d cs)
 
-abbrev pub TimelyAreReached : Type 0
-TimelyAreReached =
-    (side : Side) (es : List EndpointConfig) (d : Delays) (clock : ℤ) (xs : List UserSection) → IsWithinLimits d → All (IsHeardData es clock) xs
-    → All (IsReachedData es (reach_of side d) clock) (timely side d xs)
-
 -- so a slot that is not live yet has no claim, no uplink section and no block
 abbrev pub FarIsUnclaimed : Type 0
 FarIsUnclaimed =
@@ -74,8 +67,3 @@ abbrev pub FarHasNoUplink : Type 0
 FarHasNoUplink =
     (es : List EndpointConfig) (r : Reach) (clock : ℤ) (earlier : List Allocation) (e : EndpointConfig) (ep : ℕ) (slot : Slot)
     → All (IsReached es r clock) earlier → IsAt es ep e → IsFar e.numerology r clock slot → uplink_of ep slot earlier ≡ []
-
-abbrev pub FarHasNoBlock : Type 0
-FarHasNoBlock =
-    (es : List EndpointConfig) (r : Reach) (clock : ℤ) (earlier : List UserSection) (e : EndpointConfig) (cell : Cell)
-    → All (IsReachedData es r clock) earlier → IsAt es cell.ep e → IsFar e.numerology r clock cell.slot → block_at earlier cell ≡ None

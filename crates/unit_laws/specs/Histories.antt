@@ -10,9 +10,7 @@ use Rattle.window_config.specs.declared.endpoints.EndpointConfig.{EndpointConfig
 use Rattle.unit_model.specs.Meetings.{Arrival}
 use Rattle.unit_model.specs.Proper.{IsAt, IsProperCommand, IsProperData, IsTime}
 use Rattle.unit_model.specs.Radiated.{symbol_report}
-use Rattle.unit_model.specs.Reports.{accepted_of, commands_of, data_of, ru_known, timely_of}
-use Rattle.unit_model.specs.Blocks.{block_at}
-use Rattle.unit_model.specs.Sides.{reach_of}
+use Rattle.unit_model.specs.Reports.{accepted_of, commands_of, data_of, ru_known}
 use Rattle.unit_model.specs.Standing.{AreInTime, uplink_of}
 use Rattle.unit_model.specs.Uplink.{symbol_jobs}
 use Rattle.unit_model.specs.declared.cells.Cell.{Cell}
@@ -42,13 +40,6 @@ NoClaimsAhead =
     (c : Config) (clock : ℤ) (arrivals : List Arrival) (e : EndpointConfig) (cell : Cell) (re : ℕ)
     → IsWithinLimits c.delays → AreInTime clock arrivals → IsAt c.endpoints cell.ep e → IsFar e.numerology (ru_reach_of c.delays) clock cell.slot
     → (ru_known c arrivals).claims cell re ≡ None
-
--- and neither unit has a block of it
-abbrev pub NoBlocksAhead : Type 0
-NoBlocksAhead =
-    (side : Side) (c : Config) (clock : ℤ) (arrivals : List Arrival) (e : EndpointConfig) (cell : Cell)
-    → IsWithinLimits c.delays → AreInTime clock arrivals → IsAt c.endpoints cell.ep e → IsFar e.numerology (reach_of side c.delays) clock cell.slot
-    → block_at (timely_of side c arrivals) cell ≡ None
 
 abbrev pub NoUplinkAhead : Type 0
 NoUplinkAhead =

@@ -3,7 +3,6 @@ pub use Rattle.unit_model
 pub use Rattle.unit_model.specs.uplane_sections
 pub use Rattle.window_config
 pub mod Acceptance
-pub mod Live
 pub mod Changes
 pub mod Far
 pub mod Past
@@ -18,4 +17,3 @@ pub mod Runs
 pub mod Ticks
 pub mod Ends
 pub mod Touched
-pub mod Begins

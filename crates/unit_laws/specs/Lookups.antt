@@ -8,7 +8,7 @@ use Rattle.window_config.specs.declared.endpoints.EndpointConfig.{EndpointConfig
 use Rattle.unit_model.specs.Blocks.{block_at, data_covers, every_data_cell, has_all}
 use Rattle.unit_model.specs.Claims.{claim_at, covers, every_cell, is_claimed, is_overlapped, overlaps, repeats, some_cell}
 use Rattle.unit_model.specs.Commands.{uplink_in}
-use Rattle.unit_model.specs.Proper.{IsProperAllocation, IsProperData, IsSlot}
+use Rattle.unit_model.specs.Proper.{IsProperAllocation}
 use Rattle.unit_model.specs.Radiated.{air_cell}
 use Rattle.unit_model.specs.Standing.{IsCell, cell_heard, is_reported, uplink_of}
 use Rattle.unit_model.specs.Uplink.{symbol_jobs}
@@ -17,16 +17,10 @@ use Rattle.unit_model.specs.declared.cells.Block.{Block}
 use Rattle.unit_model.specs.declared.cells.Cell.{Cell}
 use Rattle.unit_model.specs.declared.cells.Claim.{Claim}
 use Rattle.unit_model.specs.declared.decoded.UserSection.{UserSection}
-use Rattle.unit_model.specs.Blocks.{data_slot}
 
 -- the cells that a section covers are cells of the configuration
 abbrev pub CoveredAreCells : Type 0
 CoveredAreCells = (c : Config) (a : Allocation) (cell : Cell) → IsProperAllocation c.endpoints a → covers a cell ≡ true → IsCell c a.endpoint cell
-
-abbrev pub DataCoverCells : Type 0
-DataCoverCells =
-    (c : Config) (x : UserSection) (cell : Cell) → IsProperData c.endpoints x → IsSlot x.endpoint.numerology (data_slot x) → data_covers x cell ≡ true
-    → IsCell c x.endpoint cell
 
 -- these claims are those of the elements that an allocation covers
 abbrev pub ClaimsAgree : Allocation → (Cell → ℕ → Option Claim) → List Allocation → Type 0

@@ -1,11 +1,10 @@
 -- The messages that the radio unit is to send, up to a time.
-use Rattle.std.specs.Prelude.{◌≡◌, ℤ, pos, ◌+ℤ◌, ◌≤ℤ◌, ◌<ℤ◌, List, ◌∷◌, ◌++◌}
-use Rattle.fh_time.specs.Air.{air_of}
+use Rattle.std.specs.Prelude.{◌≡◌, ℤ, pos, ◌+ℤ◌, ◌≤ℤ◌, List, ◌∷◌, ◌++◌}
 use Rattle.window_config.specs.Limits.{IsWithinLimits}
 use Rattle.window_config.specs.declared.delays.Delays.{Delays}
 use Rattle.window_config.specs.declared.endpoints.EndpointConfig.{EndpointConfig}
 use Rattle.unit_model.specs.Commands.{accepted}
-use Rattle.unit_model.specs.Proper.{IsAt, IsProperCommand}
+use Rattle.unit_model.specs.Proper.{IsProperCommand}
 use Rattle.unit_model.specs.Radiated.{first_clock}
 use Rattle.unit_model.specs.Sweeps.{sweep}
 use Rattle.unit_model.specs.Uplink.{jobs, symbol_jobs}
@@ -25,12 +24,6 @@ abbrev pub JobsAppend : Type 0
 JobsAppend =
     (es : List EndpointConfig) (claimed : List Allocation) (to later : ℤ) → first_clock ≤ℤ to → to ≤ℤ later
     → jobs es claimed later ≡ jobs es claimed to ++ sweep (symbol_jobs claimed) es (to +ℤ pos 1) (later +ℤ pos 1)
-
--- an allocation whose symbols start after a time sends nothing up to it
-abbrev pub LaterSendsNothing : Type 0
-LaterSendsNothing =
-    (es : List EndpointConfig) (a : Allocation) (claimed : List Allocation) (to : ℤ) → IsAt es a.ep a.endpoint
-    → to <ℤ air_of a.endpoint.numerology a.slot a.symbol → jobs es (a ∷ claimed) to ≡ jobs es claimed to
 
 -- so a command changes nothing that is sent by its arrival
 abbrev pub CommandLeavesSent : Type 0
