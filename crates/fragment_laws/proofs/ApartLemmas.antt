@@ -3,7 +3,7 @@ use Rattle.std.proofs.Common.{◌≡◌, ℕ, ℤ, ◌+ℤ◌, ◌≤ℤ◌, ◌
 use Rattle.std.proofs.lemmas.Int.{ints}
 use Rattle.std.proofs.lemmas.Bool.{cases_order, cases_Bool, eq-eqb, eqb-true, and_parts, and_from}
 use Rattle.ecpri_fragments.specs.Generations.{Fragment, Generation, is_of, begun, joined, with_fragment, held_in, generations_of, seen}
-use Rattle.fragment_laws.specs.Apart.{IsIn, Numbers, number_of, of_message, AreApart}
+use Rattle.fragment_laws.specs.Apart.{IsIn, Numbers, number_of, of_message, AreApart, GenerationsAreMessages}
 use Rattle.fh_time.proofs.Orders.{true_le as le_true, and_false}
 
 pub lt_false : (a b : ℤ) → b <ℤ a → int_le a b ≡ false
@@ -141,7 +141,6 @@ state hold fast slow first num ep q (a ∷ xs) h = elim (cases_Bool (is_of ep q 
       (state hold fast slow first num ep q xs (apart_before hold fast slow first num a xs h)))
 ]
 
-pub seen_is : (hold fast slow : ℤ) (first : ℕ → ℕ → ℤ) (num : Numbers) (a : Fragment) (xs : List Fragment) → AreApart hold fast slow first num (a ∷ xs)
-    → seen hold a xs ≡ of_message num a.ep (number_of num a) xs
+pub seen_is : GenerationsAreMessages
 seen_is hold fast slow first num a xs h =
     (step hold fast slow first num a xs h (generations_of hold a.ep a.seq xs) (state hold fast slow first num a.ep a.seq xs (apart_before hold fast slow first num a xs h))).seen

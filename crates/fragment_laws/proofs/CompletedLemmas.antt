@@ -6,8 +6,8 @@ use Rattle.ecpri_fragments.specs.declared.verdict.Verdict.{Verdict}
 use Rattle.ecpri_fragments.specs.Verdicts.{Message, message, standing_before, verdict_on, whole_of, whole_now}
 use Rattle.ecpri_fragments.specs.declared.verdict.Verdict.TheVariants.{Stored, Whole, Repeat, Stray, TooLong}
 use Rattle.fragment_laws.specs.Apart.{IsIn, Numbers, number_of}
-use Rattle.fragment_laws.specs.Flow.{Flow, Bounds, IsSound, numbers_of, IsDelivered}
-use Rattle.fragment_laws.specs.Once.{Answered, answers, Completed, with_whole, wholes, numbered, AreTheSent}
+use Rattle.fragment_laws.specs.Flow.{numbers_of}
+use Rattle.fragment_laws.specs.Once.{Answered, answers, Completed, with_whole, wholes, numbered, WholesAreTheSent}
 use Rattle.fragment_laws.proofs.FlowLemmas.{copy}
 use Rattle.fragment_laws.proofs.OnceLemmas.{once_whole}
 
@@ -73,7 +73,7 @@ in_wholes hold (a ∷ xs) c m = go (whole_now hold a xs) (in_wholes hold xs c) m
     go (Some w) before (inl here) = inl (ap (λ (x : Completed). x.by) here)
     go (Some w) before (inr there) = inr (before there)
 
-pub are_the_sent : (b : Bounds) (flow : ℕ → Flow) → ((ep : ℕ) → IsSound b (flow ep)) → (all : List Fragment) → IsDelivered b flow all → AreTheSent b flow all
+pub are_the_sent : WholesAreTheSent
 are_the_sent b flow v all d = record {
   sent = λ c m. (copy b flow v all d c.by (in_wholes b.hold all c m)).below;
   once = λ ep j below.

@@ -4,7 +4,7 @@ use Rattle.std.proofs.lemmas.Int.{ints}
 use Rattle.std.proofs.lemmas.Bool.{cases_eq, eq-eqb, ne_eqb, and_from}
 use Rattle.ecpri_fragments.specs.Generations.{Fragment}
 use Rattle.fragment_laws.specs.Apart.{IsIn, number_of, AreApart}
-use Rattle.fragment_laws.specs.Flow.{Flow, Bounds, sent_at, IsSound, search_from, numbers_of, IsCopyOf, IsDelivered}
+use Rattle.fragment_laws.specs.Flow.{Flow, Bounds, sent_at, IsSound, search_from, numbers_of, IsCopyOf, IsDelivered, DeliveredAreApart, NumbersAreTold}
 use Rattle.fh_time.proofs.Orders.{true_le as le_true}
 use Rattle.fragment_laws.proofs.ApartLemmas.{lt_false}
 
@@ -85,7 +85,7 @@ module _ (b : Bounds) (t : Flow) (v : IsSound b t) where
       let y = c.to in
       ap (λ i. search_from b t i a.at 0 t.count) c.id ∙ search-is j a.at 0 t.count c.below (omega (arith, ints)) (omega (arith, ints)) (omega arith) (let z = c.below in omega arith)
 
-pub number_is : (b : Bounds) (flow : ℕ → Flow) → ((ep : ℕ) → IsSound b (flow ep)) → (a : Fragment) (j : ℕ) → IsCopyOf b (flow a.ep) j a → number_of (numbers_of b flow) a ≡ j
+pub number_is : NumbersAreTold
 number_is b flow v a j c = number_told b (flow a.ep) (v a.ep) j a c
 
 module _ (b : Bounds) (flow : ℕ → Flow) (v : (ep : ℕ) → IsSound b (flow ep)) (all : List Fragment) (d : IsDelivered b flow all) where
@@ -118,3 +118,6 @@ module _ (b : Bounds) (flow : ℕ → Flow) (v : (ep : ℕ) → IsSound b (flow 
         let far = same_id_later b (flow a.ep) (v a.ep) (number_of (numbers_of b flow) a) (number_of (numbers_of b flow) c) below (sym x.id ∙ same ∙ y.id) order in
         subst (λ i. (sent_at (flow a.ep) (number_of (numbers_of b flow) a) 0 +ℤ b.hold +ℤ b.slow) <ℤ (sent_at (flow i) (number_of (numbers_of b flow) c) 0 +ℤ b.fast)) ep far);
   }
+
+pub delivered_are_apart : DeliveredAreApart
+delivered_are_apart = delivered_apart

@@ -6,7 +6,7 @@ use Rattle.ecpri_fragments.specs.Generations.{Fragment, seen}
 use Rattle.ecpri_fragments.specs.Verdicts.{stands, all_stand, verdict, standing, verdict_on, first_of}
 use Rattle.fragment_laws.specs.Apart.{IsIn, Numbers, number_of, of_message, IsFalling, AreApart}
 use Rattle.fragment_laws.specs.Flow.{Flow, Bounds, sent_at, IsSound, numbers_of, IsCopyOf, IsDelivered}
-use Rattle.fragment_laws.specs.Once.{Answered, answered, answers, IsOnceWhole, told}
+use Rattle.fragment_laws.specs.Once.{Answered, answered, answers, IsOnceWhole, told, EachIsWholeOnce, EachIsTold}
 use Rattle.fragment_laws.proofs.ApartLemmas.{apart_before, seen_is}
 use Rattle.fragment_laws.proofs.FlowLemmas.{number_is, copy, delivered_apart}
 use Rattle.fragment_laws.proofs.PieceLemmas.{IsPiece, stands-own, stands-more, all_stand-from, verdict_is, oldest, answers_in, Once, Made, once, not_yet, made}
@@ -183,3 +183,9 @@ module _ (b : Bounds) (flow : ℕ → Flow) (v : (ep : ℕ) → IsSound b (flow 
       let w = verdict_is (f.pieces j) (f.text j) n.0 n.1 ((v a.ep).short j c.below) a held (is_piece b f j a c) (λ x i. is_piece b f j x (copy_of a.ep j earlier (λ y m. within y (inr m)) x i)) in
       let same : verdict_on b.hold a earlier ≡ verdict (standing held) a = ap (λ (ys : List Fragment). verdict (standing ys) a) (seen_is b.hold b.fast b.slow (λ ep j. sent_at (flow ep) j 0) num a earlier h) in
       same ∙ w
+
+pub each_is_whole_once : EachIsWholeOnce
+each_is_whole_once = once_whole
+
+pub each_is_told : EachIsTold
+each_is_told = each_told
