@@ -1,13 +1,13 @@
 -- Where nothing is planned, and nothing lands and is measured at the distributed unit, nothing is told of it.
-use Rattle.std.proofs.Common.{◌≡◌, ℕ, ℤ, pos, zero, suc, ◌+ℤ◌, ◌-ℤ◌, List, [], ◌∷◌, ◌++◌, refl, sym, ap, ap₂, ◌∙◌, subst, append-nil}
-use Rattle.std.specs.Prelude.{Bool, true, false, None, Option, filter, map, ◌==◌, if◌then◌else◌}
+use Rattle.std.proofs.Common.{◌≡◌, ℕ, ℤ, pos, zero, suc, ◌+ℤ◌, ◌-ℤ◌, List, [], ◌∷◌, ◌++◌, refl, sym, ap, ap₂, ◌∙◌, subst}
+use Rattle.std.specs.Prelude.{Bool, true, false, None, Option, filter, ◌==◌, if◌then◌else◌}
 use Rattle.std.specs.Int.{int_gap}
 use Rattle.std.specs.List.{flat_map}
 use Rattle.std.proofs.lemmas.List.Elements.{All-nil}
 use Rattle.air_source.specs.declared.events.AirCell.{AirCell}
 use Rattle.air_source.specs.declared.events.Event.{Event}
 use Rattle.air_source.specs.declared.events.Event.TheVariants as event
-use Rattle.air_source.specs.declared.events.Side.TheVariants.{Ru, Du}
+use Rattle.air_source.specs.declared.events.Side.TheVariants.{Du}
 use Rattle.fault_counters.specs.Counts.{capped, times}
 use Rattle.fault_counters.specs.Names.{all_counters}
 use Rattle.fault_counters.specs.declared.kinds.Counter.{Counter}
@@ -29,8 +29,8 @@ use Rattle.history_laws.specs.unit_model.proofs.CountLemmas.{nothing_counted}
 use Rattle.history_laws.specs.unit_laws.proofs.AheadLemmas.{unclaimed_reports_nothing}
 use Rattle.history_laws.specs.unit_laws.proofs.DueLemmas.{unheard}
 use Rattle.history_laws.specs.unit_laws.proofs.SweepLemmas.{tick-nothing}
-use Rattle.replay_events.specs.Alone.{IdleWithoutPlan, IsDuIdle}
-use Rattle.replay_events.specs.Events.{all_counted, arrivals_at, arrivals_told, cells_reported_at, count_event, count_events, events_at, is_measured, number_of, start_of}
+use Rattle.replay_events.specs.Alone.{IdleWithoutPlan}
+use Rattle.replay_events.specs.Events.{all_counted, arrivals_told, count_event, count_events, is_measured, number_of, start_of}
 use Rattle.replay_events.specs.Moments.{all_arrivals, arrivals_in, end_of_time, landing_at}
 use Rattle.replay_events.specs.Passing.{AreLandings}
 use Rattle.replay_events.specs.Traffic.{Traffic}
@@ -114,12 +114,3 @@ idle_without_plan c x none idle measured = record {
       ∙ no_cells_at c (all_arrivals x.at_du) (start_of Du c.delays tick);
   counts = none_of_each (number_of Du c x) all_counters (λ k. no_number c x k none idle measured);
 }
-
--- then a tick's events are the radio unit's
-pub events_alone : (c : Config) (x : Traffic) (tick : ℤ) → IsDuIdle c x → events_at c x tick ≡ map event.Cell (cells_reported_at Ru c x tick) ++ arrivals_at Ru x tick
-unfolding events_at
-events_alone c x tick idle =
-    let cells = map event.Cell (cells_reported_at Ru c x tick) in
-    let came = arrivals_at Ru x tick in
-    ap₂ (λ (xs : List Event) (cs : List AirCell). cells ++ (came ++ (xs ++ map event.Cell cs))) (idle.arrivals tick) (idle.cells tick)
-    ∙ ap (λ (xs : List Event). cells ++ xs) (append-nil came)

@@ -1,11 +1,11 @@
 -- A message, fragment or section that is refused changes nothing but counters.
-use Rattle.std.proofs.Common.{◌≡◌, ◌≢◌, ℕ, ℤ, zero, suc, ◌+◌, ◌<◌, ◌≤◌, Bool, true, false, ◌&&◌, List, [], ◌∷◌, ◌++◌, inl, inr, refl, sym, ap, ap₂, ◌∙◌, subst, arith}
-use Rattle.std.specs.Prelude.{◌==◌, cond, if◌then◌else◌, Option, Some, None, is_some}
+use Rattle.std.proofs.Common.{◌≡◌, ◌≢◌, ℕ, ℤ, zero, suc, ◌+◌, ◌<◌, ◌≤◌, Bool, true, false, List, [], ◌∷◌, ◌++◌, inl, inr, refl, sym, ap, ap₂, ◌∙◌, subst, arith}
+use Rattle.std.specs.Prelude.{◌==◌, if◌then◌else◌, Option, None, is_some}
 use Rattle.std.proofs.lemmas.Bool.{and_parts, cases_eq, eqb-true}
 use Rattle.fh_time.specs.declared.values.Slot.{Slot}
 use Rattle.replay_events.specs.air_source.specs.declared.events.Side.{Side}
 use Rattle.ecpri_fragments.specs.Generations.{Fragment, Generation, begins, begun, generations, generations_of, held_in, is_first, is_of, is_within, joined, of_id, with_fragment}
-use Rattle.ecpri_fragments.specs.Verdicts.{Message, Rests, answer, is_whole, placed, refused, standing, standing_before, verdict, verdict_on, with_one, whole_of}
+use Rattle.ecpri_fragments.specs.Verdicts.{Message, Rests, is_whole, placed, refused, standing, standing_before, verdict, verdict_on, with_one, whole_of}
 use Rattle.ecpri_fragments.specs.declared.verdict.Verdict.{Verdict}
 use Rattle.ecpri_fragments.specs.declared.verdict.Verdict.TheVariants as fragment
 use Rattle.window_config.specs.declared.delays.Delays.{Delays}
@@ -151,15 +151,6 @@ alike_standing hold at (g ∷ gs) (h ∷ hs) same =
     go false = refl
 
 -- ---- a fragment that rests
-
-first_only : (last z w : Bool)
-    → Rests (answer (cond (last && false) (Some fragment.Stray) (cond z (Some fragment.TooLong) None)) w) true → ⊥
-first_only true true w h = absurd cc
-first_only true false true h = h
-first_only true false false h = h
-first_only false true w h = absurd cc
-first_only false false true h = h
-first_only false false false h = h
 
 -- so it joins the last one, in which the same stands as before
 rest_joins : (hold : ℤ) (a : Fragment) (gs : List Generation) → Rests (verdict (standing (held_in hold a.at gs)) a) (begins hold a.at gs)
