@@ -2,7 +2,7 @@
 use Rattle.std.proofs.Common.{◌≡◌, ℕ, List, [], ◌∷◌, ◌++◌, take, Option, None, Some, IsSome, refl, sym, ap, subst, append_assoc, append-nil, ◌∙◌, arith}
 use Rattle.std.specs.Io.KnownBytes.{append_known}
 use Rattle.fh_base.specs.Told.{WritesFront}
-use Rattle.fh_base.proofs.Known.{append_twice}
+use Rattle.fh_base.specs.KnownLaws.{append_twice}
 use Rattle.fh_base.proofs.Progress.{front_first, front_second}
 use Rattle.air_source.specs.declared.events.Event.{Event}
 use Rattle.air_source.specs.Stops.{StopsIn}

@@ -2,7 +2,7 @@
 use Rattle.std.specs.Prelude.{◌≡◌, ℕ, List, [], ◌∷◌, ◌++◌, Option, None, Some, IsSome}
 use Rattle.std.proofs.Common.{refl, sym, ap, subst, append_assoc, append-nil, ◌∙◌}
 use Rattle.std.specs.Io.KnownBytes.{append_known}
-use Rattle.fh_base.proofs.Known.{append_twice, append_nothing}
+use Rattle.fh_base.specs.KnownLaws.{append_twice, append_nothing}
 use Rattle.air_source.specs.Moves.{state_after, given_by, Moved}
 use Rattle.air_source.specs.declared.events.Event.{Event}
 

@@ -2,7 +2,7 @@
 use Rattle.std.proofs.Common.{◌≡◌, ℕ, List, ◌++◌, Option, sym, ap, subst, append_assoc, ◌∙◌}
 use Rattle.std.specs.Io.KnownBytes.{append_known}
 use Rattle.fh_base.specs.Told.{WritesFront}
-use Rattle.fh_base.proofs.Known.{append_twice}
+use Rattle.fh_base.specs.KnownLaws.{append_twice}
 use Rattle.fh_base.proofs.Progress.{front_first, front_second, front_whole}
 use Rattle.owed_bytes.specs.Owed.{Carried}
 

@@ -5,7 +5,7 @@ use Rattle.std.proofs.lemmas.List.{take-append-le}
 use Rattle.std.proofs.Math.Seq.{take-append-add}
 use Rattle.std.specs.Io.KnownBytes.{append_known}
 use Rattle.fh_base.specs.Told.{WritesFront, WritesPart}
-use Rattle.fh_base.proofs.Known.{append_twice}
+use Rattle.fh_base.specs.KnownLaws.{append_twice}
 use Rattle.owed_bytes.specs.Owed.{Carried}
 use Rattle.owed_bytes.proofs.Telling.{texts_parted}
 

@@ -2,7 +2,7 @@
 use Rattle.std.proofs.Common.{◌≡◌, ℕ, List, [], ◌++◌, Option, Result, Ok, Err, OnErr, ◌∙◌, ap, append-nil}
 use Rattle.std.specs.Io.KnownBytes.{append_known}
 use Rattle.fh_base.specs.Told.{WritesFront, WritesPart}
-use Rattle.fh_base.proofs.Known.{append_twice}
+use Rattle.fh_base.specs.KnownLaws.{append_twice}
 use Rattle.fh_base.proofs.Progress.{front_second}
 use Rattle.owed_bytes.specs.Owed.{Carried}
 use Rattle.owed_bytes.proofs.Parts.{part_second}

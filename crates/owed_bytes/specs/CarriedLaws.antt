@@ -2,7 +2,7 @@
 use Rattle.std.specs.Prelude.{ℕ, List, [], ◌++◌, Option}
 use Rattle.std.proofs.Common.{sym, ap, append_assoc, append-nil, ◌∙◌}
 use Rattle.std.specs.Io.KnownBytes.{append_known}
-use Rattle.fh_base.proofs.Known.{append_twice, append_nothing}
+use Rattle.fh_base.specs.KnownLaws.{append_twice, append_nothing}
 use Rattle.owed_bytes.specs.Owed.{Carried}
 
 -- where nothing was told, nothing was carried

@@ -5,7 +5,8 @@ use Rattle.fh_base.specs.Causes.{Rose, Counts, HasSinkCause}
 use Rattle.fh_base.specs.Told.{WritesFront}
 use Rattle.fh_base.specs.declared.fault.SinkFault.{SinkFault}
 use Rattle.fh_base.specs.declared.fault.SinkFault.TheVariants as sink
-use Rattle.fh_base.proofs.Known.{prepend_nothing, append_nothing, came_all}
+use Rattle.fh_base.proofs.Known.{prepend_nothing, came_all}
+use Rattle.fh_base.specs.KnownLaws.{append_nothing}
 use Rattle.fh_base.proofs.Progress.{front_none}
 use Rattle.pcap_export.specs.declared.refusals.ExportRefusal.{ExportRefusal}
 use Rattle.pcap_export.specs.declared.status.Status.{Status}

@@ -8,7 +8,7 @@ use Rattle.air_source.specs.declared.airs.AirFault.TheVariants.{Failed, NoMemory
 use Rattle.air_source.specs.declared.events.Event.{Event}
 use Rattle.air_sinks.proofs.Fronts.{IsFront, WritesOut, carried_from, cut_front, front_from, stops_front}
 use Rattle.fh_base.specs.Told.{WritesFront, WritesPart}
-use Rattle.fh_base.proofs.Known.{append_nothing, append_twice}
+use Rattle.fh_base.specs.KnownLaws.{append_nothing, append_twice}
 use Rattle.fh_base.proofs.Progress.{front_first, front_second}
 use Rattle.fh_document.specs.declared.document.Document.{Document}
 use Rattle.fronthaul_replay.specs.Cut.{CutBy}

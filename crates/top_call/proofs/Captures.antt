@@ -8,7 +8,7 @@ use Rattle.capture_show.specs.declared.showing.ShowFault.TheVariants as show
 use Rattle.fh_base.specs.Causes.{Counts}
 use Rattle.capture_show.specs.Faults.{has_write_fault as show_failed}
 use Rattle.fh_base.specs.Told.{WritesFront, WritesPart}
-use Rattle.fh_base.proofs.Known.{append_nothing}
+use Rattle.fh_base.specs.KnownLaws.{append_nothing}
 use Rattle.fh_base.proofs.Progress.{front_none}
 use Rattle.top_call.specs.declared.status.Status.{Status}
 use Rattle.top_call.specs.declared.status.Status.TheVariants.{BadCapture}

@@ -1,6 +1,6 @@
 -- A command over a document that was read, or was not.
 use Rattle.std.proofs.Common.{◌≡◌, ℕ, List, [], Option, Result, Err, refl, sym, ap, subst}
-use Rattle.fh_base.proofs.Known.{append_nothing}
+use Rattle.fh_base.specs.KnownLaws.{append_nothing}
 use Rattle.fh_base.proofs.Progress.{front_none}
 use Rattle.pcap_lines.specs.fh_document.specs.declared.document.Document.{Document}
 use Rattle.pcap_lines.specs.fh_document.specs.declared.refusals.DocFault.{DocFault}

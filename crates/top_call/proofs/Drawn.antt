@@ -3,7 +3,7 @@ use Rattle.std.proofs.Common.{true, ◌≡◌, ◌∙◌, ◌<◌, ℕ, List, []
 use Rattle.std.specs.Io.KnownBytes.{append_known}
 use Rattle.fh_base.specs.Causes.{Counts}
 use Rattle.fh_base.specs.Told.{WritesFront, WritesPart}
-use Rattle.fh_base.proofs.Known.{append_nothing}
+use Rattle.fh_base.specs.KnownLaws.{append_nothing}
 use Rattle.fh_base.proofs.Progress.{front_none, front_whole}
 use Rattle.picture_lines.specs.Refusals.{Draws, HasDrawCause}
 use Rattle.picture_lines.specs.declared.faults.DrawFault.{DrawFault}

@@ -10,7 +10,7 @@ use Rattle.command_words.specs.Words.{command_of}
 use Rattle.command_words.specs.declared.commands.Command.{Command}
 use Rattle.command_words.specs.declared.commands.Command.TheVariants.{Replay, Summary, Capture, Show, Explain, Sent, Windows, Fit, Generate, Trial, Shared, Idle, DrawGrid, DrawWindows, Pcap, PcapCapture}
 use Rattle.fh_base.specs.Causes.{Rose}
-use Rattle.fh_base.proofs.Known.{append_nothing}
+use Rattle.fh_base.specs.KnownLaws.{append_nothing}
 use Rattle.pcap_lines.specs.fh_document.specs.declared.document.Document.{Document}
 use Rattle.pcap_lines.specs.fh_document.specs.declared.refusals.DocWhy.{DocWhy}
 use Rattle.pcap_lines.specs.fh_document.specs.Document.{document_of}

@@ -1,6 +1,6 @@
 -- A pcap file that was not accepted.
 use Rattle.std.proofs.Common.{◌≡◌, ℕ, List, [], Option, Result, Err, refl, sym, subst}
-use Rattle.fh_base.proofs.Known.{append_nothing}
+use Rattle.fh_base.specs.KnownLaws.{append_nothing}
 use Rattle.fh_base.proofs.Progress.{front_none}
 use Rattle.pcap_frames.specs.Checked.{checked as pcap_checked}
 use Rattle.pcap_frames.specs.Heads.{Answers, IsFault}

@@ -1,7 +1,7 @@
 -- A part of a text that is not empty.
 use Rattle.std.proofs.Common.{◌≡◌, ◌∷◌, ℕ, List, [], Option, sym, refl, arith}
 use Rattle.fh_base.specs.Told.{WritesPart}
-use Rattle.fh_base.proofs.Known.{append_nothing}
+use Rattle.fh_base.specs.KnownLaws.{append_nothing}
 
 -- nothing is a part
 pub part_none : (old : Option (List ℕ)) (text : List ℕ) → (text ≡ [] → ⊥) → WritesPart old old text

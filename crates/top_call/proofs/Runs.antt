@@ -8,7 +8,8 @@ use Rattle.fh_base.specs.Causes.{Counts, Rose, has_read_fault as read_failed}
 use Rattle.fh_base.specs.Told.{WritesFront, WritesPart}
 use Rattle.fh_base.specs.declared.fault.ReadAllFault.{ReadAllFault}
 use Rattle.fh_base.specs.declared.fault.ReadAllFault.TheVariants as source
-use Rattle.fh_base.proofs.Known.{prepend_nothing, append_nothing, came_all}
+use Rattle.fh_base.proofs.Known.{prepend_nothing, came_all}
+use Rattle.fh_base.specs.KnownLaws.{append_nothing}
 use Rattle.fh_base.proofs.Progress.{front_none}
 use Rattle.explain_text.proofs.DocumentLemmas.{explained as is_explained}
 use Rattle.pcap_lines.specs.fh_document.specs.Document.{document_of}
