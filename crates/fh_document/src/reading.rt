@@ -1,9 +1,10 @@
 // A document, line by line.
-ghost use Rattle.std.specs.Prelude.{◌≡◌, IfOk};
+ghost use Rattle.std.specs.Prelude.{◌≡◌, true, IfOk};
 ghost use Rattle.fh_document.specs.Answered.{Refuses, refused, Reads, Answers};
 ghost use Rattle.fh_document.specs.Lines.{start, is_seen, setting_line, reached, comes_late, keyword_line, ordered_line, is_skipped, version_at, version_of, first_line, later_line, words_line, line_of};
 ghost use Rattle.fh_document.specs.Document.{finished, document_of};
 ghost use Rattle.fh_document.specs.Proper.{IsDocument};
+ghost use Rattle.line_words.specs.Words.{is_text};
 
 use crate::config_lines::{defaults, set};
 use crate::deliver_lines::deliver_line;
@@ -16,7 +17,7 @@ use crate::measure_lines::measure_line;
 use crate::plan_lines::plan_line;
 use crate::refusals::{DocFault, DocWhy, LineFault};
 use fh_base::List;
-use line_words::{Words, cut, is_text, without_last_feed};
+use line_words::{Words, are_texts, cut, is_text_in, without_last_feed};
 use std::alloc::Global;
 use window_config::{Config, EndpointList};
 
@@ -208,17 +209,20 @@ fn words_line(
     later_line(alloc, reading, n, words)
 }
 
+/// A line of a text of which it may be known that all lines are printable.
 #[tactic(auto, unfolding(crate::specs::Lines::line_of))]
 fn read_line<'a>(
     alloc: Global,
     reading: &mut Reading,
     n: usize,
     line: &'a [u8],
+    plain: bool,
     words: &mut Words<'a>,
 ) -> Result<(), LineFault>
+    requires { plain ≡ true → is_text line.now ≡ true }
     ensures { Reads (line_of reading.old n line.now) result reading.new }
 {
-    if !is_text(line) {
+    if !is_text_in(plain, line) {
         return Err(LineFault::Why(DocWhy::NotText));
     }
     words.read(line);
@@ -267,10 +271,12 @@ pub fn read(alloc: Global, bytes: &[u8]) -> Result<Document, DocFault>
     }
     let mut n: usize = 1;
     let mut words = Words::new();
-    let mut rest = Some(without_last_feed(bytes));
+    let lines = without_last_feed(bytes);
+    let plain = are_texts(lines);
+    let mut rest = Some(lines);
     'lines: while let Some(text) = rest {
         let (line, behind) = cut(b'\n', text);
-        match read_line(alloc, &mut reading, n, line, &mut words) {
+        match read_line(alloc, &mut reading, n, line, plain, &mut words) {
             Ok(()) => {}
             Err(LineFault::Why(why)) => return Err(DocFault::At { line: n, why }),
             Err(LineFault::NoMemory) => return Err(DocFault::NoMemory),
