@@ -15,8 +15,6 @@ use Rattle.du_scheduler.specs.declared.plans.Sent.{Sent}
 use Rattle.du_scheduler.specs.fragment_laws.specs.Apart.{IsIn}
 use Rattle.du_scheduler.specs.frame_order.specs.Queues.{first_time}
 use Rattle.du_scheduler.specs.plan_model.specs.Sent.{SentFrame}
-use Rattle.du_scheduler.specs.plan_model.specs.declared.streams.Stream.{Stream}
-use Rattle.du_scheduler.specs.plan_model.specs.declared.streams.Stream.TheVariants.{DownCommands, DownData, UpCommands, UpData}
 use Rattle.du_scheduler.specs.sent_order.specs.Runs.{turn_of}
 use Rattle.fh_time.specs.declared.values.Ticks.{Ticks}
 use Rattle.frame_deliveries.specs.Leaving.{Leaving}
@@ -26,17 +24,11 @@ use Rattle.frame_ways.specs.Ways.{OnWay, StandsFor, having_sent, having_sent_all
 use Rattle.frame_ways.specs.declared.way.Way.{Way}
 use Rattle.window_config.specs.declared.config.Config.{Config}
 use Rattle.window_config.specs.declared.plan.PlanLine.{PlanLine}
-use Rattle.frame_sending.specs.Due.{AreSentFrom, AreShort, HasSentDue, MaySend, class_for, class_of, leaving_by}
+use Rattle.frame_sending.specs.Due.{AreSentFrom, AreShort, HasSentDue, MaySend, class_for, leaving_by}
 use Rattle.frame_sending.proofs.MeasureLemmas.{frames_left, left_is}
 use Rattle.frame_sending.proofs.OrderLemmas.{IsSentTime, first_is_least, sent_less, sent_time}
 
 -- ---- the frame that a plan gave
-
-class_is : (s : Stream) → class_for (plane_of s) ≡ class_of s
-class_is DownCommands = refl
-class_is UpCommands = refl
-class_is DownData = refl
-class_is UpData = refl
 
 -- it may be sent
 pub record MayBeSent (s : Sent) : Type 0 where
@@ -64,8 +56,8 @@ leaves_as c answer s k f rest class gives =
     let g = gives.0 in
     let is = gives.3 in
     ap (λ (t : ℤ). leaving_as t k s.bytes.now) is.at
-    ∙ ap (λ (x : TrafficClass). leaving_as g.at x s.bytes.now) (class ∙ ap class_for is.plane ∙ class_is g.stream)
-    ∙ ap (λ (bytes : List ℕ). leaving_as g.at (class_of g.stream) bytes) is.bytes
+    ∙ ap (λ (x : TrafficClass). leaving_as g.at x s.bytes.now) (class ∙ ap class_for is.plane)
+    ∙ ap (λ (bytes : List ℕ). leaving_as g.at (class_for (plane_of g.stream)) bytes) is.bytes
     ∙ ap (leaving_by c answer) (first_is f g rest gives.1 gives.2)
 
 pub leaves_then : (c : Config) (answer : RePlace → Wide) (s : Sent) (f : SentFrame) (rest : List SentFrame) (now : ℤ) → GivesSent c answer (f ∷ rest) (Some s) → now ≤ℤ f.at → now ≤ℤ s.at.0

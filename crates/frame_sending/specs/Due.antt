@@ -3,13 +3,11 @@ use Rattle.std.specs.Prelude.{◌≡◌, ℤ, pos, ◌+ℤ◌, ◌<◌, ◌≤�
 use Rattle.air_source.specs.Answers.{AnswersBy}
 use Rattle.air_source.specs.declared.places.RePlace.{RePlace}
 use Rattle.bfp_codec.specs.declared.samples.Wide.{Wide}
-use Rattle.du_scheduler.specs.Plans.{HasToSend}
+use Rattle.du_scheduler.specs.Plans.{HasToSend, plane_of}
 use Rattle.du_scheduler.specs.declared.plans.Plan.{Plan}
 use Rattle.du_scheduler.specs.declared.plans.Plane.{Plane}
 use Rattle.du_scheduler.specs.declared.plans.Plane.TheVariants.{C as OfC, U as OfU}
 use Rattle.du_scheduler.specs.plan_model.specs.Sent.{SentFrame}
-use Rattle.du_scheduler.specs.plan_model.specs.declared.streams.Stream.{Stream}
-use Rattle.du_scheduler.specs.plan_model.specs.declared.streams.Stream.TheVariants.{DownCommands, UpCommands, DownData, UpData}
 use Rattle.sent_frames.specs.Frames.{sent_bytes}
 use Rattle.sent_frames.specs.Sources.{source_of}
 use Rattle.frame_deliveries.specs.Leaving.{Leaving}
@@ -27,16 +25,9 @@ abbrev pub class_for : Plane → TrafficClass
 class_for OfC = C
 class_for OfU = U
 
--- and of a stream
-abbrev pub class_of : Stream → TrafficClass
-class_of DownCommands = C
-class_of UpCommands = C
-class_of DownData = U
-class_of UpData = U
-
 -- a frame of a plan, with its bytes where the source answers this at each resource element
 abbrev pub leaving_by : Config → (RePlace → Wide) → SentFrame → Leaving
-leaving_by c answer f = record { at = f.at; class = class_of f.stream; frame = sent_bytes c (source_of c.endpoints answer) f }
+leaving_by c answer f = record { at = f.at; class = class_for (plane_of f.stream); frame = sent_bytes c (source_of c.endpoints answer) f }
 
 -- none leaves before a time
 abbrev pub AreSentFrom : ℤ → List SentFrame → Type 0

@@ -8,7 +8,7 @@ use Rattle.air_source.specs.Answers.{AnswersBy}
 use Rattle.air_source.specs.declared.events.Side.TheVariants.{Ru as AtRu, Du as AtDu}
 use Rattle.air_source.specs.declared.places.RePlace.{RePlace}
 use Rattle.bfp_codec.specs.declared.samples.Wide.{Wide}
-use Rattle.du_scheduler.specs.Plans.{HasToSend, IsPlan}
+use Rattle.du_scheduler.specs.Plans.{HasToSend, IsPlan, plane_of}
 use Rattle.du_scheduler.specs.declared.plans.Plan.{Plan}
 use Rattle.du_scheduler.specs.plan_model.specs.Sent.{SentFrame}
 use Rattle.du_scheduler.specs.plan_model.specs.declared.streams.Stream.{Stream}
@@ -80,7 +80,7 @@ waits_at d now tick p w doc waits begun order ended none calm quiet =
 
 -- ---- the frames of the tick go out
 
-class_same : (s : Stream) → due.class_of s ≡ class_of s
+class_same : (s : Stream) → due.class_for (plane_of s) ≡ class_of s
 class_same DownCommands = refl
 class_same UpCommands = refl
 class_same DownData = refl
