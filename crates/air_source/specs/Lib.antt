@@ -1,4 +1,3 @@
-pub use Rattle.fault_counters
 pub mod Answers
 pub mod Causes
 pub mod Grown

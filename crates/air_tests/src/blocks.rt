@@ -1,6 +1,6 @@
 // Samples of the whole range, of a closure that is kept.
 ghost use Rattle.std.specs.Prelude.{◌≡◌};
-ghost use Rattle.report_lines.specs.air_source.specs.Tellings.{corner_at};
+ghost use Rattle.air_source.specs.Tellings.{corner_at};
 
 use crate::built::SLOT;
 use crate::telling::tell_samples;

@@ -1,9 +1,9 @@
 // Captures: exact bytes, and fronts of them.
 ghost use Rattle.std.specs.Prelude.{◌≡◌, [], ◌∷◌, ◌<◌, ◌^◌, length, OnOk};
 ghost use Rattle.std.specs.Io.KnownBytes.{append_known};
-ghost use Rattle.owed_bytes.specs.fh_base.specs.Told.{WritesFront};
-ghost use Rattle.capture_air.specs.air_source.specs.Causes.{HasAirCause};
-ghost use Rattle.capture_air.specs.air_source.specs.declared.events.Event.TheVariants.{Arrival};
+ghost use Rattle.fh_base.specs.Told.{WritesFront};
+ghost use Rattle.air_source.specs.Causes.{HasAirCause};
+ghost use Rattle.air_source.specs.declared.events.Event.TheVariants.{Arrival};
 ghost use Rattle.capture_air.specs.Capture.{whole_capture};
 
 use crate::built::{calls, missing};

@@ -3,12 +3,12 @@
 ghost use Rattle.std.specs.Prelude.{◌≡◌, [], ◌∷◌, ◌++◌, false, map, not, if◌then◌else◌, refl, OnOk, OnErr};
 ghost use Rattle.std.proofs.Common.{◌∙◌};
 ghost use Rattle.std.specs.Io.KnownBytes.{append_known};
-ghost use Rattle.owed_bytes.specs.fh_base.specs.Told.{WritesFront};
-ghost use Rattle.report_lines.specs.air_source.specs.Causes.{HasAirCause};
-ghost use Rattle.report_lines.specs.air_source.specs.Moves.{Moved, Halted, text_of};
-ghost use Rattle.report_lines.specs.air_source.specs.MovesLaws.{moved_none, moved_more};
-ghost use Rattle.report_lines.specs.air_source.specs.Tellings.{line_next, line_gives, line_ends, bytes_owed};
-ghost use Rattle.report_lines.specs.air_source.specs.declared.events.Event.TheVariants.{Cell};
+ghost use Rattle.fh_base.specs.Told.{WritesFront};
+ghost use Rattle.air_source.specs.Causes.{HasAirCause};
+ghost use Rattle.air_source.specs.Moves.{Moved, Halted, text_of};
+ghost use Rattle.air_source.specs.MovesLaws.{moved_none, moved_more};
+ghost use Rattle.air_source.specs.Tellings.{line_next, line_gives, line_ends, bytes_owed};
+ghost use Rattle.air_source.specs.declared.events.Event.TheVariants.{Cell};
 
 use crate::built::{calls, level};
 use crate::telling::tell_cells;

@@ -1,9 +1,9 @@
 // Summaries: exact texts, and fronts of them.
 ghost use Rattle.std.specs.Prelude.{◌≡◌, [], OnOk, map};
 ghost use Rattle.std.specs.Io.KnownBytes.{append_known};
-ghost use Rattle.owed_bytes.specs.fh_base.specs.Told.{WritesFront};
-ghost use Rattle.report_lines.specs.air_source.specs.Causes.{HasAirCause};
-ghost use Rattle.report_lines.specs.air_source.specs.declared.events.Event.TheVariants.{Cell};
+ghost use Rattle.fh_base.specs.Told.{WritesFront};
+ghost use Rattle.air_source.specs.Causes.{HasAirCause};
+ghost use Rattle.air_source.specs.declared.events.Event.TheVariants.{Cell};
 ghost use Rattle.sum_air.specs.Airs.{sink_name, sink_of, owed_of, sums_of};
 ghost use Rattle.sum_air.specs.States.{sum_start};
 ghost use Rattle.sum_air.specs.Summary.{whole_summary};

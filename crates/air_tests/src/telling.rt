@@ -1,14 +1,14 @@
 // Code over any air and any samples, which shows that callers close.
 ghost use Rattle.std.specs.Prelude.{◌≡◌, ◌<◌, OnOk, IfErr, map};
 ghost use Rattle.std.specs.List.{All};
-ghost use Rattle.report_lines.specs.air_source.specs.Causes.{HasAirCause};
-ghost use Rattle.report_lines.specs.air_source.specs.Stops.{StopsIn};
-ghost use Rattle.report_lines.specs.air_source.specs.Answers.{AnswersBy, widened};
-ghost use Rattle.report_lines.specs.air_source.specs.Kept.{IsKept, closure_of};
-ghost use Rattle.report_lines.specs.air_source.specs.Tellings.{cell_by};
-ghost use Rattle.report_lines.specs.air_source.specs.declared.places.RePlace.{RePlace};
-ghost use Rattle.report_lines.specs.bfp_codec.specs.declared.samples.Wide.{Wide};
-ghost use Rattle.report_lines.specs.air_source.specs.declared.events.Event.TheVariants.{Cell};
+ghost use Rattle.air_source.specs.Causes.{HasAirCause};
+ghost use Rattle.air_source.specs.Stops.{StopsIn};
+ghost use Rattle.air_source.specs.Answers.{AnswersBy, widened};
+ghost use Rattle.air_source.specs.Kept.{IsKept, closure_of};
+ghost use Rattle.air_source.specs.Tellings.{cell_by};
+ghost use Rattle.air_source.specs.declared.places.RePlace.{RePlace};
+ghost use Rattle.bfp_codec.specs.declared.samples.Wide.{Wide};
+ghost use Rattle.air_source.specs.declared.events.Event.TheVariants.{Cell};
 
 use air_source::{Air, AirCell, AirFault, RePlace, Samples, Side};
 use bfp_codec::{Iq, Wide};

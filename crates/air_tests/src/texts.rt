@@ -1,9 +1,9 @@
 // Reports and their count lines: exact texts, and fronts of them.
 ghost use Rattle.std.specs.Prelude.{◌≡◌, OnOk, map};
 ghost use Rattle.std.specs.Io.KnownBytes.{append_known};
-ghost use Rattle.owed_bytes.specs.fh_base.specs.Told.{WritesFront};
-ghost use Rattle.report_lines.specs.air_source.specs.Causes.{HasAirCause};
-ghost use Rattle.report_lines.specs.air_source.specs.declared.events.Event.TheVariants.{Cell};
+ghost use Rattle.fh_base.specs.Told.{WritesFront};
+ghost use Rattle.air_source.specs.Causes.{HasAirCause};
+ghost use Rattle.air_source.specs.declared.events.Event.TheVariants.{Cell};
 ghost use Rattle.text_air.specs.Text.{whole_text};
 
 use crate::built::{calls, level, missing};

@@ -1,7 +1,7 @@
 // Samples of tones that were computed by hand from the formula, and a closure over a tone that is kept.
 ghost use Rattle.std.specs.Prelude.{◌≡◌, ◌<◌, ◌≤◌};
-ghost use Rattle.tone_source.specs.air_source.specs.Answers.{AnswersBy, Fits16, block_of};
-ghost use Rattle.tone_source.specs.air_source.specs.Kept.{IsKept, closure_of};
+ghost use Rattle.air_source.specs.Answers.{AnswersBy, Fits16, block_of};
+ghost use Rattle.air_source.specs.Kept.{IsKept, closure_of};
 ghost use Rattle.tone_source.specs.Tones.{tone_of};
 ghost use Rattle.tone_source.specs.declared.values.Tone.{Tone};
 

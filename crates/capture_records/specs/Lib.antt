@@ -1,4 +1,3 @@
-pub use Rattle.air_source
 pub mod Left
 pub mod Reading
 pub mod Records

@@ -1,6 +1,6 @@
 -- The texts of members that are told one after the other.
 use Rattle.std.proofs.Common.{◌≡◌, ℕ, ◌+◌, List, ◌++◌, Option, ap₂, subst}
-use Rattle.owed_bytes.specs.fh_base.specs.Told.{WritesPart}
+use Rattle.fh_base.specs.Told.{WritesPart}
 use Rattle.owed_bytes.specs.Owed.{Carried}
 use Rattle.owed_bytes.specs.CarriedLaws.{carried_more}
 use Rattle.owed_bytes.proofs.Parts.{part_behind}

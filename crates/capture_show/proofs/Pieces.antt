@@ -4,7 +4,7 @@ use Rattle.std.specs.Prelude.{codes}
 use Rattle.std.specs.List.{flat_map}
 use Rattle.serde_json.specs.View.{items_of}
 use Rattle.serde_json.specs.Written.{compact_text, items_text, comma_if}
-use Rattle.owed_bytes.specs.fh_base.specs.Told.{WritesPart}
+use Rattle.fh_base.specs.Told.{WritesPart}
 use Rattle.fh_base.specs.KnownLaws.{append_nothing}
 use Rattle.capture_show.specs.Lines.{ShownLine}
 use Rattle.capture_show.specs.Texts.{line_text, object_of, piece, pieces, lines_text, front_text, end_text}

@@ -1,6 +1,6 @@
 -- Lines that are told one after the other.
 use Rattle.std.proofs.Common.{◌≡◌, ℕ, Bool, true, List, [], ◌∷◌, ◌++◌, Option, refl, sym, ap, ap₂, subst, append_assoc, append-nil, ◌∙◌}
-use Rattle.owed_bytes.specs.fh_base.specs.Told.{WritesPart}
+use Rattle.fh_base.specs.Told.{WritesPart}
 use Rattle.owed_bytes.specs.Owed.{Carried}
 use Rattle.owed_bytes.specs.CarriedLaws.{carried_none, carried_more}
 use Rattle.owed_bytes.proofs.Parts.{part_first, part_behind}

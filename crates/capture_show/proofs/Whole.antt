@@ -1,7 +1,7 @@
 -- The whole text: what stands before the lines, the lines, and what stands behind them.
 use Rattle.std.proofs.Common.{◌≡◌, ℕ, Bool, false, List, [], ◌++◌, Option, sym, ap, ap₂, subst, append_assoc, ◌∙◌}
 use Rattle.std.specs.Io.KnownBytes.{append_known}
-use Rattle.owed_bytes.specs.fh_base.specs.Told.{WritesFront, WritesPart}
+use Rattle.fh_base.specs.Told.{WritesFront, WritesPart}
 use Rattle.owed_bytes.specs.Owed.{Carried}
 use Rattle.owed_bytes.specs.CarriedLaws.{carried_more}
 use Rattle.owed_bytes.proofs.Carrying.{front_behind, all_behind}

@@ -1,8 +1,8 @@
 -- When showing answers that the sink failed, and as what.
 use Rattle.std.specs.Prelude.{◌≡◌, ℕ, Bool, true, false, Result, Ok, Err, MatchResult}
-use Rattle.owed_bytes.specs.fh_base.specs.Causes.{Counts, has_failed}
-use Rattle.owed_bytes.specs.fh_base.specs.declared.fault.SinkFault.{SinkFault}
-use Rattle.owed_bytes.specs.fh_base.specs.declared.fault.SinkFault.TheVariants.{Failed, NoMemory}
+use Rattle.fh_base.specs.Causes.{Counts, has_failed}
+use Rattle.fh_base.specs.declared.fault.SinkFault.{SinkFault}
+use Rattle.fh_base.specs.declared.fault.SinkFault.TheVariants.{Failed, NoMemory}
 use Rattle.capture_show.specs.declared.showing.ShowFault.{ShowFault}
 use Rattle.capture_show.specs.declared.showing.ShowFault.TheVariants as show
 

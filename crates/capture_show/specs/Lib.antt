@@ -1,4 +1,3 @@
-pub use Rattle.capture_records
 pub mod Lines
 pub mod Messages
 pub mod Texts

@@ -14,7 +14,7 @@ use Rattle.capture_show.specs.declared.values.Word.TheVariants as word
 use Rattle.capture_show.specs.declared.values.Field.{Field}
 use Rattle.capture_show.specs.declared.values.Field.TheVariants as field
 use Rattle.capture_show.specs.declared.values.Member.{Member}
-use Rattle.capture_records.specs.air_source.specs.Units.{way_text}
+use Rattle.air_source.specs.Units.{way_text}
 
 pub record ShownLine : Type 0 where
   pub kind : Kind

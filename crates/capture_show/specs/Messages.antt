@@ -1,7 +1,7 @@
 -- What is shown of a capture (this project's profile): the messages of each frame by the layouts of eCPRI 2.0 and O-RAN.WG4.CUS.
 use Rattle.std.specs.Prelude.{ℕ, ◌+◌, ◌==◌, ◌&&◌, nat_lt, nat_le, if◌then◌else◌, Bool, List, [], ◌∷◌, ◌++◌, length, take, map, Option, Some, None, Result, Ok, Err}
 use Rattle.std.specs.List.{flat_map}
-use Rattle.cplane_sections.specs.fh_time.specs.declared.values.Shape.{Shape}
+use Rattle.fh_time.specs.declared.values.Shape.{Shape}
 use Rattle.ecpri_frames.specs.declared.refusals.PduRefusal.{PduRefusal}
 use Rattle.ecpri_frames.specs.Messages.{Message, pdu}
 use Rattle.ecpri_frames.specs.Gathering.{whole_messages}
@@ -28,9 +28,7 @@ use Rattle.capture_show.specs.declared.values.Word.TheVariants as word
 use Rattle.capture_show.specs.declared.values.Word.{Word}
 use Rattle.capture_show.specs.declared.values.Member.{Member}
 use Rattle.capture_show.specs.Lines.{ShownLine, count, signed, flag, said}
-use Rattle.ecpri_frames.specs.declared.heads.TheConstants.{REAL_TIME_CONTROL}
-use Rattle.ecpri_frames.specs.declared.heads.TheConstants.{IQ_DATA}
-use Rattle.ecpri_frames.specs.declared.heads.TheConstants.{ONE_WAY_DELAY}
+use Rattle.ecpri_frames.specs.declared.heads.TheConstants.{REAL_TIME_CONTROL, IQ_DATA, ONE_WAY_DELAY}
 
 abbrev pub line : Kind → List Member → ShownLine
 line kind members = record { kind = kind; members = members }

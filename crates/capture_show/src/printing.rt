@@ -1,6 +1,6 @@
 // Lines on their way to a sink, as text or as JSON.
 ghost use Rattle.std.specs.Prelude.{◌≡◌, ◌≤◌, ◌++◌, [], ◌∷◌, length, OnOk, OnErr};
-ghost use Rattle.owed_bytes.specs.fh_base.specs.Told.{WritesFront, WritesPart};
+ghost use Rattle.fh_base.specs.Told.{WritesFront, WritesPart};
 ghost use Rattle.owed_bytes.specs.Owed.{Carried};
 ghost use Rattle.serde_json.specs.Written.{comma_if, compact_text};
 ghost use Rattle.capture_show.specs.Faults.{HasWriteCause};

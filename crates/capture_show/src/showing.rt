@@ -1,8 +1,8 @@
 // A capture, shown.
 ghost use Rattle.std.specs.Prelude.{◌≡◌, ℕ, Ok, Err, OnOk, OnErr, IfErr};
 ghost use Rattle.std.specs.Io.KnownBytes.{append_known};
-ghost use Rattle.owed_bytes.specs.fh_base.specs.Causes.{Counts};
-ghost use Rattle.owed_bytes.specs.fh_base.specs.Told.{WritesFront, WritesPart};
+ghost use Rattle.fh_base.specs.Causes.{Counts};
+ghost use Rattle.fh_base.specs.Told.{WritesFront, WritesPart};
 ghost use Rattle.capture_records.specs.declared.refusals.CaptureWhy.{CaptureWhy};
 ghost use Rattle.capture_records.specs.Reading.{checked};
 ghost use Rattle.capture_show.specs.Faults.{has_write_fault, show_fault};

@@ -1,4 +1,3 @@
-pub use Rattle.fh_time
 pub mod Header
 pub mod Section
 pub mod Tests

@@ -15,16 +15,16 @@ use Rattle.delay_laws.proofs.Ending.{all_end}
 use Rattle.delay_laws.proofs.Settling.{settled}
 use Rattle.delay_laws.proofs.Whole.{tick_exact}
 use Rattle.delay_measure.specs.declared.message.DelayMessage.{DelayMessage}
-use Rattle.frame_deliveries.specs.fh_document.specs.declared.delivered.TrafficClass.TheVariants.{M}
-use Rattle.frame_deliveries.specs.fh_document.specs.declared.document.Document.{Document}
-use Rattle.frame_deliveries.specs.fh_document.specs.declared.document.Measure.{Measure}
-use Rattle.frame_deliveries.specs.fh_document.specs.Proper.{AreComps, IsDocument, IsFrom, IsMeasure}
+use Rattle.fh_document.specs.declared.delivered.TrafficClass.TheVariants.{M}
+use Rattle.fh_document.specs.declared.document.Document.{Document}
+use Rattle.fh_document.specs.declared.document.Measure.{Measure}
+use Rattle.fh_document.specs.Proper.{AreComps, IsDocument, IsFrom, IsMeasure}
 use Rattle.frame_deliveries.specs.Copies.{copies_of}
 use Rattle.frame_deliveries.proofs.Within.{copies_within}
 use Rattle.window_config.specs.Windows.{ticks_of_ns}
 use Rattle.document_delays.specs.Settings.{begin_of, compensation_of, no_others, setting_of, ways_of}
 use Rattle.document_delays.specs.Laws.{AllEnds, DelaysAreExact, DelaysAreOfRequests, EventsAreMeasured, LandingIsSettled}
-use Rattle.frame_deliveries.specs.fh_document.specs.declared.config_lines.TheConstants.{MOST_TRANSIT}
+use Rattle.fh_document.specs.declared.config_lines.TheConstants.{MOST_TRANSIT}
 use Rattle.fh_time.specs.declared.nanoseconds.TheConstants.{LAST_TIME}
 use Rattle.window_config.proofs.TickLemmas.{in_ticks as scaled}
 

@@ -7,8 +7,8 @@ use Rattle.delay_laws.specs.Nodes.{Heard, delay_then, time_of}
 use Rattle.delay_laws.specs.Ticks.{exchange_of, landing, state}
 use Rattle.delay_measure.specs.After.{id_of}
 use Rattle.delay_measure.specs.declared.message.DelayMessage.{DelayMessage}
-use Rattle.frame_deliveries.specs.fh_document.specs.declared.document.Document.{Document}
-use Rattle.frame_deliveries.specs.fh_document.specs.Proper.{IsDocument}
+use Rattle.fh_document.specs.declared.document.Document.{Document}
+use Rattle.fh_document.specs.Proper.{IsDocument}
 use Rattle.window_config.specs.Windows.{ticks_of_ns}
 use Rattle.document_delays.specs.Settings.{compensation_of, no_others, setting_of}
 use Rattle.fh_time.specs.declared.nanoseconds.TheConstants.{LAST_TIME}

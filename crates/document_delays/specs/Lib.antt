@@ -1,9 +1,2 @@
-pub use Rattle.air_source
-pub use Rattle.delay_laws
-pub use Rattle.delay_measure
-pub use Rattle.frame_deliveries.specs.fh_document
-pub use Rattle.frame_deliveries
-pub use Rattle.frame_deliveries.specs.tone_source
-pub use Rattle.window_config
 pub mod Settings
 pub mod Laws

@@ -5,9 +5,9 @@ use Rattle.air_source.specs.declared.events.Side.TheVariants.{Ru, Du}
 use Rattle.delay_laws.specs.Nodes.{Compensation}
 use Rattle.delay_laws.specs.Ticks.{Begin, Setting}
 use Rattle.delay_measure.specs.declared.message.DelayMessage.{DelayMessage}
-use Rattle.frame_deliveries.specs.fh_document.specs.declared.delivered.TrafficClass.TheVariants.{M}
-use Rattle.frame_deliveries.specs.fh_document.specs.declared.document.Document.{Document}
-use Rattle.frame_deliveries.specs.fh_document.specs.declared.document.Measure.{Measure}
+use Rattle.fh_document.specs.declared.delivered.TrafficClass.TheVariants.{M}
+use Rattle.fh_document.specs.declared.document.Document.{Document}
+use Rattle.fh_document.specs.declared.document.Measure.{Measure}
 use Rattle.frame_deliveries.specs.Copies.{copies_of}
 use Rattle.window_config.specs.Windows.{ticks_of_ns}
 

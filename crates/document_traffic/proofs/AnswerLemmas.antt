@@ -6,43 +6,43 @@ use Rattle.std.specs.Option.{option_map_or}
 use Rattle.std.proofs.lemmas.Int.{ints}
 use Rattle.std.proofs.lemmas.List.Elements.{All-head, All-tail}
 use Rattle.std.proofs.lemmas.List.Sorted.{All-permutation, IsPermutation-map, IsPermutation-sym}
-use Rattle.frame_deliveries.specs.air_source.specs.declared.events.Side.TheVariants.{Ru}
-use Rattle.frame_deliveries.specs.air_source.specs.declared.links.LinkFrame.{LinkFrame}
-use Rattle.frame_deliveries.specs.fh_document.specs.Proper.{IsDocument}
-use Rattle.frame_deliveries.specs.fh_document.specs.declared.document.Document.{Document}
-use Rattle.sent_order.specs.fragment_laws.specs.Apart.{IsIn}
-use Rattle.replay_laws.specs.history_laws.proofs.SendingLemmas.{jobs_are_proper}
-use Rattle.sent_order.specs.plan_model.specs.Departures.{departures_of}
-use Rattle.sent_order.specs.plan_model.specs.Packs.{Message, alone, with_part}
-use Rattle.sent_order.specs.plan_model.specs.Valid.{IsValid}
-use Rattle.sent_order.specs.plan_model.specs.declared.streams.Stream.TheVariants.{UpData}
-use Rattle.replay_laws.specs.replay_events.proofs.CameLemmas.{arrivals_in_time}
-use Rattle.replay_laws.specs.replay_events.specs.Moments.{all_arrivals}
-use Rattle.sent_order.specs.schedule_laws.proofs.ListLemmas.{in_all, in_map, of_each, of_map}
-use Rattle.sent_order.specs.schedule_laws.proofs.OrderLemmas.{below_get}
-use Rattle.sent_order.specs.schedule_laws.proofs.TimeLemmas.{wait_most}
-use Rattle.replay_laws.specs.unit_laws.proofs.EndLemmas.{no_jobs_later}
-use Rattle.replay_laws.specs.unit_laws.proofs.SentLemmas.{jobs_append}
-use Rattle.replay_laws.specs.unit_model.proofs.SweepLaws.{gap_is, sweep_quiet as sweep-nothing}
-use Rattle.replay_laws.specs.unit_model.specs.Meetings.{Arrival}
-use Rattle.replay_laws.specs.unit_model.specs.Proper.{IsAt, IsTime}
-use Rattle.replay_laws.specs.unit_model.specs.ProperJobs.{IsProperJob}
-use Rattle.replay_laws.specs.unit_model.specs.Radiated.{first_clock}
-use Rattle.replay_laws.specs.unit_model.specs.Reports.{accepted_of}
-use Rattle.replay_laws.specs.unit_model.specs.Standing.{AreInTime}
-use Rattle.replay_laws.specs.unit_model.specs.Times.{end_of_time, last_landing}
-use Rattle.replay_laws.specs.unit_model.specs.Uplink.{jobs, symbol_jobs}
-use Rattle.replay_laws.specs.unit_model.specs.declared.allocations.Allocation.{Allocation}
-use Rattle.replay_laws.specs.unit_model.specs.declared.jobs.UplinkJob.{UplinkJob}
-use Rattle.uplink_laws.specs.uplink_model.proofs.SentLemmas.{all_are_sent}
-use Rattle.uplink_laws.specs.uplink_model.specs.Frames.{Antenna, uplink_frame_of, frames_behind, uplink_frames_from, uplink_message_frames}
-use Rattle.uplink_laws.specs.uplink_model.specs.Messages.{frame_count, uplink_frames_before, messages_behind, uplink_messages_of, number_behind, takes_job}
-use Rattle.uplink_laws.specs.uplink_model.specs.Sent.{in_sent_order}
-use Rattle.uplink_laws.specs.uplink_model.specs.SentLaws.{AreInTimes, AreOf}
-use Rattle.frame_deliveries.specs.window_config.specs.Windows.{ticks_of_ns}
-use Rattle.frame_deliveries.specs.window_config.specs.declared.config.Config.{Config}
-use Rattle.frame_deliveries.specs.window_config.specs.declared.endpoints.EndpointConfig.{EndpointConfig}
-use Rattle.sent_order.specs.plan_model.proofs.ListLemmas.{in_either, all_of, the_one}
+use Rattle.air_source.specs.declared.events.Side.TheVariants.{Ru}
+use Rattle.air_source.specs.declared.links.LinkFrame.{LinkFrame}
+use Rattle.fh_document.specs.Proper.{IsDocument}
+use Rattle.fh_document.specs.declared.document.Document.{Document}
+use Rattle.fragment_laws.specs.Apart.{IsIn}
+use Rattle.history_laws.proofs.SendingLemmas.{jobs_are_proper}
+use Rattle.plan_model.specs.Departures.{departures_of}
+use Rattle.plan_model.specs.Packs.{Message, alone, with_part}
+use Rattle.plan_model.specs.Valid.{IsValid}
+use Rattle.plan_model.specs.declared.streams.Stream.TheVariants.{UpData}
+use Rattle.replay_events.proofs.CameLemmas.{arrivals_in_time}
+use Rattle.replay_events.specs.Moments.{all_arrivals}
+use Rattle.schedule_laws.proofs.ListLemmas.{in_all, in_map, of_each, of_map}
+use Rattle.schedule_laws.proofs.OrderLemmas.{below_get}
+use Rattle.schedule_laws.proofs.TimeLemmas.{wait_most}
+use Rattle.unit_laws.proofs.EndLemmas.{no_jobs_later}
+use Rattle.unit_laws.proofs.SentLemmas.{jobs_append}
+use Rattle.unit_model.proofs.SweepLaws.{gap_is, sweep_quiet as sweep-nothing}
+use Rattle.unit_model.specs.Meetings.{Arrival}
+use Rattle.unit_model.specs.Proper.{IsAt, IsTime}
+use Rattle.unit_model.specs.ProperJobs.{IsProperJob}
+use Rattle.unit_model.specs.Radiated.{first_clock}
+use Rattle.unit_model.specs.Reports.{accepted_of}
+use Rattle.unit_model.specs.Standing.{AreInTime}
+use Rattle.unit_model.specs.Times.{end_of_time, last_landing}
+use Rattle.unit_model.specs.Uplink.{jobs, symbol_jobs}
+use Rattle.unit_model.specs.declared.allocations.Allocation.{Allocation}
+use Rattle.unit_model.specs.declared.jobs.UplinkJob.{UplinkJob}
+use Rattle.uplink_model.proofs.SentLemmas.{all_are_sent}
+use Rattle.uplink_model.specs.Frames.{Antenna, uplink_frame_of, frames_behind, uplink_frames_from, uplink_message_frames}
+use Rattle.uplink_model.specs.Messages.{frame_count, uplink_frames_before, messages_behind, uplink_messages_of, number_behind, takes_job}
+use Rattle.uplink_model.specs.Sent.{in_sent_order}
+use Rattle.uplink_model.specs.SentLaws.{AreInTimes, AreOf}
+use Rattle.window_config.specs.Windows.{ticks_of_ns}
+use Rattle.window_config.specs.declared.config.Config.{Config}
+use Rattle.window_config.specs.declared.endpoints.EndpointConfig.{EndpointConfig}
+use Rattle.plan_model.proofs.ListLemmas.{in_either, all_of, the_one}
 use Rattle.document_traffic.specs.Landing.{antenna_for, handed_for, jobs_for, landings_of, leaving_answer, leaving_up}
 use Rattle.document_traffic.specs.Laws.{AnswersAllLeave}
 use Rattle.document_traffic.specs.Sending.{Leaving, leaving_down, leaving_of, sent_for}
@@ -50,9 +50,9 @@ use Rattle.document_traffic.proofs.ArrivalLemmas.{of_arrivals}
 use Rattle.document_traffic.proofs.LineLemmas.{lines_fit}
 use Rattle.document_traffic.proofs.TimeLemmas.{IsBy, frame_leaves, last_sent, longest, replayed_by}
 use Rattle.document_traffic.proofs.WithinLemmas.{each_lands}
-use Rattle.frame_deliveries.specs.window_config.specs.declared.delays.TheConstants.{MOST_DELAY}
-use Rattle.frame_deliveries.specs.window_config.proofs.TickLemmas.{in_ticks}
-use Rattle.replay_laws.specs.history_laws.proofs.UnitLemmas.{small_is}
+use Rattle.window_config.specs.declared.delays.TheConstants.{MOST_DELAY}
+use Rattle.window_config.proofs.TickLemmas.{in_ticks}
+use Rattle.history_laws.proofs.UnitLemmas.{small_is}
 
 -- ---- frames that are handed over for messages
 

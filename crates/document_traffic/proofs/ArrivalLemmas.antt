@@ -5,20 +5,20 @@ use Rattle.std.specs.Ordering.{int_eq}
 use Rattle.std.proofs.lemmas.Bool.{cases_eq}
 use Rattle.std.proofs.lemmas.Bool.Decides.{Decides-int_eq}
 use Rattle.std.proofs.lemmas.Int.{ints}
-use Rattle.sent_order.specs.fragment_laws.specs.Apart.{IsIn}
-use Rattle.replay_laws.specs.replay_events.proofs.CameLemmas.{arrivals_in_time}
-use Rattle.replay_laws.specs.replay_events.specs.Moments.{all_arrivals, arrivals_in, landing_at}
-use Rattle.replay_laws.specs.replay_events.proofs.EndLemmas.{lands_by_end}
-use Rattle.replay_laws.specs.replay_events.specs.Passing.{AreLandings}
-use Rattle.sent_order.specs.schedule_laws.proofs.ListLemmas.{in_all, in_onto, onto_left, onto_right}
-use Rattle.sent_order.specs.schedule_laws.specs.Premise.{AreInOrder}
-use Rattle.replay_laws.specs.unit_model.proofs.SweepLaws.{gap_is}
-use Rattle.replay_laws.specs.unit_model.specs.Meetings.{Arrival}
-use Rattle.replay_laws.specs.unit_model.specs.Radiated.{first_clock}
-use Rattle.replay_laws.specs.unit_model.specs.Standing.{AreInTime}
-use Rattle.replay_laws.specs.unit_model.specs.Times.{end_of_time}
-use Rattle.replay_laws.specs.history_laws.proofs.TickLemmas.{clock_begins}
-use Rattle.sent_order.specs.plan_model.proofs.ListLemmas.{in_filter, of_filter}
+use Rattle.fragment_laws.specs.Apart.{IsIn}
+use Rattle.replay_events.proofs.CameLemmas.{arrivals_in_time}
+use Rattle.replay_events.specs.Moments.{all_arrivals, arrivals_in, landing_at}
+use Rattle.replay_events.proofs.EndLemmas.{lands_by_end}
+use Rattle.replay_events.specs.Passing.{AreLandings}
+use Rattle.schedule_laws.proofs.ListLemmas.{in_all, in_onto, onto_left, onto_right}
+use Rattle.schedule_laws.specs.Premise.{AreInOrder}
+use Rattle.unit_model.proofs.SweepLaws.{gap_is}
+use Rattle.unit_model.specs.Meetings.{Arrival}
+use Rattle.unit_model.specs.Radiated.{first_clock}
+use Rattle.unit_model.specs.Standing.{AreInTime}
+use Rattle.unit_model.specs.Times.{end_of_time}
+use Rattle.history_laws.proofs.TickLemmas.{clock_begins}
+use Rattle.plan_model.proofs.ListLemmas.{in_filter, of_filter}
 use Rattle.fh_time.proofs.Orders.{at_most}
 
 -- ---- what arrives

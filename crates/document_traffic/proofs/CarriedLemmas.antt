@@ -3,15 +3,15 @@
 use Rattle.std.proofs.Common.{◌≡◌, ◌≢◌, ℤ, ◌+ℤ◌, ◌≤ℤ◌, inl, inr, List, [], ◌∷◌, map, refl, sym, subst, arith}
 use Rattle.std.specs.Prelude.{All, filter}
 use Rattle.std.proofs.lemmas.Int.{ints}
-use Rattle.frame_deliveries.specs.air_source.specs.declared.events.Side.{Side}
-use Rattle.frame_deliveries.specs.fh_document.specs.declared.document.Document.{Document}
-use Rattle.frame_deliveries.specs.fh_document.specs.declared.document.Injection.{Injection}
-use Rattle.sent_order.specs.fragment_laws.specs.Apart.{IsIn}
-use Rattle.sent_order.specs.schedule_laws.proofs.ListLemmas.{in_all, in_map, of_map}
-use Rattle.replay_laws.specs.unit_model.specs.Meetings.{Arrival}
-use Rattle.frame_deliveries.specs.window_config.specs.Windows.{ticks_of_ns}
-use Rattle.frame_deliveries.specs.window_config.specs.declared.delays.Range.{Range}
-use Rattle.sent_order.specs.plan_model.proofs.ListLemmas.{in_either, in_left}
+use Rattle.air_source.specs.declared.events.Side.{Side}
+use Rattle.fh_document.specs.declared.document.Document.{Document}
+use Rattle.fh_document.specs.declared.document.Injection.{Injection}
+use Rattle.fragment_laws.specs.Apart.{IsIn}
+use Rattle.schedule_laws.proofs.ListLemmas.{in_all, in_map, of_map}
+use Rattle.unit_model.specs.Meetings.{Arrival}
+use Rattle.window_config.specs.Windows.{ticks_of_ns}
+use Rattle.window_config.specs.declared.delays.Range.{Range}
+use Rattle.plan_model.proofs.ListLemmas.{in_either, in_left}
 use Rattle.document_traffic.specs.Landing.{copies_among, copy_at, injected_at, injected_to, is_to, landing_with}
 use Rattle.document_traffic.specs.Sending.{Delayed, Leaving, delayed_behind, none_sent}
 use Rattle.document_traffic.specs.Undisturbed.{IsCarried}

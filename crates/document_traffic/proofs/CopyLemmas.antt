@@ -1,11 +1,11 @@
 -- Which frames have copies, and which copies they have.
 use Rattle.std.proofs.Common.{◌≡◌, ℕ, inl, inr, List, [], ◌∷◌, refl, sym, subst}
-use Rattle.frame_deliveries.specs.air_source.specs.declared.events.Side.{Side}
-use Rattle.frame_deliveries.specs.fh_document.specs.declared.document.Document.{Document}
-use Rattle.sent_order.specs.fragment_laws.specs.Apart.{IsIn}
+use Rattle.air_source.specs.declared.events.Side.{Side}
+use Rattle.fh_document.specs.declared.document.Document.{Document}
+use Rattle.fragment_laws.specs.Apart.{IsIn}
 use Rattle.frame_deliveries.specs.Copies.{copies_of}
-use Rattle.replay_laws.specs.unit_model.specs.Meetings.{Arrival}
-use Rattle.sent_order.specs.plan_model.proofs.ListLemmas.{in_either, in_left, in_right}
+use Rattle.unit_model.specs.Meetings.{Arrival}
+use Rattle.plan_model.proofs.ListLemmas.{in_either, in_left, in_right}
 use Rattle.document_traffic.specs.Landing.{copies_among, copies_in}
 use Rattle.document_traffic.specs.Sending.{Delayed, Leaving, SentCounts, count_of, counted, delayed, delayed_behind}
 

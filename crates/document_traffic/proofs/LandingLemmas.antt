@@ -1,13 +1,13 @@
 -- All that lands for a document lands a second before the end of time.
 use Rattle.std.proofs.Common.{ℤ, pos, ◌+ℤ◌, ◌≤ℤ◌, arith}
 use Rattle.std.proofs.lemmas.Int.{ints}
-use Rattle.frame_deliveries.specs.air_source.specs.declared.events.Side.{Side}
-use Rattle.frame_deliveries.specs.air_source.specs.declared.events.Side.TheVariants.{Ru, Du}
-use Rattle.frame_deliveries.specs.fh_document.specs.Proper.{IsDocument}
-use Rattle.frame_deliveries.specs.fh_document.specs.declared.document.Document.{Document}
-use Rattle.sent_order.specs.fragment_laws.specs.Apart.{IsIn}
-use Rattle.sent_order.specs.plan_model.specs.Valid.{IsValid}
-use Rattle.replay_laws.specs.unit_model.specs.Times.{last_landing}
+use Rattle.air_source.specs.declared.events.Side.{Side}
+use Rattle.air_source.specs.declared.events.Side.TheVariants.{Ru, Du}
+use Rattle.fh_document.specs.Proper.{IsDocument}
+use Rattle.fh_document.specs.declared.document.Document.{Document}
+use Rattle.fragment_laws.specs.Apart.{IsIn}
+use Rattle.plan_model.specs.Valid.{IsValid}
+use Rattle.unit_model.specs.Times.{last_landing}
 use Rattle.document_traffic.specs.Landing.{landing_with, leaving_to}
 use Rattle.document_traffic.specs.Laws.{PlannedLandingsAreReplayed}
 use Rattle.document_traffic.specs.Sending.{Leaving}

@@ -2,9 +2,9 @@
 use Rattle.std.proofs.Common.{List, arith}
 use Rattle.std.specs.Prelude.{All}
 use Rattle.std.proofs.lemmas.List.Elements.{All-weaker}
-use Rattle.frame_deliveries.specs.fh_document.specs.Proper.{IsPlanLine as IsWrittenLine}
-use Rattle.frame_deliveries.specs.window_config.specs.Plans.{IsPlanLine}
-use Rattle.frame_deliveries.specs.window_config.specs.declared.plan.PlanLine.{PlanLine}
+use Rattle.fh_document.specs.Proper.{IsPlanLine as IsWrittenLine}
+use Rattle.window_config.specs.Plans.{IsPlanLine}
+use Rattle.window_config.specs.declared.plan.PlanLine.{PlanLine}
 
 line_fits : (l : PlanLine) → IsWrittenLine l → IsPlanLine l
 line_fits l h = record {

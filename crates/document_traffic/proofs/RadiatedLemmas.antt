@@ -4,42 +4,42 @@ use Rattle.std.specs.Prelude.{filter}
 use Rattle.std.proofs.lemmas.Bool.{and_parts}
 use Rattle.std.proofs.lemmas.Int.{ints}
 use Rattle.std.proofs.Math.Nat.{lt_of_lt_of_le}
-use Rattle.frame_deliveries.specs.air_source.specs.declared.events.AirCell.{AirCell}
-use Rattle.frame_deliveries.specs.air_source.specs.declared.events.Side.TheVariants.{Ru}
+use Rattle.air_source.specs.declared.events.AirCell.{AirCell}
+use Rattle.air_source.specs.declared.events.Side.TheVariants.{Ru}
 use Rattle.bfp_codec.proofs.Laws.{can_pack}
 use Rattle.bfp_codec.specs.Shrunk.{CanPack}
-use Rattle.frame_deliveries.specs.fh_document.specs.Proper.{IsDocument}
-use Rattle.frame_deliveries.specs.fh_document.specs.declared.document.Document.{Document}
+use Rattle.fh_document.specs.Proper.{IsDocument}
+use Rattle.fh_document.specs.declared.document.Document.{Document}
 use Rattle.fh_time.specs.Air.{air_of}
 use Rattle.fh_time.specs.declared.values.Slot.{Slot}
-use Rattle.sent_order.specs.fragment_laws.specs.Apart.{IsIn}
-use Rattle.sent_order.specs.plan_model.specs.Lines.{line_allocation}
-use Rattle.sent_order.specs.plan_model.specs.Sent.{SentFrame}
-use Rattle.sent_order.specs.plan_model.specs.Valid.{IsValid}
-use Rattle.sent_order.specs.plan_model.specs.declared.lines.PlannedLine.{PlannedLine}
-use Rattle.replay_laws.specs.replay_events.specs.Moments.{all_arrivals}
+use Rattle.fragment_laws.specs.Apart.{IsIn}
+use Rattle.plan_model.specs.Lines.{line_allocation}
+use Rattle.plan_model.specs.Sent.{SentFrame}
+use Rattle.plan_model.specs.Valid.{IsValid}
+use Rattle.plan_model.specs.declared.lines.PlannedLine.{PlannedLine}
+use Rattle.replay_events.specs.Moments.{all_arrivals}
 use Rattle.replay_laws.proofs.OnceLemmas.{cells_are_reported}
-use Rattle.sent_order.specs.schedule_laws.proofs.BlockLemmas.{decoded_once}
-use Rattle.sent_order.specs.schedule_laws.proofs.CommandLemmas.{commanded_once}
-use Rattle.sent_order.specs.schedule_laws.proofs.LineLemmas.{good, start_in_time}
-use Rattle.sent_order.specs.schedule_laws.proofs.ListLemmas.{at_in, in_all, in_map, of_map}
-use Rattle.sent_order.specs.schedule_laws.proofs.WholeLemmas.{delivered, sounds}
-use Rattle.sent_order.specs.schedule_laws.specs.Flows.{bounds_of}
-use Rattle.sent_order.specs.schedule_laws.specs.Premise.{AllArrive}
-use Rattle.sent_order.specs.schedule_laws.specs.Singles.{event_of}
-use Rattle.uplink_laws.specs.sent_frames.specs.Sources.{id_at}
-use Rattle.uplink_laws.specs.sent_laws.proofs.RadiatedLemmas.{arrive, sent_once, sent_radiates}
-use Rattle.uplink_laws.specs.sent_laws.proofs.SentRead.{messages_say}
-use Rattle.uplink_laws.specs.sent_laws.specs.Frames.{texts_of}
-use Rattle.uplink_laws.specs.sent_laws.specs.Radiated.{CopiesArrive, IsSentCopy}
-use Rattle.uplink_laws.specs.sent_laws.specs.Sent.{IsSendable}
-use Rattle.replay_laws.specs.unit_model.specs.Claims.{cell_at, cell_of, covers, in_mask, names}
-use Rattle.replay_laws.specs.unit_model.specs.Meetings.{Arrival}
-use Rattle.replay_laws.specs.unit_model.specs.Proper.{IsAt}
-use Rattle.replay_laws.specs.unit_model.specs.Standing.{same_cell}
-use Rattle.replay_laws.specs.unit_model.specs.Times.{end_of_time}
-use Rattle.frame_deliveries.specs.window_config.specs.Endpoints.{IsEndpoint}
-use Rattle.frame_deliveries.specs.window_config.specs.declared.endpoints.EndpointConfig.{EndpointConfig}
+use Rattle.schedule_laws.proofs.BlockLemmas.{decoded_once}
+use Rattle.schedule_laws.proofs.CommandLemmas.{commanded_once}
+use Rattle.schedule_laws.proofs.LineLemmas.{good, start_in_time}
+use Rattle.schedule_laws.proofs.ListLemmas.{at_in, in_all, in_map, of_map}
+use Rattle.schedule_laws.proofs.WholeLemmas.{delivered, sounds}
+use Rattle.schedule_laws.specs.Flows.{bounds_of}
+use Rattle.schedule_laws.specs.Premise.{AllArrive}
+use Rattle.schedule_laws.specs.Singles.{event_of}
+use Rattle.sent_frames.specs.Sources.{id_at}
+use Rattle.sent_laws.proofs.RadiatedLemmas.{arrive, sent_once, sent_radiates}
+use Rattle.sent_laws.proofs.SentRead.{messages_say}
+use Rattle.sent_laws.specs.Frames.{texts_of}
+use Rattle.sent_laws.specs.Radiated.{CopiesArrive, IsSentCopy}
+use Rattle.sent_laws.specs.Sent.{IsSendable}
+use Rattle.unit_model.specs.Claims.{cell_at, cell_of, covers, in_mask, names}
+use Rattle.unit_model.specs.Meetings.{Arrival}
+use Rattle.unit_model.specs.Proper.{IsAt}
+use Rattle.unit_model.specs.Standing.{same_cell}
+use Rattle.unit_model.specs.Times.{end_of_time}
+use Rattle.window_config.specs.Endpoints.{IsEndpoint}
+use Rattle.window_config.specs.declared.endpoints.EndpointConfig.{EndpointConfig}
 use Rattle.document_traffic.specs.Landing.{landings_of, planned_traffic}
 use Rattle.document_traffic.specs.Laws.{HasWidths, PlannedScheduleRadiatesOnce}
 use Rattle.document_traffic.specs.Sending.{Leaving, leaving_down, leaving_of, lines_of, sent_for, source_for}
@@ -50,7 +50,7 @@ use Rattle.document_traffic.proofs.GenerationLemmas.{each_holds_one}
 use Rattle.document_traffic.proofs.LandingLemmas.{are_replayed}
 use Rattle.document_traffic.proofs.LineLemmas.{lines_fit}
 use Rattle.document_traffic.proofs.ToneLemmas.{tone_fits}
-use Rattle.replay_laws.specs.unit_model.proofs.ClaimLemmas.{from_within, covers_is}
+use Rattle.unit_model.proofs.ClaimLemmas.{from_within, covers_is}
 
 by_the_end : (s : ℤ) → s ≤ℤ pos 1536100000000000 → s ≤ℤ end_of_time
 by_the_end s h = omega (arith, ints, h)

@@ -1,41 +1,41 @@
 -- How long the frames are that leave for a document.
 use Rattle.std.proofs.Common.{◌≡◌, ℕ, ◌+◌, ◌*◌, ◌%◌, ◌^◌, ◌<◌, ◌≤◌, ◌-◌, min, List, length, refl, ap, sym, ◌∙◌, subst, arith, length-append}
-use Rattle.frame_deliveries.specs.air_source.specs.declared.events.Side.TheVariants.{Ru, Du}
-use Rattle.frame_deliveries.specs.air_source.specs.declared.links.LinkFrame.{LinkFrame}
+use Rattle.air_source.specs.declared.events.Side.TheVariants.{Ru, Du}
+use Rattle.air_source.specs.declared.links.LinkFrame.{LinkFrame}
 use Rattle.cplane_sections.specs.declared.values.CHead.{CHead}
 use Rattle.cplane_sections.specs.declared.values.CSection.{CSection}
 use Rattle.ecpri_fragments.specs.declared.sequence.SeqField.{SeqField}
-use Rattle.frame_deliveries.specs.fh_document.specs.Proper.{IsDocument}
-use Rattle.frame_deliveries.specs.fh_document.specs.declared.document.Document.{Document}
-use Rattle.sent_order.specs.fragment_laws.specs.Apart.{IsIn}
-use Rattle.uplink_laws.specs.frame_bytes.proofs.CutBytes.{length_cut}
-use Rattle.uplink_laws.specs.frame_bytes.proofs.Fields.{length-in_bytes}
-use Rattle.uplink_laws.specs.frame_bytes.specs.Commands.{command_frame, command_of, whole_seq}
-use Rattle.uplink_laws.specs.frame_bytes.specs.Cuts.{cut, piece_at, piece_frame}
-use Rattle.uplink_laws.specs.frame_bytes.specs.Spelled.{in_bytes}
-use Rattle.uplink_laws.specs.frame_bytes.specs.Transport.{frame_of as transport_frame, transport_fields}
-use Rattle.sent_order.specs.plan_model.specs.Packs.{Message, size_of}
-use Rattle.sent_order.specs.plan_model.specs.Sent.{SentFrame}
-use Rattle.sent_order.specs.plan_model.specs.Valid.{IsValid}
-use Rattle.sent_order.specs.plan_model.specs.declared.streams.Stream.{Stream}
-use Rattle.sent_order.specs.plan_model.specs.declared.streams.Stream.TheVariants.{DownCommands, UpCommands, DownData, UpData}
-use Rattle.sent_order.specs.schedule_laws.proofs.ListLemmas.{of_map}
-use Rattle.uplink_laws.specs.sent_frames.specs.Commands.{command_head, command_section}
-use Rattle.uplink_laws.specs.sent_frames.specs.Frames.{bytes_in, fragment_field}
-use Rattle.uplink_laws.specs.sent_frames.specs.Messages.{Source, message_bytes}
-use Rattle.uplink_laws.specs.sent_laws.proofs.Fragments.{piece_short}
-use Rattle.uplink_laws.specs.sent_laws.proofs.SentRead.{command_short}
-use Rattle.replay_laws.specs.unit_model.specs.declared.jobs.UplinkJob.{UplinkJob}
-use Rattle.uplink_laws.specs.uplink_model.specs.Frames.{Antenna, uplink_frame_of, uplink_fragment_field as answer_field, uplink_message_bytes as answer_bytes}
-use Rattle.uplink_laws.specs.uplink_model.specs.Messages.{job_fields}
-use Rattle.frame_deliveries.specs.window_config.specs.declared.config.Config.{Config}
-use Rattle.frame_deliveries.specs.window_config.specs.declared.endpoints.EndpointConfig.{EndpointConfig}
-use Rattle.sent_order.specs.plan_model.proofs.ListLemmas.{all_of}
+use Rattle.fh_document.specs.Proper.{IsDocument}
+use Rattle.fh_document.specs.declared.document.Document.{Document}
+use Rattle.fragment_laws.specs.Apart.{IsIn}
+use Rattle.frame_bytes.proofs.CutBytes.{length_cut}
+use Rattle.frame_bytes.proofs.Fields.{length-in_bytes}
+use Rattle.frame_bytes.specs.Commands.{command_frame, command_of, whole_seq}
+use Rattle.frame_bytes.specs.Cuts.{cut, piece_at, piece_frame}
+use Rattle.frame_bytes.specs.Spelled.{in_bytes}
+use Rattle.frame_bytes.specs.Transport.{frame_of as transport_frame, transport_fields}
+use Rattle.plan_model.specs.Packs.{Message, size_of}
+use Rattle.plan_model.specs.Sent.{SentFrame}
+use Rattle.plan_model.specs.Valid.{IsValid}
+use Rattle.plan_model.specs.declared.streams.Stream.{Stream}
+use Rattle.plan_model.specs.declared.streams.Stream.TheVariants.{DownCommands, UpCommands, DownData, UpData}
+use Rattle.schedule_laws.proofs.ListLemmas.{of_map}
+use Rattle.sent_frames.specs.Commands.{command_head, command_section}
+use Rattle.sent_frames.specs.Frames.{bytes_in, fragment_field}
+use Rattle.sent_frames.specs.Messages.{Source, message_bytes}
+use Rattle.sent_laws.proofs.Fragments.{piece_short}
+use Rattle.sent_laws.proofs.SentRead.{command_short}
+use Rattle.unit_model.specs.declared.jobs.UplinkJob.{UplinkJob}
+use Rattle.uplink_model.specs.Frames.{Antenna, uplink_frame_of, uplink_fragment_field as answer_field, uplink_message_bytes as answer_bytes}
+use Rattle.uplink_model.specs.Messages.{job_fields}
+use Rattle.window_config.specs.declared.config.Config.{Config}
+use Rattle.window_config.specs.declared.endpoints.EndpointConfig.{EndpointConfig}
+use Rattle.plan_model.proofs.ListLemmas.{all_of}
 use Rattle.document_traffic.specs.Landing.{antenna_for, leaving_up}
 use Rattle.document_traffic.specs.Laws.{LeavingAreShort}
 use Rattle.document_traffic.specs.Sending.{Leaving, leaving_down, leaving_of, sent_for, source_for}
 use Rattle.document_traffic.proofs.AnswerLemmas.{handed_frame, sent_is_handed}
-use Rattle.frame_deliveries.specs.window_config.specs.declared.config.TheConstants.{MOST_FRAGMENT}
+use Rattle.window_config.specs.declared.config.TheConstants.{MOST_FRAGMENT}
 
 -- a frame has eight bytes of headers before its application bytes
 length_frame : (kind id : ℕ) (seq : SeqField) (application : List ℕ) → length (transport_frame kind id seq application) ≡ 8 + length application

@@ -2,22 +2,22 @@
 use Rattle.std.proofs.Common.{◌≡◌, ℤ, pos, ◌+ℤ◌, ◌≤ℤ◌, List, [], ◌∷◌, sym, ◌∙◌, subst, arith}
 use Rattle.std.specs.Prelude.{filter}
 use Rattle.std.proofs.lemmas.Int.{ints}
-use Rattle.frame_deliveries.specs.air_source.specs.Answers.{block_of}
-use Rattle.frame_deliveries.specs.air_source.specs.declared.events.AirCell.{AirCell}
-use Rattle.frame_deliveries.specs.air_source.specs.declared.events.Side.TheVariants.{Du}
-use Rattle.frame_deliveries.specs.air_source.specs.declared.links.LinkFrame.{LinkFrame}
+use Rattle.air_source.specs.Answers.{block_of}
+use Rattle.air_source.specs.declared.events.AirCell.{AirCell}
+use Rattle.air_source.specs.declared.events.Side.TheVariants.{Du}
+use Rattle.air_source.specs.declared.links.LinkFrame.{LinkFrame}
 use Rattle.bfp_codec.proofs.Laws.{can_pack}
-use Rattle.frame_deliveries.specs.fh_document.specs.Proper.{IsDocument}
-use Rattle.frame_deliveries.specs.fh_document.specs.declared.document.Document.{Document}
+use Rattle.fh_document.specs.Proper.{IsDocument}
+use Rattle.fh_document.specs.declared.document.Document.{Document}
 use Rattle.fh_time.specs.Air.{air_of}
-use Rattle.sent_order.specs.fragment_laws.specs.Apart.{IsIn}
-use Rattle.sent_order.specs.plan_model.specs.Valid.{IsValid}
-use Rattle.replay_laws.specs.replay_events.specs.Moments.{all_arrivals}
+use Rattle.fragment_laws.specs.Apart.{IsIn}
+use Rattle.plan_model.specs.Valid.{IsValid}
+use Rattle.replay_events.specs.Moments.{all_arrivals}
 use Rattle.replay_laws.proofs.OnceLemmas.{cells_are_reported}
-use Rattle.sent_order.specs.schedule_laws.proofs.ListLemmas.{at_in, in_all}
-use Rattle.replay_laws.specs.unit_model.specs.Meetings.{Arrival}
-use Rattle.replay_laws.specs.unit_model.specs.Standing.{same_cell}
-use Rattle.replay_laws.specs.unit_model.specs.Times.{end_of_time}
+use Rattle.schedule_laws.proofs.ListLemmas.{at_in, in_all}
+use Rattle.unit_model.specs.Meetings.{Arrival}
+use Rattle.unit_model.specs.Standing.{same_cell}
+use Rattle.unit_model.specs.Times.{end_of_time}
 use Rattle.uplink_laws.proofs.ArrivalLemmas.{delivered, sounds}
 use Rattle.uplink_laws.proofs.BlockLemmas.{decoded_once}
 use Rattle.uplink_laws.proofs.CellLemmas.{plan_taken_in}
@@ -28,8 +28,8 @@ use Rattle.uplink_laws.proofs.WholeLemmas.{taken_once}
 use Rattle.uplink_laws.specs.Flows.{uplink_bounds_of}
 use Rattle.uplink_laws.specs.Premise.{AnswersArrive, BothArrive, CanAnswer, CommandsArrive, IsUplinkCopy}
 use Rattle.uplink_laws.specs.Singles.{uplink_event_of}
-use Rattle.frame_deliveries.specs.window_config.specs.Endpoints.{IsEndpoint}
-use Rattle.frame_deliveries.specs.window_config.specs.Windows.{ticks_of_ns}
+use Rattle.window_config.specs.Endpoints.{IsEndpoint}
+use Rattle.window_config.specs.Windows.{ticks_of_ns}
 use Rattle.document_traffic.specs.Landing.{answers_of, antenna_for, handed_for, jobs_for, landings_of, leaving_answer, leaving_up, planned_traffic}
 use Rattle.document_traffic.specs.Laws.{HasWidths, PlannedUplinkIsTakenInOnce}
 use Rattle.document_traffic.specs.Sending.{Leaving, lines_of, source_for}
@@ -41,7 +41,7 @@ use Rattle.document_traffic.proofs.GenerationLemmas.{each_holds_one}
 use Rattle.document_traffic.proofs.LandingLemmas.{are_replayed}
 use Rattle.document_traffic.proofs.RadiatedLemmas.{copies, sendable, starts}
 use Rattle.document_traffic.proofs.ToneLemmas.{tone_fits}
-use Rattle.frame_deliveries.specs.window_config.specs.declared.delays.TheConstants.{MOST_DELAY}
+use Rattle.window_config.specs.declared.delays.TheConstants.{MOST_DELAY}
 
 -- a cell is reported 2 ms after its symbol's start at most
 told_in_time : (s most : ℤ) → s ≤ℤ pos 1536100000000000 → most ≤ℤ pos MOST_DELAY → (s +ℤ ticks_of_ns most) ≤ℤ end_of_time

@@ -2,37 +2,37 @@
 use Rattle.std.proofs.Common.{◌≡◌, ℕ, ℤ, pos, neg_ℤ, ◌+◌, ◌*◌, ◌≤◌, ◌+ℤ◌, ◌*ℤ◌, ◌≤ℤ◌, min, inl, List, refl, sym, subst, arith}
 use Rattle.std.specs.Prelude.{All}
 use Rattle.std.proofs.lemmas.Int.{ints}
-use Rattle.sent_order.specs.fragment_laws.specs.Apart.{IsIn}
-use Rattle.sent_order.specs.plan_model.specs.Departures.{departures_of, sending_from, sending_window, sent_at, start_of_part, width_of}
-use Rattle.sent_order.specs.plan_model.specs.Lines.{planned}
-use Rattle.sent_order.specs.plan_model.specs.Packs.{Numbered}
-use Rattle.sent_order.specs.plan_model.specs.Sent.{SentFrame, sent}
-use Rattle.sent_order.specs.plan_model.specs.Streams.{Part, messages_of}
-use Rattle.sent_order.specs.plan_model.specs.Valid.{IsValid}
-use Rattle.sent_order.specs.plan_model.specs.declared.lines.PlannedLine.{PlannedLine}
-use Rattle.sent_order.specs.plan_model.specs.declared.streams.Stream.{Stream}
-use Rattle.sent_order.specs.plan_model.specs.declared.streams.Stream.TheVariants.{DownCommands, UpCommands, DownData, UpData}
-use Rattle.replay_laws.specs.replay_events.specs.Passing.{AreLandings}
-use Rattle.sent_order.specs.schedule_laws.proofs.SentLemmas.{IsSentStream, message_part, sent_is}
-use Rattle.sent_order.specs.schedule_laws.proofs.TimeLemmas.{wait_most}
+use Rattle.fragment_laws.specs.Apart.{IsIn}
+use Rattle.plan_model.specs.Departures.{departures_of, sending_from, sending_window, sent_at, start_of_part, width_of}
+use Rattle.plan_model.specs.Lines.{planned}
+use Rattle.plan_model.specs.Packs.{Numbered}
+use Rattle.plan_model.specs.Sent.{SentFrame, sent}
+use Rattle.plan_model.specs.Streams.{Part, messages_of}
+use Rattle.plan_model.specs.Valid.{IsValid}
+use Rattle.plan_model.specs.declared.lines.PlannedLine.{PlannedLine}
+use Rattle.plan_model.specs.declared.streams.Stream.{Stream}
+use Rattle.plan_model.specs.declared.streams.Stream.TheVariants.{DownCommands, UpCommands, DownData, UpData}
+use Rattle.replay_events.specs.Passing.{AreLandings}
+use Rattle.schedule_laws.proofs.SentLemmas.{IsSentStream, message_part, sent_is}
+use Rattle.schedule_laws.proofs.TimeLemmas.{wait_most}
 use Rattle.sent_order.proofs.BoundLemmas.{most_before, part_time}
-use Rattle.replay_laws.specs.unit_model.proofs.SweepLaws.{gap_is}
-use Rattle.replay_laws.specs.unit_model.specs.Meetings.{Arrival}
-use Rattle.replay_laws.specs.unit_model.specs.Proper.{IsAt, IsTime}
-use Rattle.replay_laws.specs.unit_model.specs.Radiated.{first_clock}
-use Rattle.replay_laws.specs.unit_model.specs.Times.{last_landing}
-use Rattle.frame_deliveries.specs.window_config.specs.Configs.{IsConfig}
-use Rattle.frame_deliveries.specs.window_config.specs.Plans.{IsPlanLine}
-use Rattle.frame_deliveries.specs.window_config.specs.Windows.{ticks_of_ns}
-use Rattle.frame_deliveries.specs.window_config.specs.declared.config.Config.{Config}
-use Rattle.frame_deliveries.specs.window_config.specs.declared.delays.Delays.{Delays}
-use Rattle.frame_deliveries.specs.window_config.specs.declared.endpoints.EndpointConfig.{EndpointConfig}
-use Rattle.frame_deliveries.specs.window_config.specs.declared.plan.PlanLine.{PlanLine}
-use Rattle.sent_order.specs.plan_model.proofs.ListLemmas.{all_of}
+use Rattle.unit_model.proofs.SweepLaws.{gap_is}
+use Rattle.unit_model.specs.Meetings.{Arrival}
+use Rattle.unit_model.specs.Proper.{IsAt, IsTime}
+use Rattle.unit_model.specs.Radiated.{first_clock}
+use Rattle.unit_model.specs.Times.{last_landing}
+use Rattle.window_config.specs.Configs.{IsConfig}
+use Rattle.window_config.specs.Plans.{IsPlanLine}
+use Rattle.window_config.specs.Windows.{ticks_of_ns}
+use Rattle.window_config.specs.declared.config.Config.{Config}
+use Rattle.window_config.specs.declared.delays.Delays.{Delays}
+use Rattle.window_config.specs.declared.endpoints.EndpointConfig.{EndpointConfig}
+use Rattle.window_config.specs.declared.plan.PlanLine.{PlanLine}
+use Rattle.plan_model.proofs.ListLemmas.{all_of}
 use Rattle.fh_time.specs.declared.frames.TheConstants.{FRAME}
 use Rattle.fh_time.specs.declared.nanoseconds.TheConstants.{LAST_TIME, NANOSECOND}
-use Rattle.frame_deliveries.specs.fh_document.specs.declared.config_lines.TheConstants.{MOST_TRANSIT}
-use Rattle.frame_deliveries.specs.window_config.proofs.TickLemmas.{in_ticks}
+use Rattle.fh_document.specs.declared.config_lines.TheConstants.{MOST_TRANSIT}
+use Rattle.window_config.proofs.TickLemmas.{in_ticks}
 
 -- ---- times of a replay
 

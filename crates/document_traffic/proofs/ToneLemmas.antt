@@ -2,17 +2,17 @@
 use Rattle.std.proofs.Common.{ℕ, pos, ◌+◌, ◌*◌, ◌%◌, ◌<◌, ◌≤◌, ◌-ℤ◌, sym, ap, ◌∙◌, subst, arith}
 use Rattle.std.proofs.lemmas.Int.{ints}
 use Rattle.std.proofs.lemmas.Nat.{mod_below}
-use Rattle.frame_deliveries.specs.air_source.proofs.Blocks.{get_or-block_of}
-use Rattle.frame_deliveries.specs.air_source.specs.Answers.{block_of, place_at}
-use Rattle.frame_deliveries.specs.air_source.specs.declared.places.RePlace.{RePlace}
+use Rattle.air_source.proofs.Blocks.{get_or-block_of}
+use Rattle.air_source.specs.Answers.{block_of, place_at}
+use Rattle.air_source.specs.declared.places.RePlace.{RePlace}
 use Rattle.bfp_codec.proofs.Blocks.{by_pairs, component_i, component_q}
 use Rattle.bfp_codec.specs.Exponent.{Within}
 use Rattle.bfp_codec.specs.Samples.{component, no_iq}
 use Rattle.bfp_codec.specs.declared.samples.Iq.{Iq}
-use Rattle.frame_deliveries.specs.fh_document.specs.Proper.{IsTone}
+use Rattle.fh_document.specs.Proper.{IsTone}
 use Rattle.fh_time.specs.declared.values.Slot.{Slot}
-use Rattle.frame_deliveries.specs.tone_source.specs.Tones.{number_of, tone_of, wave}
-use Rattle.frame_deliveries.specs.tone_source.specs.declared.values.Tone.{Tone}
+use Rattle.tone_source.specs.Tones.{number_of, tone_of, wave}
+use Rattle.tone_source.specs.declared.values.Tone.{Tone}
 
 rest_fits : (rest amplitude : ℕ) → rest < 2 * amplitude → amplitude ≤ 32768 → Within 16 (pos rest -ℤ pos amplitude)
 rest_fits rest amplitude below high = record { low = omega (arith, ints, below, high); high = omega (arith, ints, below, high) }

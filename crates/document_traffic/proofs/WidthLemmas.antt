@@ -1,9 +1,9 @@
 -- A document that was read has the widths of its numbers.
 use Rattle.std.specs.Prelude.{◌<◌, ◌^◌}
 use Rattle.std.proofs.lemmas.List.Elements.{All-weaker}
-use Rattle.frame_deliveries.specs.fh_document.specs.Proper.{IsDocument, IsPlanLine}
-use Rattle.frame_deliveries.specs.fh_document.specs.declared.document.Document.{Document}
-use Rattle.frame_deliveries.specs.window_config.specs.declared.plan.PlanLine.{PlanLine}
+use Rattle.fh_document.specs.Proper.{IsDocument, IsPlanLine}
+use Rattle.fh_document.specs.declared.document.Document.{Document}
+use Rattle.window_config.specs.declared.plan.PlanLine.{PlanLine}
 use Rattle.document_traffic.specs.Laws.{HasWidths}
 
 abbrev HasNumber : PlanLine → Type 0

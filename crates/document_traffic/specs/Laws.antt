@@ -1,14 +1,14 @@
 -- What holds of what lands for a document with a valid plan.
 use Rattle.std.specs.Prelude.{◌<◌, ◌^◌, ◌≤ℤ◌, All, IsPermutation, length, map}
 use Rattle.std.specs.List.{AllPairs}
-use Rattle.frame_deliveries.specs.air_source.specs.declared.events.Side.{Side}
-use Rattle.frame_deliveries.specs.fh_document.specs.Proper.{IsDocument}
-use Rattle.frame_deliveries.specs.fh_document.specs.declared.document.Document.{Document}
-use Rattle.sent_order.specs.plan_model.specs.Valid.{IsValid}
-use Rattle.replay_laws.specs.replay_events.specs.Passing.{AreLandings}
-use Rattle.replay_laws.specs.replay_events.specs.Traffic.{landings_at}
-use Rattle.frame_deliveries.specs.window_config.specs.declared.endpoints.EndpointConfig.{EndpointConfig}
-use Rattle.frame_deliveries.specs.window_config.specs.declared.plan.PlanLine.{PlanLine}
+use Rattle.air_source.specs.declared.events.Side.{Side}
+use Rattle.fh_document.specs.Proper.{IsDocument}
+use Rattle.fh_document.specs.declared.document.Document.{Document}
+use Rattle.plan_model.specs.Valid.{IsValid}
+use Rattle.replay_events.specs.Passing.{AreLandings}
+use Rattle.replay_events.specs.Traffic.{landings_at}
+use Rattle.window_config.specs.declared.endpoints.EndpointConfig.{EndpointConfig}
+use Rattle.window_config.specs.declared.plan.PlanLine.{PlanLine}
 use Rattle.document_traffic.specs.Landing.{handed_for, leaving_answer, leaving_to, leaving_up, planned_traffic}
 use Rattle.document_traffic.specs.Sending.{Leaving}
 use Rattle.document_traffic.specs.Undisturbed.{IsTakenInOnce, IsUndisturbed, IsUndisturbedBothWays, RadiatesOnce}

@@ -1,8 +1,3 @@
-pub use Rattle.replay_laws
-pub use Rattle.uplink_laws.specs.sent_frames
-pub use Rattle.uplink_laws.specs.sent_laws
-pub use Rattle.sent_order
-pub use Rattle.uplink_laws
 pub mod Sending
 pub mod Landing
 pub mod Generations

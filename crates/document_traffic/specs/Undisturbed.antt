@@ -1,33 +1,33 @@
 -- When nothing disturbs a document's schedule, what radiates then and what is taken in (O-RAN.WG4.CUS, delay management; this project's
 -- profile).
 use Rattle.std.specs.Prelude.{◌≡◌, ◌≢◌, ℕ, ◌<◌, ◌≤ℤ◌, true, false, List, [], ◌∷◌, All, filter}
-use Rattle.frame_deliveries.specs.air_source.specs.declared.events.AirCell.{AirCell}
-use Rattle.frame_deliveries.specs.air_source.specs.declared.events.Side.{Side}
-use Rattle.frame_deliveries.specs.air_source.specs.declared.events.Side.TheVariants.{Ru, Du}
+use Rattle.air_source.specs.declared.events.AirCell.{AirCell}
+use Rattle.air_source.specs.declared.events.Side.{Side}
+use Rattle.air_source.specs.declared.events.Side.TheVariants.{Ru, Du}
 use Rattle.ecpri_fragments.specs.Generations.{Fragment}
-use Rattle.frame_deliveries.specs.fh_document.specs.declared.document.Document.{Document}
-use Rattle.sent_order.specs.fragment_laws.specs.Apart.{IsIn}
-use Rattle.sent_order.specs.fragment_laws.specs.Flow.{Flow}
-use Rattle.sent_order.specs.plan_model.specs.Lines.{line_allocation}
-use Rattle.sent_order.specs.plan_model.specs.declared.lines.PlannedLine.{PlannedLine}
-use Rattle.replay_laws.specs.replay_events.specs.Events.{events}
-use Rattle.replay_laws.specs.replay_events.specs.Heard.{cells_heard}
-use Rattle.replay_laws.specs.replay_events.specs.Moments.{all_arrivals, end_of_time}
-use Rattle.replay_laws.specs.replay_events.specs.Traffic.{Traffic, landings_at}
-use Rattle.sent_order.specs.schedule_laws.specs.Cells.{planned_air}
-use Rattle.sent_order.specs.schedule_laws.specs.Commands.{AreCommandedOnce}
-use Rattle.sent_order.specs.schedule_laws.specs.Data.{AreDecodedOnce, Blocks}
-use Rattle.sent_order.specs.schedule_laws.specs.Flows.{bounds_of, flow_of}
-use Rattle.sent_order.specs.schedule_laws.specs.Singles.{event_of}
-use Rattle.uplink_laws.specs.sent_laws.specs.Frames.{blocks_of, texts_of}
-use Rattle.replay_laws.specs.unit_model.specs.Claims.{cell_of, names}
-use Rattle.replay_laws.specs.unit_model.specs.Meetings.{fragments}
-use Rattle.replay_laws.specs.unit_model.specs.Reports.{met}
-use Rattle.replay_laws.specs.unit_model.specs.Standing.{same_cell}
+use Rattle.fh_document.specs.declared.document.Document.{Document}
+use Rattle.fragment_laws.specs.Apart.{IsIn}
+use Rattle.fragment_laws.specs.Flow.{Flow}
+use Rattle.plan_model.specs.Lines.{line_allocation, is_up_line}
+use Rattle.plan_model.specs.declared.lines.PlannedLine.{PlannedLine}
+use Rattle.replay_events.specs.Events.{events}
+use Rattle.replay_events.specs.Heard.{cells_heard}
+use Rattle.replay_events.specs.Moments.{all_arrivals, end_of_time}
+use Rattle.replay_events.specs.Traffic.{Traffic, landings_at}
+use Rattle.schedule_laws.specs.Cells.{planned_air}
+use Rattle.schedule_laws.specs.Commands.{AreCommandedOnce}
+use Rattle.schedule_laws.specs.Data.{AreDecodedOnce, Blocks}
+use Rattle.schedule_laws.specs.Flows.{bounds_of, flow_of}
+use Rattle.schedule_laws.specs.Singles.{event_of}
+use Rattle.sent_laws.specs.Frames.{blocks_of, texts_of}
+use Rattle.unit_model.specs.Claims.{cell_of, names}
+use Rattle.unit_model.specs.Meetings.{fragments}
+use Rattle.unit_model.specs.Reports.{met}
+use Rattle.unit_model.specs.Standing.{same_cell}
 use Rattle.uplink_laws.specs.Whole.{AreTakenOnce}
-use Rattle.frame_deliveries.specs.window_config.specs.Relations.{PassesCheck}
-use Rattle.frame_deliveries.specs.window_config.specs.declared.delays.Delays.{Delays}
-use Rattle.frame_deliveries.specs.window_config.specs.declared.delays.Range.{Range}
+use Rattle.window_config.specs.Relations.{PassesCheck}
+use Rattle.window_config.specs.declared.delays.Delays.{Delays}
+use Rattle.window_config.specs.declared.delays.Range.{Range}
 use Rattle.uplink_laws.specs.Cells.{taken_air}
 use Rattle.uplink_laws.specs.Data.{AreUplinksDecodedOnce as AreAnswersDecodedOnce, antenna_blocks as answer_blocks_of}
 use Rattle.uplink_laws.specs.Flows.{uplink_bounds_of as answer_bounds_of, uplink_flow_of as answer_flow_of}
@@ -36,7 +36,6 @@ use Rattle.uplink_laws.specs.Singles.{uplink_event_of as taken_event_of}
 use Rattle.document_traffic.specs.Generations.{EachHoldsOneMessage}
 use Rattle.document_traffic.specs.Landing.{all_delayed, antenna_for}
 use Rattle.document_traffic.specs.Sending.{Delayed, lines_of, source_for}
-use Rattle.sent_order.specs.plan_model.specs.Lines.{is_up_line}
 
 -- ---- the premise
 

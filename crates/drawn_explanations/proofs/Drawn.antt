@@ -12,15 +12,11 @@ use Rattle.explain_lines.specs.declared.values.ExplainLine.{ExplainLine}
 use Rattle.explain_lines.specs.declared.values.ExplainLine.TheVariants as line
 use Rattle.explain_lines.specs.declared.values.WindowName.{WindowName}
 use Rattle.explain_lines.specs.declared.values.WindowName.TheVariants.{T1aUp, T1aCpDl, T1aCpUl, T2aUp, T2aCpDl, T2aCpUl, Ta3, Ta4}
-use Rattle.grid_lines.specs.Text.{grid_of}
-use Rattle.grid_lines.specs.Text.{read_from as grid_from, start as grid_start}
-use Rattle.arrival_lines.specs.Text.{arrivals_of}
-use Rattle.arrival_lines.specs.Text.{read_from as arrivals_from, start as arrivals_start}
+use Rattle.grid_lines.specs.Text.{grid_of, read_from as grid_from, start as grid_start}
+use Rattle.arrival_lines.specs.Text.{arrivals_of, read_from as arrivals_from, start as arrivals_start}
 use Rattle.arrival_lines.specs.Rows.{rows_of}
-use Rattle.grid_picture.specs.Picture.{grid_picture}
-use Rattle.grid_picture.specs.Picture.{picture_for as grid_for}
-use Rattle.window_picture.specs.Picture.{windows_picture}
-use Rattle.window_picture.specs.Picture.{picture_for as windows_for}
+use Rattle.grid_picture.specs.Picture.{grid_picture, picture_for as grid_for}
+use Rattle.window_picture.specs.Picture.{windows_picture, picture_for as windows_for}
 use Rattle.drawn_explanations.specs.Drawable.{IsDrawnLine, windows_of}
 use Rattle.drawn_explanations.specs.Laws.{DrawableAreDrawn, HasPictures}
 use Rattle.drawn_explanations.proofs.Arrivals.{windows_read}

@@ -18,23 +18,23 @@ use Rattle.window_config.specs.Rings.{IsLive}
 use Rattle.window_config.specs.Windows.{ticks_of_ns}
 use Rattle.window_config.specs.declared.config.Config.{Config}
 use Rattle.window_config.specs.declared.endpoints.EndpointConfig.{EndpointConfig}
-use Rattle.schedule_laws.specs.unit_model.specs.Claims.{claim_at, same_slot, same_way}
-use Rattle.schedule_laws.specs.unit_model.specs.Counts.{cells_counted}
-use Rattle.schedule_laws.specs.unit_model.specs.Lists.{each}
-use Rattle.schedule_laws.specs.unit_model.specs.Order.{comes_before}
-use Rattle.schedule_laws.specs.unit_model.specs.Proper.{IsAt, IsSlot}
-use Rattle.schedule_laws.specs.unit_model.specs.Radiated.{Known, air_cell, first_clock, used_mask, wait_of}
-use Rattle.schedule_laws.specs.unit_model.specs.Reports.{arrivals_counted, du_known, timely_of}
-use Rattle.schedule_laws.specs.unit_model.specs.Standing.{History, IsCell, IsOwed, cell_heard, due, heard, past_of, still_reported}
-use Rattle.schedule_laws.specs.unit_model.specs.Starts.{start_at}
-use Rattle.schedule_laws.specs.unit_model.specs.Sweeps.{OfSymbol}
-use Rattle.schedule_laws.specs.unit_model.specs.declared.allocations.Allocation.{Allocation}
-use Rattle.schedule_laws.specs.unit_model.specs.declared.cells.Cell.{Cell}
-use Rattle.schedule_laws.specs.unit_model.specs.declared.symbol_start.SymbolStart.{SymbolStart}
-use Rattle.schedule_laws.specs.unit_model.proofs.SweepLaws.{each_more, each_split}
-use Rattle.schedule_laws.specs.unit_laws.specs.Swept.{IsSwept}
-use Rattle.schedule_laws.specs.unit_laws.proofs.DueLemmas.{due_begins, due_in_pieces, due_left, heard_differ, unheard}
-use Rattle.schedule_laws.specs.unit_laws.proofs.FarLemmas.{endpoints_equal}
+use Rattle.unit_model.specs.Claims.{claim_at, same_slot, same_way}
+use Rattle.unit_model.specs.Counts.{cells_counted}
+use Rattle.unit_model.specs.Lists.{each}
+use Rattle.unit_model.specs.Order.{comes_before}
+use Rattle.unit_model.specs.Proper.{IsAt, IsSlot}
+use Rattle.unit_model.specs.Radiated.{Known, air_cell, first_clock, used_mask, wait_of}
+use Rattle.unit_model.specs.Reports.{arrivals_counted, du_known, timely_of}
+use Rattle.unit_model.specs.Standing.{History, IsCell, IsOwed, cell_heard, due, heard, past_of, still_reported}
+use Rattle.unit_model.specs.Starts.{start_at}
+use Rattle.unit_model.specs.Sweeps.{OfSymbol}
+use Rattle.unit_model.specs.declared.allocations.Allocation.{Allocation}
+use Rattle.unit_model.specs.declared.cells.Cell.{Cell}
+use Rattle.unit_model.specs.declared.symbol_start.SymbolStart.{SymbolStart}
+use Rattle.unit_model.proofs.SweepLaws.{each_more, each_split}
+use Rattle.unit_laws.specs.Swept.{IsSwept}
+use Rattle.unit_laws.proofs.DueLemmas.{due_begins, due_in_pieces, due_left, heard_differ, unheard}
+use Rattle.unit_laws.proofs.FarLemmas.{endpoints_equal}
 use Rattle.unit_cells.specs.Cells.{cells_block}
 use Rattle.unit_cells.proofs.TimeLemmas.{live_at}
 use Rattle.unit_cells.proofs.ToldLemmas.{told_whole}
@@ -55,7 +55,7 @@ use Rattle.du_intake.specs.Cursors.{CellCursor, uplink_cell_in, is_behind}
 use Rattle.du_intake.specs.Units.{IntakeKeeps, intake_due_of}
 use Rattle.du_intake.proofs.DueLemmas.{begun_late, by_cells, cells_left, each_nothing, next_swept, nothing_if, one_cell, own_not_behind, quiet, used_cell, wait_bounds}
 use Rattle.du_intake.proofs.UnitLemmas.{all_told}
-use Rattle.schedule_laws.specs.unit_model.proofs.ClaimLemmas.{same_slot_is as slots_equal, slot_self as slot_own}
+use Rattle.unit_model.proofs.ClaimLemmas.{same_slot_is as slots_equal, slot_self as slot_own}
 use Rattle.fh_time.proofs.Orders.{not_none, not_zero, at_most}
 use Rattle.air_source.specs.Units.{is_down}
 use Rattle.fh_time.specs.declared.symbols.TheConstants.{SUBFRAME}

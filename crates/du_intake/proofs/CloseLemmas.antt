@@ -10,15 +10,15 @@ use Rattle.air_source.specs.declared.events.Event.{Event}
 use Rattle.air_source.specs.declared.events.Event.TheVariants.{Cell as Reported}
 use Rattle.air_source.specs.declared.events.Side.TheVariants.{Du}
 use Rattle.window_config.specs.declared.config.Config.{Config}
-use Rattle.schedule_laws.specs.unit_model.specs.Claims.{claim_at}
+use Rattle.unit_model.specs.Claims.{claim_at}
 use Rattle.window_config.specs.declared.endpoints.EndpointConfig.{EndpointConfig}
-use Rattle.schedule_laws.specs.unit_model.specs.Radiated.{air_cell, cell_id, report_of, samples_under, used_mask, wait_of}
-use Rattle.schedule_laws.specs.unit_model.specs.Standing.{History, heard}
-use Rattle.schedule_laws.specs.unit_model.specs.declared.allocations.Allocation.{Allocation}
-use Rattle.schedule_laws.specs.unit_model.specs.declared.cells.Block.{Block}
-use Rattle.schedule_laws.specs.unit_model.specs.declared.cells.Cell.{Cell}
-use Rattle.schedule_laws.specs.unit_model.specs.declared.cells.Claim.{Claim}
-use Rattle.schedule_laws.specs.unit_model.specs.declared.symbol_start.SymbolStart.{SymbolStart}
+use Rattle.unit_model.specs.Radiated.{air_cell, cell_id, report_of, samples_under, used_mask, wait_of}
+use Rattle.unit_model.specs.Standing.{History, heard}
+use Rattle.unit_model.specs.declared.allocations.Allocation.{Allocation}
+use Rattle.unit_model.specs.declared.cells.Block.{Block}
+use Rattle.unit_model.specs.declared.cells.Cell.{Cell}
+use Rattle.unit_model.specs.declared.cells.Claim.{Claim}
+use Rattle.unit_model.specs.declared.symbol_start.SymbolStart.{SymbolStart}
 use Rattle.unit_cells.specs.Cells.{IsSlotIn, cells_block}
 use Rattle.unit_cells.proofs.KeepLemmas.{at_rings}
 use Rattle.ru_reports.specs.Symbols.{CountsTold}
@@ -39,7 +39,7 @@ use Rattle.du_intake.proofs.RowLemmas.{ids_same}
 use Rattle.du_intake.proofs.StepLemmas.{keeps_symbol}
 use Rattle.du_intake.proofs.UnitLemmas.{stands}
 use Rattle.du_intake.proofs.UsedLemmas.{named_left}
-use Rattle.schedule_laws.specs.unit_laws.proofs.ReportLemmas.{used_same}
+use Rattle.unit_laws.proofs.ReportLemmas.{used_same}
 use Rattle.fh_time.proofs.Orders.{not_zero}
 
 -- at the next symbol

@@ -15,25 +15,25 @@ use Rattle.air_source.specs.declared.events.AirCell.{AirCell}
 use Rattle.air_source.specs.declared.events.Side.TheVariants.{Du}
 use Rattle.window_config.specs.declared.config.Config.{Config}
 use Rattle.window_config.specs.declared.endpoints.EndpointConfig.{EndpointConfig}
-use Rattle.schedule_laws.specs.unit_model.specs.Claims.{claim_at, is_from}
-use Rattle.schedule_laws.specs.unit_model.specs.Lists.{each}
-use Rattle.schedule_laws.specs.unit_model.specs.Order.{comes_before}
-use Rattle.schedule_laws.specs.unit_model.specs.Radiated.{Known, air_cell, cell_report, first_clock, report_of, symbol_report, used_mask, wait_of}
-use Rattle.schedule_laws.specs.unit_model.specs.Reports.{du_known}
-use Rattle.schedule_laws.specs.unit_model.specs.Standing.{History, IsCell, cell_heard, due, still_reported}
-use Rattle.schedule_laws.specs.unit_model.specs.Starts.{start_at}
-use Rattle.schedule_laws.specs.unit_model.specs.Sweeps.{OfSymbol}
-use Rattle.schedule_laws.specs.unit_model.specs.declared.allocations.Allocation.{Allocation}
-use Rattle.schedule_laws.specs.unit_model.specs.declared.cells.Block.{Block}
-use Rattle.schedule_laws.specs.unit_model.specs.declared.cells.Cell.{Cell}
-use Rattle.schedule_laws.specs.unit_model.specs.declared.cells.Claim.{Claim}
-use Rattle.schedule_laws.specs.unit_model.specs.declared.symbol_start.SymbolStart.{SymbolStart}
-use Rattle.schedule_laws.specs.unit_laws.specs.Swept.{IsSwept}
-use Rattle.schedule_laws.specs.unit_laws.proofs.DueLemmas.{unheard}
-use Rattle.schedule_laws.specs.unit_laws.proofs.FrameLemmas.{symbol_short, symbols_are_swept}
+use Rattle.unit_model.specs.Claims.{claim_at, is_from}
+use Rattle.unit_model.specs.Lists.{each}
+use Rattle.unit_model.specs.Order.{comes_before}
+use Rattle.unit_model.specs.Radiated.{Known, air_cell, cell_report, first_clock, report_of, symbol_report, used_mask, wait_of}
+use Rattle.unit_model.specs.Reports.{du_known}
+use Rattle.unit_model.specs.Standing.{History, IsCell, cell_heard, due, still_reported}
+use Rattle.unit_model.specs.Starts.{start_at}
+use Rattle.unit_model.specs.Sweeps.{OfSymbol}
+use Rattle.unit_model.specs.declared.allocations.Allocation.{Allocation}
+use Rattle.unit_model.specs.declared.cells.Block.{Block}
+use Rattle.unit_model.specs.declared.cells.Cell.{Cell}
+use Rattle.unit_model.specs.declared.cells.Claim.{Claim}
+use Rattle.unit_model.specs.declared.symbol_start.SymbolStart.{SymbolStart}
+use Rattle.unit_laws.specs.Swept.{IsSwept}
+use Rattle.unit_laws.proofs.DueLemmas.{unheard}
+use Rattle.unit_laws.proofs.FrameLemmas.{symbol_short, symbols_are_swept}
 use Rattle.window_config.specs.Windows.{ticks_of_ns}
-use Rattle.schedule_laws.specs.unit_laws.proofs.LookupLemmas.{reported_by_lookup}
-use Rattle.schedule_laws.specs.unit_laws.proofs.SweepLemmas.{each_related, none_kept}
+use Rattle.unit_laws.proofs.LookupLemmas.{reported_by_lookup}
+use Rattle.unit_laws.proofs.SweepLemmas.{each_related, none_kept}
 use Rattle.history_laws.specs.First.{IsSweptIn, told_of}
 use Rattle.history_laws.proofs.FirstLemmas.{first_is_first, nothing_is_nothing}
 use Rattle.history_laws.proofs.ListLemmas.{kept_one, filter_kept, both_nothing, one_unless}
@@ -52,7 +52,7 @@ use Rattle.fh_time.specs.declared.frames.TheConstants.{FRAME}
 use Rattle.window_config.specs.declared.delays.TheConstants.{MOST_DELAY}
 use Rattle.window_config.specs.declared.plan.TheConstants.{LAST_FRAME}
 use Rattle.fh_time.proofs.Orders.{not_none, not_zero, at_most}
-use Rattle.schedule_laws.specs.unit_model.proofs.ClaimLemmas.{start_before}
+use Rattle.unit_model.proofs.ClaimLemmas.{start_before}
 use Rattle.fh_time.specs.declared.symbols.TheConstants.{SUBFRAME}
 
 -- ---- what is told of one cell

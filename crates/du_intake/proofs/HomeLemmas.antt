@@ -2,25 +2,24 @@
 use Rattle.std.proofs.Common.{◌≡◌, ℕ, ℤ, ◌<◌, ◌≤◌, inl, inr, Bool, true, false, not, ◌&&◌, ◌||◌, ◌==◌, cond, nat_lt, int_lt, List, Some, refl, ap, sym, ◌∙◌, subst, arith}
 use Rattle.std.specs.Prelude.{slice_get}
 use Rattle.std.specs.List.Sorted.{IsSortedBy, IsStableBy, ties}
-use Rattle.std.specs.Cmp.{IsStrictWeakOrder, both_ways}
+use Rattle.std.specs.Cmp.{IsStrictWeakOrder, both_ways, IsTotalOrder}
 use Rattle.std.specs.Ordering.{int_cmp, int_eq, is_lt, nat_cmp, on, ordering_then, then_cmp}
 use Rattle.std.specs.declared.cmp.Ordering.{Ordering}
 use Rattle.std.specs.declared.cmp.Ordering.TheVariants.{Less, Equal, Greater}
 use Rattle.std.proofs.lemmas.Bool.{and_from, and_parts, cases_Bool, eq-eqb, eqb-true, or_parts, not-true}
 use Rattle.std.proofs.lemmas.Bool.Decides.{nat_tests}
 use Rattle.std.proofs.lemmas.Cmp.{int_cmp_total, nat_cmp_total, on_total, then_total}
-use Rattle.std.specs.Cmp.{IsTotalOrder}
 use Rattle.std.proofs.lemmas.Int.{ints}
 use Rattle.std.proofs.lemmas.List.Sorted.{ranks_by}
 use Rattle.fh_time.specs.declared.values.Slot.{Slot}
-use Rattle.schedule_laws.specs.unit_model.specs.Claims.{same_slot}
-use Rattle.schedule_laws.specs.unit_model.specs.Order.{slot_before}
+use Rattle.unit_model.specs.Claims.{same_slot}
+use Rattle.unit_model.specs.Order.{slot_before}
 use Rattle.history_laws.proofs.BeforeLemmas.{slot_cases}
-use Rattle.schedule_laws.specs.plan_model.proofs.ListLemmas.{filter_same}
+use Rattle.plan_model.proofs.ListLemmas.{filter_same}
 use Rattle.du_intake.specs.Lines.{AreLinesInOrder, home_before, is_home, lines_at, same_home}
 use Rattle.du_intake.specs.declared.lines.UplinkLine.{UplinkLine}
 use Rattle.du_intake.proofs.ListLemmas.{pairs_at, sorted_pairs, some_same}
-use Rattle.schedule_laws.specs.unit_model.proofs.ClaimLemmas.{same_slot_is as slots_equal, slot_self as slot_own}
+use Rattle.unit_model.proofs.ClaimLemmas.{same_slot_is as slots_equal, slot_self as slot_own}
 
 -- ---- one slot
 

@@ -9,13 +9,13 @@ use Rattle.air_source.specs.declared.events.Event.{Event}
 use Rattle.air_source.specs.declared.events.Event.TheVariants.{Cell as Reported}
 use Rattle.air_source.specs.declared.events.Side.TheVariants.{Du}
 use Rattle.window_config.specs.declared.config.Config.{Config}
-use Rattle.schedule_laws.specs.unit_model.specs.Counts.{cells_counted}
-use Rattle.schedule_laws.specs.unit_model.specs.Proper.{IsTime}
-use Rattle.schedule_laws.specs.unit_model.specs.Reports.{du_known}
-use Rattle.schedule_laws.specs.unit_model.specs.Standing.{History, at_clock, heard}
-use Rattle.schedule_laws.specs.unit_model.specs.declared.allocations.Allocation.{Allocation}
-use Rattle.schedule_laws.specs.unit_model.specs.declared.symbol_start.SymbolStart.{SymbolStart}
-use Rattle.schedule_laws.specs.unit_laws.proofs.DueLemmas.{due_begins}
+use Rattle.unit_model.specs.Counts.{cells_counted}
+use Rattle.unit_model.specs.Proper.{IsTime}
+use Rattle.unit_model.specs.Reports.{du_known}
+use Rattle.unit_model.specs.Standing.{History, at_clock, heard}
+use Rattle.unit_model.specs.declared.allocations.Allocation.{Allocation}
+use Rattle.unit_model.specs.declared.symbol_start.SymbolStart.{SymbolStart}
+use Rattle.unit_laws.proofs.DueLemmas.{due_begins}
 use Rattle.unit_memory.specs.declared.memory.UnitMemory.{UnitMemory}
 use Rattle.unit_memory.proofs.HoldLemmas.{holds_later}
 use Rattle.fh_time.specs.declared.values.Ticks.{Ticks}

@@ -6,17 +6,17 @@ use Rattle.std.proofs.lemmas.Bool.Decides.{nat_tests}
 use Rattle.std.proofs.lemmas.Option.{slice_get_within}
 use Rattle.window_config.specs.declared.config.Config.{Config}
 use Rattle.window_config.specs.declared.endpoints.EndpointConfig.{EndpointConfig}
-use Rattle.schedule_laws.specs.unit_model.specs.Claims.{claim_at}
-use Rattle.schedule_laws.specs.unit_model.specs.Order.{comes_before}
-use Rattle.schedule_laws.specs.unit_model.specs.declared.allocations.Allocation.{Allocation}
-use Rattle.schedule_laws.specs.unit_model.specs.declared.symbol_start.SymbolStart.{SymbolStart}
+use Rattle.unit_model.specs.Claims.{claim_at}
+use Rattle.unit_model.specs.Order.{comes_before}
+use Rattle.unit_model.specs.declared.allocations.Allocation.{Allocation}
+use Rattle.unit_model.specs.declared.symbol_start.SymbolStart.{SymbolStart}
 use Rattle.slot_rings.proofs.SeenLemmas.{if_some}
 use Rattle.symbol_search.proofs.OrderLemmas.{not_before_earlier, not_before_itself}
 use Rattle.du_intake.specs.Cursors.{IsNamed, IsNextPlannedSymbol, uplink_cell_in, is_after}
 use Rattle.du_intake.specs.Lines.{claim_in_slot, lines_at}
 use Rattle.du_intake.specs.Rows.{IsRowOf, claim_of_planned, no_claim}
-use Rattle.schedule_laws.specs.fragment_laws.specs.Apart.{IsIn}
-use Rattle.schedule_laws.specs.plan_model.proofs.ListLemmas.{get_in}
+use Rattle.fragment_laws.specs.Apart.{IsIn}
+use Rattle.plan_model.proofs.ListLemmas.{get_in}
 use Rattle.schedule_laws.proofs.ListLemmas.{at_in}
 use Rattle.du_intake.proofs.RowLemmas.{in_take}
 use Rattle.du_intake.proofs.ListLemmas.{some_same}

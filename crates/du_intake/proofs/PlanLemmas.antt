@@ -5,7 +5,7 @@ use Rattle.std.proofs.lemmas.Bool.{and_from, and_parts, cases_Bool, eqb-true, or
 use Rattle.std.proofs.lemmas.Bool.Decides.{nat_tests}
 use Rattle.std.proofs.lemmas.Int.{ints}
 use Rattle.fh_time.specs.Carrier.{count_of, first_of, is_outside}
-use Rattle.schedule_laws.specs.fragment_laws.specs.Apart.{IsIn}
+use Rattle.fragment_laws.specs.Apart.{IsIn}
 use Rattle.window_config.specs.Configs.{IsConfig}
 use Rattle.window_config.specs.declared.config.Config.{Config}
 use Rattle.window_config.specs.declared.plan.PlanKind.{PlanKind}
@@ -14,20 +14,20 @@ use Rattle.fh_time.specs.Air.{air_of}
 use Rattle.fh_time.specs.Numbering.{symbols_of}
 use Rattle.fh_time.specs.declared.values.Slot.{Slot}
 use Rattle.window_config.specs.declared.endpoints.EndpointConfig.{EndpointConfig}
-use Rattle.schedule_laws.specs.unit_model.specs.Claims.{cell_at, cell_of, covers, first_prb, in_mask, is_from, prb_count}
-use Rattle.schedule_laws.specs.unit_model.specs.Order.{comes_before}
-use Rattle.schedule_laws.specs.unit_model.specs.Proper.{IsAt, IsSlot}
-use Rattle.schedule_laws.specs.unit_model.specs.Starts.{start_at}
-use Rattle.schedule_laws.specs.unit_model.specs.declared.allocations.Allocation.{Allocation}
-use Rattle.schedule_laws.specs.unit_model.specs.declared.cells.Cell.{Cell}
-use Rattle.schedule_laws.specs.unit_model.specs.declared.symbol_start.SymbolStart.{SymbolStart}
-use Rattle.schedule_laws.specs.unit_laws.proofs.FarLemmas.{endpoints_equal}
-use Rattle.schedule_laws.specs.plan_model.specs.Lines.{line_allocation, is_down_kind, is_idle_kind, planned}
-use Rattle.schedule_laws.specs.plan_model.specs.Validity.{share_bit, share_cell}
-use Rattle.schedule_laws.specs.plan_model.specs.declared.lines.PlannedLine.{PlannedLine}
-use Rattle.schedule_laws.specs.plan_model.proofs.RangeLemmas.{found}
-use Rattle.schedule_laws.specs.plan_model.proofs.ClashLemmas.{both_cover, covers_own}
-use Rattle.schedule_laws.specs.plan_model.proofs.ListLemmas.{among, in_filter, of_filter, get_in}
+use Rattle.unit_model.specs.Claims.{cell_at, cell_of, covers, first_prb, in_mask, is_from, prb_count}
+use Rattle.unit_model.specs.Order.{comes_before}
+use Rattle.unit_model.specs.Proper.{IsAt, IsSlot}
+use Rattle.unit_model.specs.Starts.{start_at}
+use Rattle.unit_model.specs.declared.allocations.Allocation.{Allocation}
+use Rattle.unit_model.specs.declared.cells.Cell.{Cell}
+use Rattle.unit_model.specs.declared.symbol_start.SymbolStart.{SymbolStart}
+use Rattle.unit_laws.proofs.FarLemmas.{endpoints_equal}
+use Rattle.plan_model.specs.Lines.{line_allocation, is_down_kind, is_idle_kind, planned, uplink_allocations, is_up_line}
+use Rattle.plan_model.specs.Validity.{share_bit, share_cell}
+use Rattle.plan_model.specs.declared.lines.PlannedLine.{PlannedLine}
+use Rattle.plan_model.proofs.RangeLemmas.{found}
+use Rattle.plan_model.proofs.ClashLemmas.{both_cover, covers_own}
+use Rattle.plan_model.proofs.ListLemmas.{among, in_filter, of_filter, get_in}
 use Rattle.schedule_laws.proofs.ClashLemmas.{IsClear, own_clash}
 use Rattle.schedule_laws.proofs.LineLemmas.{IsGoodLine, allowed, line_good, line_proper}
 use Rattle.schedule_laws.proofs.ListLemmas.{at_in, in_map, of_map}
@@ -45,8 +45,6 @@ use Rattle.du_intake.proofs.ListLemmas.{pairs_at, some_same}
 use Rattle.du_intake.proofs.ListingLemmas.{comes_first}
 use Rattle.du_intake.proofs.NextLemmas.{symbol_some}
 use Rattle.window_config.specs.declared.plan.TheConstants.{LAST_FRAME}
-use Rattle.schedule_laws.specs.plan_model.specs.Lines.{uplink_allocations}
-use Rattle.schedule_laws.specs.plan_model.specs.Lines.{is_up_line}
 use Rattle.fh_time.proofs.Orders.{nat_own}
 
 within_carrier : (prbs start num : ℕ) → is_outside prbs start num ≡ false → first_of start num + count_of prbs num ≤ prbs

@@ -8,19 +8,19 @@ use Rattle.std.proofs.lemmas.List.{take_more}
 use Rattle.std.proofs.lemmas.Nat.{and_mask, or_lt}
 use Rattle.std.proofs.lemmas.Option.{slice_get-get_or}
 use Rattle.fh_time.proofs.Orders.{not_none}
-use Rattle.schedule_laws.specs.fragment_laws.specs.Apart.{IsIn}
-use Rattle.schedule_laws.specs.unit_model.specs.Claims.{cell_at, in_mask, is_from}
+use Rattle.fragment_laws.specs.Apart.{IsIn}
+use Rattle.unit_model.specs.Claims.{cell_at, in_mask, is_from}
 use Rattle.unit_cells.specs.Cells.{CellsValue, block_from, cells_block, ring_of}
 use Rattle.slot_rings.specs.Rings.{RingValue}
 use Rattle.air_source.specs.declared.events.AirCell.{AirCell}
 use Rattle.air_source.specs.declared.events.Side.TheVariants.{Du}
-use Rattle.window_config.specs.bfp_codec.specs.declared.samples.Wide.{Wide}
-use Rattle.schedule_laws.specs.unit_model.specs.Radiated.{air_cell, cell_id, id_from, id_or, report_of, samples_under, used_mask}
-use Rattle.schedule_laws.specs.unit_model.specs.declared.cells.Block.{Block}
-use Rattle.schedule_laws.specs.unit_model.specs.declared.symbol_start.SymbolStart.{SymbolStart}
+use Rattle.bfp_codec.specs.declared.samples.Wide.{Wide}
+use Rattle.unit_model.specs.Radiated.{air_cell, cell_id, id_from, id_or, report_of, samples_under, used_mask}
+use Rattle.unit_model.specs.declared.cells.Block.{Block}
+use Rattle.unit_model.specs.declared.symbol_start.SymbolStart.{SymbolStart}
 use Rattle.du_intake.specs.Cursors.{uplink_cell_in}
-use Rattle.schedule_laws.specs.unit_model.specs.declared.cells.Claim.{Claim}
-use Rattle.schedule_laws.specs.plan_model.proofs.ListLemmas.{get_in}
+use Rattle.unit_model.specs.declared.cells.Claim.{Claim}
+use Rattle.plan_model.proofs.ListLemmas.{get_in}
 use Rattle.slot_rings.specs.Places.{claim_in}
 use Rattle.slot_rings.specs.declared.claims.CellClaims.{CellClaims}
 use Rattle.slot_rings.proofs.MaskLemmas.{in_either, in_none, section_own, used_is}
@@ -30,7 +30,7 @@ use Rattle.du_intake.specs.Symbols.{AreOneSection}
 use Rattle.du_intake.specs.declared.lines.UplinkLine.{UplinkLine}
 use Rattle.du_intake.specs.declared.claims.PlannedClaim.{PlannedClaim}
 use Rattle.du_intake.proofs.ClaimLemmas.{claim_last, claim_none, claim_or, claimed_by, own_claim}
-use Rattle.schedule_laws.specs.unit_laws.proofs.ReportLemmas.{used_same}
+use Rattle.unit_laws.proofs.ReportLemmas.{used_same}
 
 -- ---- claims of the same elements
 

@@ -5,13 +5,13 @@ use Rattle.std.proofs.lemmas.Bool.{cases_Bool, or_left}
 use Rattle.std.proofs.Math.Nat.{lt_of_lt_of_le}
 use Rattle.window_config.specs.declared.config.Config.{Config}
 use Rattle.window_config.specs.declared.endpoints.EndpointConfig.{EndpointConfig}
-use Rattle.schedule_laws.specs.unit_model.specs.Order.{comes_before}
-use Rattle.schedule_laws.specs.unit_model.specs.Standing.{History, IsCell}
-use Rattle.schedule_laws.specs.unit_model.specs.Starts.{start_at}
-use Rattle.schedule_laws.specs.unit_model.specs.declared.allocations.Allocation.{Allocation}
-use Rattle.schedule_laws.specs.unit_model.specs.declared.cells.Cell.{Cell}
-use Rattle.schedule_laws.specs.unit_model.specs.declared.symbol_start.SymbolStart.{SymbolStart}
-use Rattle.schedule_laws.specs.unit_laws.proofs.FarLemmas.{endpoints_equal}
+use Rattle.unit_model.specs.Order.{comes_before}
+use Rattle.unit_model.specs.Standing.{History, IsCell}
+use Rattle.unit_model.specs.Starts.{start_at}
+use Rattle.unit_model.specs.declared.allocations.Allocation.{Allocation}
+use Rattle.unit_model.specs.declared.cells.Cell.{Cell}
+use Rattle.unit_model.specs.declared.symbol_start.SymbolStart.{SymbolStart}
+use Rattle.unit_laws.proofs.FarLemmas.{endpoints_equal}
 use Rattle.unit_memory.specs.declared.memory.UnitMemory.{UnitMemory}
 use Rattle.symbol_search.proofs.OrderLemmas.{comes_trans}
 use Rattle.history_laws.proofs.BeforeLemmas.{same_place}

@@ -7,15 +7,15 @@ use Rattle.std.specs.Int.Signed.{≤ℤ_refl}
 use Rattle.air_source.specs.declared.events.Side.TheVariants.{Du}
 use Rattle.window_config.specs.declared.config.Config.{Config}
 use Rattle.fault_counters.specs.declared.kinds.Counter.{Counter}
-use Rattle.schedule_laws.specs.unit_model.specs.Counts.{cells_counted}
-use Rattle.schedule_laws.specs.unit_model.specs.Meetings.{Arrival}
-use Rattle.schedule_laws.specs.unit_model.specs.Proper.{IsProperData, IsTime}
-use Rattle.schedule_laws.specs.unit_model.specs.Radiated.{first_clock, wait_of}
-use Rattle.schedule_laws.specs.unit_model.specs.Reports.{data_of, du_known, timely_of}
-use Rattle.schedule_laws.specs.unit_model.specs.Standing.{History, IsOwed, arrived, at_clock, nothing_yet}
-use Rattle.schedule_laws.specs.unit_model.specs.declared.allocations.Allocation.{Allocation}
-use Rattle.schedule_laws.specs.unit_model.proofs.BlockLemmas.{all_timely}
-use Rattle.schedule_laws.specs.unit_laws.proofs.HistoryLemmas.{data_are_proper}
+use Rattle.unit_model.specs.Counts.{cells_counted}
+use Rattle.unit_model.specs.Meetings.{Arrival}
+use Rattle.unit_model.specs.Proper.{IsProperData, IsTime}
+use Rattle.unit_model.specs.Radiated.{first_clock, wait_of}
+use Rattle.unit_model.specs.Reports.{data_of, du_known, timely_of}
+use Rattle.unit_model.specs.Standing.{History, IsOwed, arrived, at_clock, nothing_yet}
+use Rattle.unit_model.specs.declared.allocations.Allocation.{Allocation}
+use Rattle.unit_model.proofs.BlockLemmas.{all_timely}
+use Rattle.unit_laws.proofs.HistoryLemmas.{data_are_proper}
 use Rattle.unit_cells.specs.Told.{IsTold}
 use Rattle.unit_cells.proofs.ToldLemmas.{told_whole}
 use Rattle.history_laws.specs.Arriving.{IsNextArrival}
@@ -23,9 +23,9 @@ use Rattle.history_laws.proofs.ArrivingLemmas.{arrival_leaves_due}
 use Rattle.unit_memory.specs.Memory.{Holds, HoldsSome, arrival_at}
 use Rattle.unit_memory.specs.declared.memory.UnitMemory.{UnitMemory}
 use Rattle.unit_memory.proofs.HoldLemmas.{holds_later}
-use Rattle.schedule_laws.specs.unit_model.specs.Order.{comes_before}
-use Rattle.schedule_laws.specs.unit_model.specs.Starts.{start_at}
-use Rattle.schedule_laws.specs.unit_model.specs.declared.symbol_start.SymbolStart.{SymbolStart}
+use Rattle.unit_model.specs.Order.{comes_before}
+use Rattle.unit_model.specs.Starts.{start_at}
+use Rattle.unit_model.specs.declared.symbol_start.SymbolStart.{SymbolStart}
 use Rattle.window_config.specs.declared.endpoints.EndpointConfig.{EndpointConfig}
 use Rattle.du_intake.specs.Cursors.{ArePlanned, CellCursor, HasStillLeft, IsNamed, IsNextPlannedSymbol, is_behind}
 use Rattle.du_intake.specs.Symbols.{IsListed, symbol_at}
@@ -37,8 +37,8 @@ use Rattle.du_intake.proofs.NextLemmas.{first_symbol}
 use Rattle.du_intake.proofs.UsedLemmas.{named_left, used_named}
 use Rattle.symbol_search.specs.Searches.{IsNotBefore}
 use Rattle.fh_time.proofs.Orders.{at_most}
-use Rattle.schedule_laws.specs.unit_laws.proofs.BeginLemmas.{nothing_past}
-use Rattle.schedule_laws.specs.unit_model.proofs.SlotLemmas.{first_time}
+use Rattle.unit_laws.proofs.BeginLemmas.{nothing_past}
+use Rattle.unit_model.proofs.SlotLemmas.{first_time}
 use Rattle.fh_time.specs.declared.carrier.TheConstants.{CARRIER_PRBS}
 use Rattle.history_laws.proofs.UnitLemmas.{whole_data}
 

@@ -3,24 +3,23 @@ use Rattle.std.proofs.Common.{◌≡◌, ℕ, zero, suc, ◌+◌, ◌*◌, ◌<�
 use Rattle.std.specs.Prelude.{nat_lt}
 use Rattle.std.specs.List.{slice_get}
 use Rattle.std.proofs.lemmas.Bool.{cases_Bool, and_from, eq-eqb}
-use Rattle.schedule_laws.specs.unit_model.specs.Claims.{same_slot}
+use Rattle.unit_model.specs.Claims.{same_slot, cell_at, claim_at, claim_of, covers, first_prb, in_mask, is_from, names, prb_count}
 use Rattle.std.proofs.lemmas.Bool.Decides.{nat_tests}
 use Rattle.fh_time.specs.declared.values.Slot.{Slot}
 use Rattle.window_config.specs.declared.config.Config.{Config}
 use Rattle.window_config.specs.declared.endpoints.EndpointConfig.{EndpointConfig}
-use Rattle.schedule_laws.specs.unit_model.specs.Claims.{cell_at, claim_at, claim_of, covers, first_prb, in_mask, is_from, names, prb_count}
-use Rattle.schedule_laws.specs.unit_model.specs.Proper.{IsAt}
-use Rattle.schedule_laws.specs.unit_model.specs.Radiated.{is_used, used_below, used_mask}
-use Rattle.schedule_laws.specs.unit_model.specs.Starts.{start_at}
-use Rattle.schedule_laws.specs.unit_model.specs.declared.allocations.Allocation.{Allocation}
-use Rattle.schedule_laws.specs.unit_model.specs.declared.cells.Cell.{Cell}
-use Rattle.schedule_laws.specs.unit_model.specs.declared.cells.Claim.{Claim}
-use Rattle.schedule_laws.specs.unit_model.specs.declared.symbol_start.SymbolStart.{SymbolStart}
-use Rattle.schedule_laws.specs.unit_laws.proofs.FarLemmas.{endpoints_equal}
+use Rattle.unit_model.specs.Proper.{IsAt}
+use Rattle.unit_model.specs.Radiated.{is_used, used_below, used_mask}
+use Rattle.unit_model.specs.Starts.{start_at}
+use Rattle.unit_model.specs.declared.allocations.Allocation.{Allocation}
+use Rattle.unit_model.specs.declared.cells.Cell.{Cell}
+use Rattle.unit_model.specs.declared.cells.Claim.{Claim}
+use Rattle.unit_model.specs.declared.symbol_start.SymbolStart.{SymbolStart}
+use Rattle.unit_laws.proofs.FarLemmas.{endpoints_equal}
 use Rattle.history_laws.proofs.UnitLemmas.{not_both}
 use Rattle.schedule_laws.proofs.TimeLemmas.{first_less}
 use Rattle.du_intake.specs.Cursors.{ArePlanned, HasStillLeft, IsNamed, uplink_cell_in}
-use Rattle.schedule_laws.specs.unit_model.proofs.ClaimLemmas.{none_used as unused, slot_self as slot_own, covers_is}
+use Rattle.unit_model.proofs.ClaimLemmas.{none_used as unused, slot_self as slot_own, covers_is}
 
 -- ---- what covers a cell
 

@@ -5,10 +5,10 @@ use Rattle.air_source.specs.declared.events.Event.{Event}
 use Rattle.air_source.specs.declared.events.Event.TheVariants.{Cell as Reported}
 use Rattle.air_source.specs.declared.events.Side.TheVariants.{Du}
 use Rattle.window_config.specs.declared.config.Config.{Config}
-use Rattle.schedule_laws.specs.unit_model.specs.Radiated.{wait_of}
-use Rattle.schedule_laws.specs.unit_model.specs.Standing.{History, heard}
-use Rattle.schedule_laws.specs.unit_model.specs.declared.allocations.Allocation.{Allocation}
-use Rattle.schedule_laws.specs.unit_model.specs.declared.symbol_start.SymbolStart.{SymbolStart}
+use Rattle.unit_model.specs.Radiated.{wait_of}
+use Rattle.unit_model.specs.Standing.{History, heard}
+use Rattle.unit_model.specs.declared.allocations.Allocation.{Allocation}
+use Rattle.unit_model.specs.declared.symbol_start.SymbolStart.{SymbolStart}
 use Rattle.du_intake.specs.Calls.{IntakeStandsFor, cursor_in, next_in}
 use Rattle.du_intake.specs.Cursors.{HasStillLeft}
 use Rattle.du_intake.specs.Rows.{IsRowOf}

@@ -2,14 +2,14 @@
 use Rattle.std.specs.Prelude.{pos, ◌≤ℤ◌, ◌≡◌, ℕ, ◌+◌, ◌^◌, ◌≤◌, ◌<◌, Bool, true, false, not, ◌&&◌, ◌||◌, nat_lt, List, slice_get, Option, Some, None, IfSome}
 use Rattle.fh_time.specs.Numbering.{symbols_of}
 use Rattle.window_config.specs.declared.config.Config.{Config}
-use Rattle.schedule_laws.specs.unit_model.specs.Claims.{cell_at, claim_at, first_prb, in_mask, is_from, prb_count}
-use Rattle.schedule_laws.specs.unit_model.specs.Radiated.{used_mask}
-use Rattle.schedule_laws.specs.unit_model.specs.declared.cells.Cell.{Cell}
-use Rattle.schedule_laws.specs.unit_model.specs.Order.{comes_before}
-use Rattle.schedule_laws.specs.unit_model.specs.Proper.{IsAt, IsSlot}
-use Rattle.schedule_laws.specs.unit_model.specs.Starts.{start_at}
-use Rattle.schedule_laws.specs.unit_model.specs.declared.allocations.Allocation.{Allocation}
-use Rattle.schedule_laws.specs.unit_model.specs.declared.symbol_start.SymbolStart.{SymbolStart}
+use Rattle.unit_model.specs.Claims.{cell_at, claim_at, first_prb, in_mask, is_from, prb_count}
+use Rattle.unit_model.specs.Radiated.{used_mask}
+use Rattle.unit_model.specs.declared.cells.Cell.{Cell}
+use Rattle.unit_model.specs.Order.{comes_before}
+use Rattle.unit_model.specs.Proper.{IsAt, IsSlot}
+use Rattle.unit_model.specs.Starts.{start_at}
+use Rattle.unit_model.specs.declared.allocations.Allocation.{Allocation}
+use Rattle.unit_model.specs.declared.symbol_start.SymbolStart.{SymbolStart}
 use Rattle.window_config.specs.declared.plan.TheConstants.{LAST_FRAME}
 use Rattle.symbol_search.specs.Searches.{IsNotBefore}
 use Rattle.fh_time.specs.declared.carrier.TheConstants.{CARRIER_PRBS}

@@ -1,9 +1,3 @@
-pub use Rattle.schedule_laws.specs.fragment_laws
-pub use Rattle.history_laws
-pub use Rattle.schedule_laws.specs.plan_model
-pub use Rattle.schedule_laws
-pub use Rattle.schedule_laws.specs.unit_laws
-pub use Rattle.schedule_laws.specs.unit_model
 pub mod Planned
 pub mod Cursors
 pub mod Lines

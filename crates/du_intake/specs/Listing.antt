@@ -4,10 +4,10 @@ use Rattle.std.specs.List.{AllPairs, list_any}
 use Rattle.std.specs.List.Sorted.{IsStableBy, ties}
 use Rattle.std.specs.Ordering.{int_cmp, is_lt}
 use Rattle.fh_time.specs.Air.{air_of}
-use Rattle.schedule_laws.specs.fragment_laws.specs.Apart.{IsIn}
+use Rattle.fragment_laws.specs.Apart.{IsIn}
 use Rattle.window_config.specs.declared.endpoints.EndpointConfig.{EndpointConfig}
-use Rattle.schedule_laws.specs.unit_model.specs.Order.{symbol_before}
-use Rattle.schedule_laws.specs.unit_model.specs.Proper.{IsAt}
+use Rattle.unit_model.specs.Order.{symbol_before}
+use Rattle.unit_model.specs.Proper.{IsAt}
 use Rattle.du_intake.specs.Lines.{has_symbol, lines_at, same_home}
 use Rattle.du_intake.specs.Symbols.{lines_in}
 use Rattle.du_intake.specs.declared.lines.UplinkLine.{UplinkLine}

@@ -2,9 +2,9 @@
 use Rattle.std.specs.Prelude.{◌≡◌, All, List}
 use Rattle.window_config.specs.declared.config.Config.{Config}
 use Rattle.window_config.specs.declared.plan.PlanLine.{PlanLine}
-use Rattle.schedule_laws.specs.plan_model.specs.Lines.{planned}
-use Rattle.schedule_laws.specs.plan_model.specs.Valid.{IsValid}
-use Rattle.schedule_laws.specs.plan_model.specs.declared.lines.PlannedLine.{PlannedLine}
+use Rattle.plan_model.specs.Lines.{planned}
+use Rattle.plan_model.specs.Valid.{IsValid}
+use Rattle.plan_model.specs.declared.lines.PlannedLine.{PlannedLine}
 use Rattle.window_config.specs.Plans.{IsPlanLine}
 
 -- the lines of a valid plan at their endpoints

@@ -2,8 +2,8 @@
 -- O-RAN.WG4.CUS).
 use Rattle.std.specs.Prelude.{◌≡◌, ℕ, ◌+◌, ◌≤◌, ◌<◌, ◌^◌, false, if◌then◌else◌, List, get_or, slice_get, Option, Some, None}
 use Rattle.std.specs.Int.Bits.{bit_or}
-use Rattle.schedule_laws.specs.unit_model.specs.Claims.{in_mask}
-use Rattle.schedule_laws.specs.unit_model.specs.declared.cells.Claim.{Claim}
+use Rattle.unit_model.specs.Claims.{in_mask}
+use Rattle.unit_model.specs.declared.cells.Claim.{Claim}
 use Rattle.du_intake.specs.Lines.{claim_in_slot}
 use Rattle.du_intake.specs.declared.lines.UplinkLine.{UplinkLine}
 use Rattle.du_intake.specs.declared.claims.PlannedClaim.{PlannedClaim}

@@ -7,13 +7,13 @@ use Rattle.fh_time.specs.Numbering.{symbols_of}
 use Rattle.fh_time.specs.declared.values.Slot.{Slot}
 use Rattle.window_config.specs.declared.config.Config.{Config}
 use Rattle.window_config.specs.declared.endpoints.EndpointConfig.{EndpointConfig}
-use Rattle.schedule_laws.specs.unit_model.specs.Claims.{claim_at, is_from}
-use Rattle.schedule_laws.specs.unit_model.specs.Lists.{each}
-use Rattle.schedule_laws.specs.unit_model.specs.Order.{comes_before}
-use Rattle.schedule_laws.specs.unit_model.specs.Proper.{IsAt, IsSlot}
-use Rattle.schedule_laws.specs.unit_model.specs.declared.allocations.Allocation.{Allocation}
-use Rattle.schedule_laws.specs.unit_model.specs.declared.cells.Cell.{Cell}
-use Rattle.schedule_laws.specs.unit_model.specs.declared.symbol_start.SymbolStart.{SymbolStart}
+use Rattle.unit_model.specs.Claims.{claim_at, is_from}
+use Rattle.unit_model.specs.Lists.{each}
+use Rattle.unit_model.specs.Order.{comes_before}
+use Rattle.unit_model.specs.Proper.{IsAt, IsSlot}
+use Rattle.unit_model.specs.declared.allocations.Allocation.{Allocation}
+use Rattle.unit_model.specs.declared.cells.Cell.{Cell}
+use Rattle.unit_model.specs.declared.symbol_start.SymbolStart.{SymbolStart}
 use Rattle.du_intake.specs.Cursors.{IsNamed}
 use Rattle.du_intake.specs.Lines.{claim_by, has_symbol, lines_at}
 use Rattle.du_intake.specs.declared.lines.UplinkLine.{UplinkLine}

@@ -7,19 +7,19 @@ use Rattle.air_source.specs.declared.events.AirCell.{AirCell}
 use Rattle.air_source.specs.declared.events.Side.TheVariants.{Du}
 use Rattle.window_config.specs.declared.config.Config.{Config}
 use Rattle.window_config.specs.declared.endpoints.EndpointConfig.{EndpointConfig}
-use Rattle.schedule_laws.specs.unit_model.specs.Claims.{claim_at}
-use Rattle.schedule_laws.specs.unit_model.specs.Counts.{cells_counted}
-use Rattle.schedule_laws.specs.unit_model.specs.Proper.{IsTime}
-use Rattle.schedule_laws.specs.unit_model.specs.Radiated.{first_clock, used_mask, wait_of}
-use Rattle.schedule_laws.specs.unit_model.specs.Reports.{du_known}
-use Rattle.schedule_laws.specs.unit_model.specs.Sides.{IsLiveFor}
-use Rattle.schedule_laws.specs.unit_model.specs.Standing.{AreDifferent, History, IsCell, IsOwed, Kept, StandsByPlan, cell_heard, due, past_of}
-use Rattle.schedule_laws.specs.unit_model.specs.declared.allocations.Allocation.{Allocation}
-use Rattle.schedule_laws.specs.unit_model.specs.declared.cells.Cell.{Cell}
+use Rattle.unit_model.specs.Claims.{claim_at}
+use Rattle.unit_model.specs.Counts.{cells_counted}
+use Rattle.unit_model.specs.Proper.{IsTime}
+use Rattle.unit_model.specs.Radiated.{first_clock, used_mask, wait_of}
+use Rattle.unit_model.specs.Reports.{du_known}
+use Rattle.unit_model.specs.Sides.{IsLiveFor}
+use Rattle.unit_model.specs.Standing.{AreDifferent, History, IsCell, IsOwed, Kept, StandsByPlan, cell_heard, due, past_of}
+use Rattle.unit_model.specs.declared.allocations.Allocation.{Allocation}
+use Rattle.unit_model.specs.declared.cells.Cell.{Cell}
 use Rattle.unit_cells.specs.Cells.{cells_block}
 use Rattle.unit_memory.specs.Memory.{Holds}
 use Rattle.unit_memory.specs.declared.memory.UnitMemory.{UnitMemory}
-use Rattle.schedule_laws.specs.unit_model.specs.Starts.{start_at}
+use Rattle.unit_model.specs.Starts.{start_at}
 use Rattle.du_intake.specs.Cursors.{ArePlanned, CellCursor, HasStillLeft, IsNamed, is_behind}
 use Rattle.du_intake.specs.Lines.{claim_by}
 use Rattle.du_intake.specs.Symbols.{IsListed, symbol_at}

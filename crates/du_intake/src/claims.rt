@@ -1,6 +1,6 @@
 // What the lines of a symbol claim, PRB by PRB.
 ghost use Rattle.std.specs.Prelude.{◌≡◌, ℕ, ◌+◌, ◌≤◌, ◌<◌, if◌then◌else◌, get_or, length};
-ghost use Rattle.schedule_laws.specs.unit_model.specs.Claims.{is_from};
+ghost use Rattle.unit_model.specs.Claims.{is_from};
 ghost use Rattle.du_intake.specs.Lines.{has_symbol};
 ghost use Rattle.du_intake.specs.Rows.{AreInside, HaveTwelve, IsRowOf, no_claim, claim_with_line};
 ghost use Rattle.du_intake.specs.Symbols.{AreOneSection};

@@ -1,10 +1,10 @@
 // The uplink lines of a plan, as the unit keeps them.
 ghost use Rattle.std.specs.Prelude.{◌≡◌, ℕ, IfOk, OnOk, map};
 ghost use Rattle.fh_time.specs.declared.values.Slot.{Slot as SpecSlot};
-ghost use Rattle.schedule_laws.specs.plan_model.specs.Lines.{line_allocation};
+ghost use Rattle.plan_model.specs.Lines.{line_allocation};
 ghost use Rattle.du_intake.specs.Lines.{AreLinesInOrder, line_of, lines_at, same_home};
-ghost use Rattle.schedule_laws.specs.plan_model.specs.Lines.{uplink_allocations};
-ghost use Rattle.schedule_laws.specs.plan_model.specs.Lines.{is_up_line};
+ghost use Rattle.plan_model.specs.Lines.{uplink_allocations};
+ghost use Rattle.plan_model.specs.Lines.{is_up_line};
 
 use fh_base::NoMemory;
 use fh_time::Slot;

@@ -35,7 +35,7 @@ impl UplinkPlan {
     ghost use Rattle.du_intake.specs.Rows.{IsRowOf};
     ghost use Rattle.du_intake.specs.Symbols.{IsListed, IsListedSome, lines_in, symbol_at};
     ghost use Rattle.du_intake.specs.declared.symbols.PlannedSymbol.{PlannedSymbol as SpecSymbol};
-    ghost use Rattle.schedule_laws.specs.plan_model.specs.Lines.{uplink_allocations};
+    ghost use Rattle.plan_model.specs.Lines.{uplink_allocations};
 
     /// Keeps what the uplink lines of a plan name.
     pub(crate) fn make(

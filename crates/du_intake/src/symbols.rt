@@ -2,7 +2,7 @@
 ghost use Rattle.std.specs.Prelude.{◌≡◌, ◌+◌, ◌^◌, ◌<◌, ◌≤◌, ◌++◌, IfOk, OnOk, length};
 ghost use Rattle.std.specs.List.{list_any};
 ghost use Rattle.fh_time.specs.Numbering.{symbols_of};
-ghost use Rattle.schedule_laws.specs.unit_model.specs.Proper.{IsSlot};
+ghost use Rattle.unit_model.specs.Proper.{IsSlot};
 ghost use Rattle.du_intake.specs.Lines.{AreLinesInOrder, has_symbol};
 ghost use Rattle.du_intake.specs.Symbols.{AreLines, symbol_if, symbols_in};
 ghost use Rattle.du_intake.specs.Listing.{AreAscending, AreInTurn, AreSymbols, IsSlotEnd, IsStableByStart};

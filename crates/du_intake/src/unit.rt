@@ -1,16 +1,16 @@
 // The distributed unit's intake.
 ghost use Rattle.std.specs.Prelude.{pos, neg_ℤ, ◌+ℤ◌, ◌≡◌, ◌-◌, ◌^◌, ◌≤ℤ◌, ◌++◌, List, IfOk, length, min};
 ghost use Rattle.air_source.specs.declared.events.Side.TheVariants.{Du as AtDu};
-ghost use Rattle.schedule_laws.specs.ecpri_frames.specs.Gathering.{whole_messages};
-ghost use Rattle.schedule_laws.specs.ecpri_frames.specs.Messages.{pdu};
+ghost use Rattle.ecpri_frames.specs.Gathering.{whole_messages};
+ghost use Rattle.ecpri_frames.specs.Messages.{pdu};
 ghost use Rattle.window_config.specs.Configs.{IsConfig};
 ghost use Rattle.window_config.specs.declared.config.Config.{Config as SpecConfig};
-ghost use Rattle.schedule_laws.specs.unit_model.specs.Counts.{StandAt, cells_counted};
-ghost use Rattle.schedule_laws.specs.unit_model.specs.Proper.{IsTime};
-ghost use Rattle.schedule_laws.specs.unit_model.specs.Radiated.{wait_of};
-ghost use Rattle.schedule_laws.specs.unit_model.specs.Reports.{arrivals_counted};
-ghost use Rattle.schedule_laws.specs.unit_model.specs.Standing.{History, arrived, at_clock, nothing_yet};
-ghost use Rattle.schedule_laws.specs.unit_model.specs.declared.allocations.Allocation.{Allocation as SpecAllocation};
+ghost use Rattle.unit_model.specs.Counts.{StandAt, cells_counted};
+ghost use Rattle.unit_model.specs.Proper.{IsTime};
+ghost use Rattle.unit_model.specs.Radiated.{wait_of};
+ghost use Rattle.unit_model.specs.Reports.{arrivals_counted};
+ghost use Rattle.unit_model.specs.Standing.{History, arrived, at_clock, nothing_yet};
+ghost use Rattle.unit_model.specs.declared.allocations.Allocation.{Allocation as SpecAllocation};
 ghost use Rattle.du_intake.specs.Planned.{IsPlanOf};
 ghost use Rattle.fh_time.specs.declared.carrier.TheConstants.{CARRIER_PRBS};
 
@@ -68,7 +68,7 @@ pub struct Intake {
 
 impl Intake {
     ghost use Rattle.du_intake.specs.Calls.{IsIntakeDue, IsReportedBefore, MayTakeAt, IntakeStandsFor, intake_clock};
-    ghost use Rattle.schedule_laws.specs.plan_model.specs.Lines.{uplink_allocations};
+    ghost use Rattle.plan_model.specs.Lines.{uplink_allocations};
 
     /// Takes all memory of the unit, for the lines of a plan at their endpoints. Its clock stands one frame before 0.
     ///

@@ -1,9 +1,9 @@
 -- A message has no more parts than it may have.
 use Rattle.std.proofs.Common.{refl, ◌≡◌, ℕ, ◌+◌, ◌≤◌, inl, inr, Bool, true, false, ◌==◌, nat_lt, nat_le, if◌then◌else◌, List, [], ◌∷◌, length, sym, subst, arith, length-append}
 use Rattle.std.proofs.lemmas.Bool.{and_parts, ltb-true}
-use Rattle.sent_frames.specs.fragment_laws.specs.Apart.{IsIn}
-use Rattle.plan_check.specs.plan_model.specs.Packs.{Message, PartFields, alone, packs, packs_behind, parts_of, same_symbol, size_of, takes, with_part}
-use Rattle.plan_check.specs.unit_model.specs.Terms.{MESSAGE_BYTES}
+use Rattle.fragment_laws.specs.Apart.{IsIn}
+use Rattle.plan_model.specs.Packs.{Message, PartFields, alone, packs, packs_behind, parts_of, same_symbol, size_of, takes, with_part}
+use Rattle.unit_model.specs.Terms.{MESSAGE_BYTES}
 
 module _ {P : Type 0} (f : PartFields P) (most : ℕ) where
   takes_fewer : (m : Message P) (p : P) → takes f most m p ≡ true → length (parts_of (with_part m p)) ≤ most

@@ -7,32 +7,32 @@ use Rattle.std.proofs.lemmas.Option.{slice_get-get_or}
 use Rattle.fh_time.proofs.Order.{symbols_few}
 use Rattle.fh_time.specs.Numbering.{symbols_of}
 use Rattle.fh_time.specs.declared.values.Slot.{Slot}
-use Rattle.plan_check.specs.air_source.specs.Answers.{block_of}
-use Rattle.plan_check.specs.air_source.specs.declared.places.RePlace.{RePlace}
+use Rattle.air_source.specs.Answers.{block_of}
+use Rattle.air_source.specs.declared.places.RePlace.{RePlace}
 use Rattle.bfp_codec.specs.declared.samples.Wide.{Wide}
-use Rattle.sent_frames.specs.fragment_laws.specs.Apart.{IsIn}
+use Rattle.fragment_laws.specs.Apart.{IsIn}
 use Rattle.window_config.specs.Configs.{IsConfig}
 use Rattle.window_config.specs.Plans.{IsPlanLine}
 use Rattle.window_config.specs.declared.config.Config.{Config}
 use Rattle.window_config.specs.declared.endpoints.EndpointConfig.{EndpointConfig}
 use Rattle.window_config.specs.declared.plan.PlanLine.{PlanLine}
-use Rattle.plan_check.specs.unit_model.specs.Proper.{IsAt}
-use Rattle.plan_check.specs.plan_model.specs.Lines.{planned}
-use Rattle.plan_check.specs.plan_model.specs.Packs.{Message, Numbered, packs, parts_of, size_of}
-use Rattle.plan_check.specs.plan_model.specs.Sent.{SentFrame, sent}
-use Rattle.plan_check.specs.plan_model.specs.Streams.{Part, frames_in, messages_of, part_fields, parts_in}
-use Rattle.plan_check.specs.plan_model.specs.Valid.{IsValid}
-use Rattle.plan_check.specs.plan_model.specs.declared.lines.PlannedLine.{PlannedLine}
-use Rattle.plan_check.specs.plan_model.specs.declared.streams.Stream.{Stream}
-use Rattle.plan_check.specs.plan_model.specs.declared.streams.Stream.TheVariants.{DownCommands, UpCommands, DownData, UpData}
-use Rattle.sent_frames.specs.frame_bytes.specs.Messages.{MessageFits, message_size}
-use Rattle.sent_frames.specs.schedule_laws.proofs.ListLemmas.{at_in}
-use Rattle.sent_frames.specs.schedule_laws.proofs.PackLemmas.{message_from}
-use Rattle.sent_frames.specs.schedule_laws.proofs.SentLemmas.{IsSentStream, message_part, part_is, sent_is}
-use Rattle.sent_frames.specs.frame_bytes.specs.Cuts.{piece_frame}
+use Rattle.unit_model.specs.Proper.{IsAt}
+use Rattle.plan_model.specs.Lines.{planned}
+use Rattle.plan_model.specs.Packs.{Message, Numbered, packs, parts_of, size_of}
+use Rattle.plan_model.specs.Sent.{SentFrame, sent}
+use Rattle.plan_model.specs.Streams.{Part, frames_in, messages_of, part_fields, parts_in}
+use Rattle.plan_model.specs.Valid.{IsValid}
+use Rattle.plan_model.specs.declared.lines.PlannedLine.{PlannedLine}
+use Rattle.plan_model.specs.declared.streams.Stream.{Stream}
+use Rattle.plan_model.specs.declared.streams.Stream.TheVariants.{DownCommands, UpCommands, DownData, UpData}
+use Rattle.frame_bytes.specs.Messages.{MessageFits, message_size}
+use Rattle.schedule_laws.proofs.ListLemmas.{at_in}
+use Rattle.schedule_laws.proofs.PackLemmas.{message_from}
+use Rattle.schedule_laws.proofs.SentLemmas.{IsSentStream, message_part, part_is, sent_is}
+use Rattle.frame_bytes.specs.Cuts.{piece_frame}
 use Rattle.sent_frames.specs.Frames.{bytes_in, command_bytes, fragment_bytes, sent_bytes}
 use Rattle.sent_frames.specs.Commands.{command_head, command_section}
-use Rattle.sent_frames.specs.frame_bytes.specs.Commands.{command_frame}
+use Rattle.frame_bytes.specs.Commands.{command_frame}
 use Rattle.window_config.specs.Endpoints.{IsEndpoint}
 use Rattle.frame_order.specs.declared.turns.Turn.{Turn}
 use Rattle.frame_order.specs.Turns.{is_command}
@@ -48,8 +48,8 @@ use Rattle.du_scheduler.proofs.FewLemmas.{all_few}
 use Rattle.du_scheduler.proofs.PlaceLemmas.{line_place}
 use Rattle.window_config.specs.declared.config.TheConstants.{MESSAGE_SECTIONS}
 use Rattle.fh_time.specs.declared.symbols.TheConstants.{SLOT_SYMBOLS}
-use Rattle.sent_frames.specs.frame_bytes.specs.Headers.{carrier_of}
-use Rattle.plan_check.specs.unit_model.specs.Terms.{piece_count}
+use Rattle.frame_bytes.specs.Headers.{carrier_of}
+use Rattle.unit_model.specs.Terms.{piece_count}
 
 stand_in : (ps : List PlannedLine) (xs : List Part) → ((x : Part) → IsIn x xs → slice_get ps x.planned.index ≡ Some x.planned) → StandIn ps xs
 stand_in ps [] h = tt

@@ -1,18 +1,18 @@
 -- What a plan that gave a frame has still to send.
 use Rattle.std.proofs.Common.{◌≡◌, ℕ, ◌≤◌, arith, take, drop, append-nil, List, [], ◌∷◌, ◌++◌, length, map, inl, Some, None, refl, ap, sym, ◌∙◌, subst, append_assoc}
 use Rattle.std.proofs.lemmas.List.{drop_all, take_all}
-use Rattle.sent_frames.specs.fragment_laws.specs.Apart.{IsIn}
+use Rattle.fragment_laws.specs.Apart.{IsIn}
 use Rattle.window_config.specs.declared.config.Config.{Config}
 use Rattle.window_config.specs.declared.plan.PlanLine.{PlanLine}
-use Rattle.plan_check.specs.plan_model.specs.Lines.{planned}
-use Rattle.plan_check.specs.plan_model.specs.Packs.{parts_of}
-use Rattle.plan_check.specs.plan_model.specs.Sent.{SentFrame, sent}
-use Rattle.plan_check.specs.plan_model.specs.declared.lines.PlannedLine.{PlannedLine}
-use Rattle.plan_check.specs.plan_model.proofs.ListLemmas.{in_right}
+use Rattle.plan_model.specs.Lines.{planned}
+use Rattle.plan_model.specs.Packs.{parts_of}
+use Rattle.plan_model.specs.Sent.{SentFrame, sent}
+use Rattle.plan_model.specs.declared.lines.PlannedLine.{PlannedLine}
+use Rattle.plan_model.proofs.ListLemmas.{in_right}
 use Rattle.frame_order.specs.Queues.{Gives, IsQueue, StandsFor}
 use Rattle.frame_order.specs.declared.queue.Queue.{Queue}
 use Rattle.frame_order.specs.declared.turns.Turn.{Turn}
-use Rattle.plan_table.specs.sent_order.specs.Runs.{turn_of}
+use Rattle.sent_order.specs.Runs.{turn_of}
 use Rattle.plan_table.specs.Kept.{placed_line}
 use Rattle.plan_table.specs.Tables.{IsTable, IsTurnOf}
 use Rattle.plan_table.specs.declared.kept.PlacedLine.{PlacedLine}

@@ -3,22 +3,22 @@ use Rattle.std.proofs.Common.{ap₂, set, ◌≡◌, ℕ, zero, suc, ◌+◌, �
 use Rattle.std.specs.List.{slice_get}
 use Rattle.std.proofs.lemmas.List.{length-map, map_push, take_all, take_more, take_more_set}
 use Rattle.std.proofs.lemmas.Option.{get_or_from_slice_get, same_Some, slice_get-get_or, slice_get_within}
-use Rattle.sent_frames.specs.frame_bytes.specs.declared.messages.DataSection.{DataSection}
+use Rattle.frame_bytes.specs.declared.messages.DataSection.{DataSection}
 use Rattle.sent_frames.specs.Messages.{data_head, data_section}
 use Rattle.sent_frames.specs.Sources.{AreAnswersIn, data_frame}
 use Rattle.sent_frames.specs.declared.data.Fragment.{Fragment}
-use Rattle.plan_check.specs.air_source.specs.declared.places.RePlace.{RePlace}
+use Rattle.air_source.specs.declared.places.RePlace.{RePlace}
 use Rattle.bfp_codec.specs.declared.samples.Iq.{Iq}
 use Rattle.bfp_codec.specs.declared.samples.Wide.{Wide}
-use Rattle.plan_check.specs.plan_model.specs.Packs.{Message, parts_of}
-use Rattle.plan_check.specs.plan_model.specs.Streams.{Part, part_in}
-use Rattle.sent_frames.specs.frame_bytes.specs.Messages.{MessageFits, message_size}
-use Rattle.plan_check.specs.plan_model.specs.declared.lines.PlannedLine.{PlannedLine}
+use Rattle.plan_model.specs.Packs.{Message, parts_of}
+use Rattle.plan_model.specs.Streams.{Part, part_in}
+use Rattle.frame_bytes.specs.Messages.{MessageFits, message_size}
+use Rattle.plan_model.specs.declared.lines.PlannedLine.{PlannedLine}
 use Rattle.plan_table.specs.Kept.{placed_line}
 use Rattle.plan_table.specs.declared.kept.PlacedLine.{PlacedLine}
 use Rattle.du_scheduler.specs.Written.{StandIn, StandsAt, message_sections}
-use Rattle.sent_frames.specs.frame_bytes.specs.Headers.{carrier_of}
-use Rattle.plan_check.specs.unit_model.specs.Terms.{piece_count}
+use Rattle.frame_bytes.specs.Headers.{carrier_of}
+use Rattle.unit_model.specs.Terms.{piece_count}
 
 -- part k and its line
 pub record IsPartAt (lines : List PlannedLine) (part : PlacedLine) (xs : List Part) (k : ℕ) : Type 0 where

@@ -3,21 +3,21 @@ use Rattle.std.proofs.Common.{◌≡◌, ℕ, suc, ◌+◌, ◌≤◌, List, [],
 use Rattle.std.specs.List.{slice_get}
 use Rattle.std.specs.Option.{option_map, option_to_list}
 use Rattle.std.proofs.lemmas.Option.{slice_get-map, slice_get_past}
-use Rattle.sent_frames.specs.fragment_laws.specs.Apart.{IsIn}
+use Rattle.fragment_laws.specs.Apart.{IsIn}
 use Rattle.window_config.specs.declared.config.Config.{Config}
 use Rattle.window_config.specs.declared.endpoints.EndpointConfig.{EndpointConfig}
 use Rattle.window_config.specs.declared.plan.PlanLine.{PlanLine}
-use Rattle.plan_check.specs.unit_model.specs.Lists.{or_else}
-use Rattle.plan_check.specs.unit_model.specs.Meetings.{find_endpoint}
-use Rattle.plan_check.specs.unit_model.specs.declared.allocations.Allocation.{Allocation}
-use Rattle.plan_check.specs.unit_model.proofs.CountLemmas.{no_time}
-use Rattle.plan_check.specs.plan_model.specs.Dense.{dense}
-use Rattle.plan_check.specs.plan_model.specs.Lines.{line_allocation, planned, planned_at, planned_from, planned_with}
-use Rattle.plan_check.specs.plan_model.specs.Valid.{IsValid, dense_refused}
-use Rattle.plan_check.specs.plan_model.specs.Validity.{first_refused, refused_at, refused_from, why_found, why_planned, with_line}
-use Rattle.plan_check.specs.plan_model.specs.declared.dense.Dense.{Dense}
-use Rattle.plan_check.specs.plan_model.specs.declared.lines.PlannedLine.{PlannedLine}
-use Rattle.plan_check.specs.plan_model.specs.declared.refusals.PlanWhy.{PlanWhy}
+use Rattle.unit_model.specs.Lists.{or_else}
+use Rattle.unit_model.specs.Meetings.{find_endpoint}
+use Rattle.unit_model.specs.declared.allocations.Allocation.{Allocation}
+use Rattle.unit_model.proofs.CountLemmas.{no_time}
+use Rattle.plan_model.specs.Dense.{dense}
+use Rattle.plan_model.specs.Lines.{line_allocation, planned, planned_at, planned_from, planned_with}
+use Rattle.plan_model.specs.Valid.{IsValid, dense_refused}
+use Rattle.plan_model.specs.Validity.{first_refused, refused_at, refused_from, why_found, why_planned, with_line}
+use Rattle.plan_model.specs.declared.dense.Dense.{Dense}
+use Rattle.plan_model.specs.declared.lines.PlannedLine.{PlannedLine}
+use Rattle.plan_model.specs.declared.refusals.PlanWhy.{PlanWhy}
 use Rattle.plan_check.proofs.PlacedLemmas.{index_is, index_or}
 
 abbrev line_or : PlanLine → Option PlannedLine → PlanLine

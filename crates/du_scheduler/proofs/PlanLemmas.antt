@@ -1,16 +1,16 @@
 -- For callers: a plan stays one that was tested, what a call gave, and what is then still to come.
 use Rattle.std.proofs.Common.{◌≡◌, refl, subst, sym, ◌∙◌, [], ◌∷◌, List, map, Result, Ok, Err}
 use Rattle.std.specs.Prelude.{Option, Some, None, IfOk}
-use Rattle.plan_check.specs.air_source.specs.declared.places.RePlace.{RePlace}
+use Rattle.air_source.specs.declared.places.RePlace.{RePlace}
 use Rattle.bfp_codec.specs.declared.samples.Wide.{Wide}
 use Rattle.fh_time.specs.declared.values.Ticks.{Ticks}
 use Rattle.window_config.specs.declared.config.Config.{Config}
 use Rattle.window_config.specs.declared.plan.PlanLine.{PlanLine}
-use Rattle.plan_check.specs.plan_model.specs.Lines.{planned}
-use Rattle.plan_check.specs.plan_model.specs.Sent.{SentFrame, sent}
+use Rattle.plan_model.specs.Lines.{planned}
+use Rattle.plan_model.specs.Sent.{SentFrame, sent}
 use Rattle.plan_check.specs.declared.testing.PlanRefusal.{PlanRefusal}
 use Rattle.frame_order.specs.Queues.{first_time}
-use Rattle.plan_table.specs.sent_order.specs.Runs.{turn_of}
+use Rattle.sent_order.specs.Runs.{turn_of}
 use Rattle.du_scheduler.specs.Plans.{Checks, GivesSent, HasToSend, IsPlan, IsSent, LeavesPlan}
 use Rattle.du_scheduler.specs.declared.plans.Plan.{Plan}
 use Rattle.du_scheduler.specs.declared.plans.Sent.{Sent}

@@ -1,11 +1,3 @@
-pub use Rattle.sent_frames.specs.fragment_laws
-pub use Rattle.frame_order
-pub use Rattle.plan_check.specs.plan_model
-pub use Rattle.plan_check
-pub use Rattle.sent_frames.specs.schedule_laws
-pub use Rattle.plan_table.specs.sent_order
-pub use Rattle.plan_check.specs.unit_model
-pub use Rattle.window_config
 pub mod Written
 pub mod Frames
 pub mod Plans

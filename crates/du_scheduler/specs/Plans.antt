@@ -1,20 +1,20 @@
 -- What a plan is: its configuration, its lines, and the frames that it has still to send.
 use Rattle.std.specs.Prelude.{◌≡◌, ◌≤◌, All, List, [], ◌∷◌, ◌++◌, length, map, take, Option, Some, None, Result, Ok, Err}
-use Rattle.plan_check.specs.air_source.specs.declared.places.RePlace.{RePlace}
+use Rattle.air_source.specs.declared.places.RePlace.{RePlace}
 use Rattle.bfp_codec.specs.declared.samples.Wide.{Wide}
 use Rattle.window_config.specs.Configs.{IsConfig}
 use Rattle.window_config.specs.Plans.{IsPlanLine}
 use Rattle.window_config.specs.declared.config.Config.{Config}
 use Rattle.window_config.specs.declared.plan.PlanLine.{PlanLine}
-use Rattle.plan_check.specs.plan_model.specs.Lines.{planned}
-use Rattle.plan_check.specs.plan_model.specs.Sent.{SentFrame, sent}
-use Rattle.plan_check.specs.plan_model.specs.Valid.{IsValid, plan_refusal}
-use Rattle.plan_check.specs.plan_model.specs.declared.streams.Stream.{Stream}
-use Rattle.plan_check.specs.plan_model.specs.declared.streams.Stream.TheVariants.{DownCommands, UpCommands, DownData, UpData}
+use Rattle.plan_model.specs.Lines.{planned}
+use Rattle.plan_model.specs.Sent.{SentFrame, sent}
+use Rattle.plan_model.specs.Valid.{IsValid, plan_refusal}
+use Rattle.plan_model.specs.declared.streams.Stream.{Stream}
+use Rattle.plan_model.specs.declared.streams.Stream.TheVariants.{DownCommands, UpCommands, DownData, UpData}
 use Rattle.plan_check.specs.declared.testing.PlanRefusal.{PlanRefusal}
 use Rattle.plan_check.specs.declared.testing.PlanRefusal.TheVariants.{At, NoMemory}
 use Rattle.frame_order.specs.Queues.{IsQueue, StandsFor}
-use Rattle.plan_table.specs.sent_order.specs.Runs.{turn_of}
+use Rattle.sent_order.specs.Runs.{turn_of}
 use Rattle.sent_frames.specs.Frames.{sent_bytes}
 use Rattle.sent_frames.specs.Sources.{source_of}
 use Rattle.plan_table.specs.Tables.{IsTable}

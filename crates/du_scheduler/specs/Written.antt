@@ -1,17 +1,17 @@
 -- A message whose parts stand in a list of lines, as it can be written (this project's means).
 use Rattle.std.specs.Prelude.{◌≡◌, ◌<◌, ◌≤◌, ⊤, List, [], ◌∷◌, length, map, Some}
 use Rattle.std.specs.List.{slice_get}
-use Rattle.plan_check.specs.plan_model.specs.Packs.{Message, parts_of}
-use Rattle.plan_check.specs.plan_model.specs.Streams.{Part}
-use Rattle.plan_check.specs.plan_model.specs.declared.lines.PlannedLine.{PlannedLine}
-use Rattle.sent_frames.specs.frame_bytes.specs.Messages.{MessageFits}
-use Rattle.sent_frames.specs.frame_bytes.specs.declared.messages.DataSection.{DataSection}
+use Rattle.plan_model.specs.Packs.{Message, parts_of}
+use Rattle.plan_model.specs.Streams.{Part}
+use Rattle.plan_model.specs.declared.lines.PlannedLine.{PlannedLine}
+use Rattle.frame_bytes.specs.Messages.{MessageFits}
+use Rattle.frame_bytes.specs.declared.messages.DataSection.{DataSection}
 use Rattle.sent_frames.specs.Messages.{data_head, data_section}
 use Rattle.plan_table.specs.Kept.{placed_line}
 use Rattle.plan_table.specs.declared.kept.PlacedLine.{PlacedLine}
 use Rattle.fh_time.specs.declared.symbols.TheConstants.{SLOT_SYMBOLS}
 use Rattle.window_config.specs.declared.config.TheConstants.{MESSAGE_SECTIONS}
-use Rattle.sent_frames.specs.frame_bytes.specs.Headers.{carrier_of}
+use Rattle.frame_bytes.specs.Headers.{carrier_of}
 use Rattle.fh_time.specs.declared.carrier.TheConstants.{CARRIER_PRBS}
 
 -- each part's line stands at its place

@@ -1,7 +1,7 @@
 // The lines of a plan at their endpoints.
 ghost use Rattle.std.specs.Prelude.{◌≡◌, ◌<◌, ◌++◌, length, slice_get, IfOk, OnOk, Some};
 ghost use Rattle.std.specs.Option.{option_to_list};
-ghost use Rattle.plan_check.specs.plan_model.specs.Lines.{planned};
+ghost use Rattle.plan_model.specs.Lines.{planned};
 
 use fh_base::{List, NoMemory};
 use plan_model::{PlannedLine, planned_line};

@@ -1,16 +1,16 @@
 //! A plan and the frames that it has still to send.
 ghost use Rattle.std.specs.Prelude.{◌≡◌, ◌≤◌, ◌↔◌, All, IfOk, IfSome, IsTrue, List as SpecList, length, map, slice_get};
-ghost use Rattle.plan_check.specs.air_source.specs.Answers.{AnswersBy};
-ghost use Rattle.plan_check.specs.air_source.specs.Kept.{IsKept, closure_of};
-ghost use Rattle.plan_check.specs.air_source.specs.declared.places.RePlace.{RePlace as SpecPlace};
+ghost use Rattle.air_source.specs.Answers.{AnswersBy};
+ghost use Rattle.air_source.specs.Kept.{IsKept, closure_of};
+ghost use Rattle.air_source.specs.declared.places.RePlace.{RePlace as SpecPlace};
 ghost use Rattle.bfp_codec.specs.declared.samples.Wide.{Wide as SpecWide};
 ghost use Rattle.window_config.specs.Configs.{IsConfig};
 ghost use Rattle.window_config.specs.Plans.{IsPlanLine};
 ghost use Rattle.window_config.specs.declared.config.Config.{Config as SpecConfig};
 ghost use Rattle.window_config.specs.declared.plan.PlanLine.{PlanLine as SpecLine};
-ghost use Rattle.plan_check.specs.plan_model.specs.Lines.{planned};
-ghost use Rattle.plan_check.specs.plan_model.specs.Sent.{SentFrame, sent};
-ghost use Rattle.plan_check.specs.plan_model.specs.Valid.{IsValid};
+ghost use Rattle.plan_model.specs.Lines.{planned};
+ghost use Rattle.plan_model.specs.Sent.{SentFrame, sent};
+ghost use Rattle.plan_model.specs.Valid.{IsValid};
 ghost use Rattle.window_config.specs.declared.plan.TheConstants.{PLAN_LINES};
 
 use crate::keeping::planned_lines;
@@ -87,7 +87,7 @@ pub struct Plan {
 
 impl Plan {
     ghost use Rattle.frame_order.specs.Queues.{first_time};
-    ghost use Rattle.plan_table.specs.sent_order.specs.Runs.{turn_of};
+    ghost use Rattle.sent_order.specs.Runs.{turn_of};
     ghost use Rattle.du_scheduler.specs.Plans.{Checks, GivesSent, HasToSend, IsLent, IsPlan, LeavesPlan, Writes};
     ghost use Rattle.du_scheduler.specs.After.{LeavesAfter};
     ghost use Rattle.du_scheduler.specs.Touched.{Touches};

@@ -1,23 +1,23 @@
 //! The bytes of a frame.
 ghost use Rattle.std.specs.Prelude.{◌≡◌, ℕ, ◌+◌, ◌<◌, ◌≤◌, List, length, map, take};
-ghost use Rattle.plan_check.specs.air_source.specs.Answers.{AnswersBy};
-ghost use Rattle.plan_check.specs.air_source.specs.Kept.{IsKept, closure_of};
-ghost use Rattle.plan_check.specs.air_source.specs.declared.places.RePlace.{RePlace as SpecPlace};
+ghost use Rattle.air_source.specs.Answers.{AnswersBy};
+ghost use Rattle.air_source.specs.Kept.{IsKept, closure_of};
+ghost use Rattle.air_source.specs.declared.places.RePlace.{RePlace as SpecPlace};
 ghost use Rattle.bfp_codec.specs.declared.samples.Iq.{Iq as SpecIq};
 ghost use Rattle.bfp_codec.specs.declared.samples.Wide.{Wide as SpecWide};
-ghost use Rattle.sent_frames.specs.frame_bytes.specs.Messages.{message_size};
+ghost use Rattle.frame_bytes.specs.Messages.{message_size};
 ghost use Rattle.window_config.specs.declared.config.Config.{Config as SpecConfig};
 ghost use Rattle.window_config.specs.declared.plan.PlanLine.{PlanLine as SpecLine};
-ghost use Rattle.plan_check.specs.plan_model.specs.Sent.{SentFrame};
-ghost use Rattle.plan_check.specs.plan_model.specs.Packs.{Message, parts_of};
-ghost use Rattle.plan_check.specs.unit_model.specs.Terms.{piece_count};
-ghost use Rattle.plan_check.specs.plan_model.specs.Streams.{Part};
+ghost use Rattle.plan_model.specs.Sent.{SentFrame};
+ghost use Rattle.plan_model.specs.Packs.{Message, parts_of};
+ghost use Rattle.unit_model.specs.Terms.{piece_count};
+ghost use Rattle.plan_model.specs.Streams.{Part};
 ghost use Rattle.sent_frames.specs.Messages.{data_section};
 ghost use Rattle.sent_frames.specs.Frames.{sent_bytes};
 ghost use Rattle.sent_frames.specs.Sources.{AreAnswersIn, data_frame, source_of};
 ghost use Rattle.du_scheduler.specs.Frames.{IsFrame, IsFrameOf};
 ghost use Rattle.du_scheduler.specs.Written.{IsData, StandsAt, message_sections};
-ghost use Rattle.sent_frames.specs.frame_bytes.specs.Headers.{carrier_of};
+ghost use Rattle.frame_bytes.specs.Headers.{carrier_of};
 ghost use Rattle.window_config.specs.declared.config.TheConstants.{MOST_FRAGMENT};
 ghost use Rattle.window_config.specs.declared.config.TheConstants.{LEAST_FRAGMENT};
 

@@ -1,4 +1,3 @@
-pub use Rattle.bit_fields
 pub mod Refusals
 pub mod Headers
 pub mod Messages

@@ -8,8 +8,7 @@ use Rattle.air_source.specs.declared.events.Event.{Event}
 use Rattle.air_source.specs.declared.events.Event.TheVariants as event
 use Rattle.air_source.specs.declared.events.Side.{Side}
 use Rattle.air_source.specs.declared.events.Side.TheVariants.{Ru, Du}
-use Rattle.explain_growth.specs.Subjects.{are_counts, counts_last, has_count, is_count}
-use Rattle.explain_growth.specs.Subjects.{Subject, reason_lines, reasons_of}
+use Rattle.explain_growth.specs.Subjects.{are_counts, counts_last, has_count, is_count, Subject, reason_lines, reasons_of}
 use Rattle.explain_lines.specs.declared.values.ExplainLine.{ExplainLine}
 use Rattle.explain_model.proofs.GrowLemmas.{entry_one, lines_go_on}
 use Rattle.explain_model.proofs.StoryLemmas.{one, stories_both}

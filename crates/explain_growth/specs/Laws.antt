@@ -1,13 +1,11 @@
 -- How the lines of an explanation grow.
-use Rattle.std.specs.Prelude.{◌≡◌, ℕ, true, List, [], ◌∷◌, ◌++◌}
+use Rattle.std.specs.Prelude.{◌≡◌, ℕ, true, List, [], ◌∷◌, ◌++◌, false}
 use Rattle.air_source.specs.declared.events.Event.{Event}
 use Rattle.air_source.specs.declared.events.Event.TheVariants as event
 use Rattle.air_source.specs.declared.events.Side.{Side}
-use Rattle.explain_growth.specs.Subjects.{StandsBefore, Subject, added, are_counts, counted_lines, ending, open_lines}
+use Rattle.explain_growth.specs.Subjects.{StandsBefore, Subject, added, are_counts, counted_lines, ending, open_lines, reasons_of, has_count}
 use Rattle.explain_lines.specs.declared.values.ExplainLine.TheVariants as line
 use Rattle.explain_model.specs.Text.{lines_of}
-use Rattle.explain_growth.specs.Subjects.{reasons_of, has_count}
-use Rattle.std.specs.Prelude.{false}
 use Rattle.fault_counters.specs.declared.kinds.Counter.{Counter}
 
 pub record LinesGrow : Type 0 where

@@ -1,12 +1,2 @@
-pub use Rattle.air_source
-pub use Rattle.ecpri_fragments
-pub use Rattle.ecpri_frames
-pub use Rattle.explain_lines
-pub use Rattle.explain_model
-pub use Rattle.fh_time
-pub use Rattle.unit_cells
-pub use Rattle.unit_memory
-pub use Rattle.unit_model
-pub use Rattle.window_config
 pub mod Heard
 pub mod Laws

@@ -1,17 +1,3 @@
-pub use Rattle.air_source
-pub use Rattle.bfp_codec
-pub use Rattle.cplane_sections
-pub use Rattle.ecpri_fragments
-pub use Rattle.ecpri_frames
-pub use Rattle.explain_lines
-pub use Rattle.fault_counters
-pub use Rattle.fh_time
-pub use Rattle.replay_events
-pub use Rattle.unit_cells
-pub use Rattle.unit_memory
-pub use Rattle.unit_model
-pub use Rattle.uplane_sections
-pub use Rattle.window_config
 pub mod Pieces
 pub mod Stories
 pub mod Timings

@@ -1,5 +1,3 @@
-pub use Rattle.explain_model
-pub use Rattle.reason_records
 pub mod Records
 pub mod Fragments
 pub mod Commanded

@@ -1,5 +1,3 @@
-pub use Rattle.explain_reasons
-pub use Rattle.reason_records
 pub mod Nearest
 pub mod Elements
 pub mod Stored

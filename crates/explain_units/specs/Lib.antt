@@ -1,17 +1,3 @@
-pub use Rattle.air_source
-pub use Rattle.earlier_sections
-pub use Rattle.explain_heard
-pub use Rattle.explain_kept
-pub use Rattle.explain_lines
-pub use Rattle.explain_model
-pub use Rattle.fh_time
-pub use Rattle.heard_lines
-pub use Rattle.line_runs
-pub use Rattle.replay_events
-pub use Rattle.unit_cells
-pub use Rattle.unit_memory
-pub use Rattle.unit_model
-pub use Rattle.window_config
 pub mod Fit
 pub mod Known
 pub mod Knowing

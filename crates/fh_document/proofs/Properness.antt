@@ -11,8 +11,8 @@ use Rattle.std.specs.List.{list_any}
 use Rattle.std.specs.Char.{digit_value}
 use Rattle.std.specs.Option.{option_map}
 use Rattle.std.specs.Str.{bytes_eq}
-use Rattle.window_config.specs.bfp_codec.specs.Layout.{HasWidth, AreBytes}
-use Rattle.window_config.specs.bfp_codec.specs.declared.methods.Method.TheVariants.{Plain, Bfp}
+use Rattle.bfp_codec.specs.Layout.{HasWidth, AreBytes}
+use Rattle.bfp_codec.specs.declared.methods.Method.TheVariants.{Plain, Bfp}
 use Rattle.window_config.specs.declared.delays.Range.{Range}
 use Rattle.window_config.specs.declared.endpoints.EndpointConfig.{EndpointConfig}
 use Rattle.window_config.specs.Limits.{IsTime, IsRange, IsWithinLimits}

@@ -1,8 +1,8 @@
 -- What becomes of frames: which lines speak of the same frame.
 use Rattle.std.specs.Prelude.{ℕ, ◌+◌, ◌*◌, List, Bool, ◌==◌, ◌&&◌}
 use Rattle.std.specs.List.{list_any}
-use Rattle.tone_source.specs.air_source.specs.declared.events.Side.{Side}
-use Rattle.tone_source.specs.air_source.specs.declared.events.Side.TheVariants.{Ru, Du}
+use Rattle.air_source.specs.declared.events.Side.{Side}
+use Rattle.air_source.specs.declared.events.Side.TheVariants.{Ru, Du}
 use Rattle.fh_document.specs.declared.delivered.TrafficClass.{TrafficClass}
 use Rattle.fh_document.specs.declared.delivered.TrafficClass.TheVariants.{C, U, M}
 use Rattle.fh_document.specs.declared.delivered.Delivery.{Delivery}

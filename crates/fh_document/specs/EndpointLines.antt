@@ -4,8 +4,8 @@ use Rattle.std.specs.Prelude.{ℕ, List, [], ◌∷◌, ◌++◌, length, take, 
 use Rattle.std.specs.Option.{option_map}
 use Rattle.std.specs.List.{list_any}
 use Rattle.std.specs.Str.{bytes_eq}
-use Rattle.window_config.specs.bfp_codec.specs.declared.methods.Method.{Method}
-use Rattle.window_config.specs.bfp_codec.specs.declared.methods.Method.TheVariants.{Plain, Bfp}
+use Rattle.bfp_codec.specs.declared.methods.Method.{Method}
+use Rattle.bfp_codec.specs.declared.methods.Method.TheVariants.{Plain, Bfp}
 use Rattle.fh_time.specs.declared.numerology.Numerology.{Numerology}
 use Rattle.fh_time.specs.Numbering.{ordinary_of, offset_of, extended_of}
 use Rattle.window_config.specs.declared.endpoints.EndpointConfig.{EndpointConfig}

@@ -1,5 +1,3 @@
-pub use Rattle.tone_source
-pub use Rattle.window_config
 pub mod Refusals
 pub mod Words
 pub mod Hex

@@ -2,8 +2,8 @@
 use Rattle.std.specs.Prelude.{ℕ, pos, List, [], ◌∷◌, ◌++◌, Bool, ◌==◌, if◌then◌else◌, Option, Some, None, Result, Ok, Err, codes}
 use Rattle.std.specs.List.{list_any}
 use Rattle.std.specs.Str.{bytes_eq}
-use Rattle.tone_source.specs.air_source.specs.declared.events.Side.{Side}
-use Rattle.tone_source.specs.air_source.specs.declared.events.Side.TheVariants.{Ru, Du}
+use Rattle.air_source.specs.declared.events.Side.{Side}
+use Rattle.air_source.specs.declared.events.Side.TheVariants.{Ru, Du}
 use Rattle.delay_measure.specs.declared.steps.Kind.{Kind}
 use Rattle.delay_measure.specs.declared.steps.Kind.TheVariants as way
 use Rattle.fh_document.specs.declared.document.Measure.{Measure}

@@ -8,13 +8,12 @@ use Rattle.window_config.specs.declared.plan.PlanLine.{PlanLine}
 use Rattle.fh_document.specs.declared.document.Reading.{Reading}
 use Rattle.fh_document.specs.declared.refusals.DocWhy.{DocWhy}
 use Rattle.fh_document.specs.declared.refusals.DocWhy.TheVariants as why
-use Rattle.window_config.specs.declared.plan.TheConstants.{PLAN_LINES}
+use Rattle.window_config.specs.declared.plan.TheConstants.{PLAN_LINES, LAST_FRAME}
 use Rattle.fh_document.specs.Refusals.{or_refuse, ◌>>=◌}
 use Rattle.fh_document.specs.Words.{number_in}
 use Rattle.fh_document.specs.Hex.{hex_of}
 use Rattle.fh_document.specs.ConfigLines.{counted}
 use Rattle.fh_document.specs.EndpointLines.{taking}
-use Rattle.window_config.specs.declared.plan.TheConstants.{LAST_FRAME}
 use Rattle.text_lines.specs.Numbers.{word_at}
 
 -- downlink data, uplink data, or downlink resources that stay idle

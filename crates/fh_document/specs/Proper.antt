@@ -1,6 +1,6 @@
 -- What a document that was read may be (this project's profile).
 use Rattle.std.specs.Prelude.{ℕ, ℤ, pos, ◌^◌, ◌<◌, ◌≤◌, ◌≤ℤ◌, ◌≡◌, List, [], ◌∷◌, All, false, length, map, IfSome}
-use Rattle.window_config.specs.bfp_codec.specs.Layout.{AreBytes}
+use Rattle.bfp_codec.specs.Layout.{AreBytes}
 use Rattle.eaxc_map.specs.Endpoints.{AppearOnce}
 use Rattle.tone_source.specs.declared.values.Tone.{Tone}
 use Rattle.window_config.specs.declared.endpoints.EndpointConfig.{EndpointConfig}
@@ -13,13 +13,12 @@ use Rattle.fh_document.specs.declared.document.Injection.{Injection}
 use Rattle.fh_document.specs.declared.document.Measure.{Measure}
 use Rattle.fh_document.specs.declared.document.Document.{Document}
 use Rattle.fh_base.specs.declared.source.TheConstants.{FRAME_LIMIT}
-use Rattle.window_config.specs.declared.plan.TheConstants.{PLAN_LINES}
+use Rattle.window_config.specs.declared.plan.TheConstants.{PLAN_LINES, LAST_FRAME}
 use Rattle.fh_document.specs.Delivered.{has_like}
 use Rattle.fh_document.specs.DeliverLines.{least_of}
 use Rattle.fh_time.specs.declared.nanoseconds.TheConstants.{LAST_TIME}
 use Rattle.fh_document.specs.declared.config_lines.TheConstants.{MOST_TRANSIT}
 use Rattle.fh_document.specs.declared.deliver_lines.TheConstants.{MOST_NUMBER}
-use Rattle.window_config.specs.declared.plan.TheConstants.{LAST_FRAME}
 use Rattle.delay_measure.specs.declared.stamps.TheConstants.{MOST_COMPENSATION}
 
 -- a time from a least to a greatest

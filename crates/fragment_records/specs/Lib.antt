@@ -1,6 +1,3 @@
-pub use Rattle.explain_heard
-pub use Rattle.explain_reasons
-pub use Rattle.reason_records
 pub mod Places
 pub mod Beginnings
 pub mod Turns

@@ -12,13 +12,13 @@ use Rattle.du_scheduler.proofs.PlanLemmas.{same_rest}
 use Rattle.du_scheduler.specs.Plans.{GivesSent, HasToSend, IsPlan, LeavesPlan, plane_of}
 use Rattle.du_scheduler.specs.declared.plans.Plan.{Plan}
 use Rattle.du_scheduler.specs.declared.plans.Sent.{Sent}
-use Rattle.du_scheduler.specs.fragment_laws.specs.Apart.{IsIn}
-use Rattle.du_scheduler.specs.frame_order.specs.Queues.{first_time}
-use Rattle.du_scheduler.specs.plan_model.specs.Sent.{SentFrame}
-use Rattle.du_scheduler.specs.sent_order.specs.Runs.{turn_of}
+use Rattle.fragment_laws.specs.Apart.{IsIn}
+use Rattle.frame_order.specs.Queues.{first_time}
+use Rattle.plan_model.specs.Sent.{SentFrame}
+use Rattle.sent_order.specs.Runs.{turn_of}
 use Rattle.fh_time.specs.declared.values.Ticks.{Ticks}
 use Rattle.frame_deliveries.specs.Leaving.{Leaving}
-use Rattle.frame_deliveries.specs.fh_document.specs.declared.delivered.TrafficClass.{TrafficClass}
+use Rattle.fh_document.specs.declared.delivered.TrafficClass.{TrafficClass}
 use Rattle.frame_ways.proofs.Ticks.{next_tick}
 use Rattle.frame_ways.specs.Ways.{OnWay, StandsFor, having_sent, having_sent_all, leaving_as}
 use Rattle.frame_ways.specs.declared.way.Way.{Way}

@@ -7,23 +7,23 @@ use Rattle.std.proofs.lemmas.Int.{ints}
 use Rattle.std.proofs.lemmas.List.Elements.{All-head, All-tail}
 use Rattle.du_scheduler.specs.Plans.{HasToSend}
 use Rattle.du_scheduler.specs.declared.plans.Plan.{Plan}
-use Rattle.du_scheduler.specs.fragment_laws.specs.Apart.{IsIn}
-use Rattle.du_scheduler.specs.frame_order.proofs.TurnOrder.{own, same_turn}
-use Rattle.du_scheduler.specs.frame_order.specs.Turns.{is_turn, times}
-use Rattle.du_scheduler.specs.frame_order.specs.declared.turns.Turn.{Turn}
-use Rattle.du_scheduler.specs.plan_model.specs.Lines.{planned}
-use Rattle.du_scheduler.specs.plan_model.specs.Sent.{SentFrame, frames_from, sent}
+use Rattle.fragment_laws.specs.Apart.{IsIn}
+use Rattle.frame_order.proofs.TurnOrder.{own, same_turn}
+use Rattle.frame_order.specs.Turns.{is_turn, times}
+use Rattle.frame_order.specs.declared.turns.Turn.{Turn}
+use Rattle.plan_model.specs.Lines.{planned}
+use Rattle.plan_model.specs.Sent.{SentFrame, frames_from, sent}
 use Rattle.schedule_laws.proofs.ListLemmas.{of_tick}
 use Rattle.schedule_laws.proofs.LeastLemmas.{leaving, sent_rising}
 use Rattle.schedule_laws.proofs.OrderLemmas.{IsRising, rising_behind}
-use Rattle.du_scheduler.specs.sent_order.specs.Runs.{turn_of}
-use Rattle.du_scheduler.specs.sent_order.proofs.BoundLemmas.{IsInTime, all_in_time}
-use Rattle.du_scheduler.specs.unit_model.specs.Radiated.{first_clock}
-use Rattle.du_scheduler.specs.unit_model.specs.Times.{end_of_time}
-use Rattle.du_scheduler.specs.unit_model.proofs.SweepLaws.{gap_is}
-use Rattle.du_scheduler.specs.window_config.specs.declared.config.Config.{Config}
-use Rattle.du_scheduler.specs.window_config.specs.declared.plan.PlanLine.{PlanLine}
-use Rattle.du_scheduler.specs.plan_model.proofs.ListLemmas.{in_right, of_filter, all_of}
+use Rattle.sent_order.specs.Runs.{turn_of}
+use Rattle.sent_order.proofs.BoundLemmas.{IsInTime, all_in_time}
+use Rattle.unit_model.specs.Radiated.{first_clock}
+use Rattle.unit_model.specs.Times.{end_of_time}
+use Rattle.unit_model.proofs.SweepLaws.{gap_is}
+use Rattle.window_config.specs.declared.config.Config.{Config}
+use Rattle.window_config.specs.declared.plan.PlanLine.{PlanLine}
+use Rattle.plan_model.proofs.ListLemmas.{in_right, of_filter, all_of}
 use Rattle.frame_sending.specs.Due.{AreSentFrom}
 use Rattle.fh_time.proofs.Orders.{at_most}
 

@@ -5,7 +5,7 @@ use Rattle.std.proofs.lemmas.List.{map-append}
 use Rattle.std.proofs.lemmas.List.Elements.{All-head, All-tail}
 use Rattle.air_source.specs.declared.links.LinkFrame.{LinkFrame}
 use Rattle.frame_deliveries.specs.Leaving.{Leaving}
-use Rattle.frame_deliveries.specs.fh_document.specs.declared.delivered.TrafficClass.TheVariants.{U}
+use Rattle.fh_document.specs.declared.delivered.TrafficClass.TheVariants.{U}
 use Rattle.frame_ways.specs.Ways.{OnWay, StandsFor, having_sent, having_sent_all, leaving_as}
 use Rattle.frame_ways.specs.declared.way.Way.{Way}
 use Rattle.send_queue.specs.Queues.{AllHaveLeft, HasLeft, Leaves, WaitsFor}

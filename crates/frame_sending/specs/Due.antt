@@ -7,12 +7,12 @@ use Rattle.du_scheduler.specs.Plans.{HasToSend, plane_of}
 use Rattle.du_scheduler.specs.declared.plans.Plan.{Plan}
 use Rattle.du_scheduler.specs.declared.plans.Plane.{Plane}
 use Rattle.du_scheduler.specs.declared.plans.Plane.TheVariants.{C as OfC, U as OfU}
-use Rattle.du_scheduler.specs.plan_model.specs.Sent.{SentFrame}
+use Rattle.plan_model.specs.Sent.{SentFrame}
 use Rattle.sent_frames.specs.Frames.{sent_bytes}
 use Rattle.sent_frames.specs.Sources.{source_of}
 use Rattle.frame_deliveries.specs.Leaving.{Leaving}
-use Rattle.frame_deliveries.specs.fh_document.specs.declared.delivered.TrafficClass.{TrafficClass}
-use Rattle.frame_deliveries.specs.fh_document.specs.declared.delivered.TrafficClass.TheVariants.{C, U}
+use Rattle.fh_document.specs.declared.delivered.TrafficClass.{TrafficClass}
+use Rattle.fh_document.specs.declared.delivered.TrafficClass.TheVariants.{C, U}
 use Rattle.frame_ways.specs.Ways.{OnWay, StandsFor, having_sent_all}
 use Rattle.frame_ways.specs.declared.way.Way.{Way}
 use Rattle.window_config.specs.declared.config.Config.{Config}

@@ -6,9 +6,9 @@ use Rattle.std.proofs.lemmas.List.Elements.{All-cons, All-head, All-nil, All-tai
 use Rattle.air_source.specs.declared.events.Side.{Side}
 use Rattle.frame_deliveries.specs.Landing.{copies_in, copy_at}
 use Rattle.frame_deliveries.specs.Leaving.{Leaving, SentCounts, counted, delayed}
-use Rattle.frame_deliveries.specs.fh_document.specs.Proper.{IsDocument, IsFrom}
-use Rattle.frame_deliveries.specs.fh_document.specs.declared.document.Document.{Document}
-use Rattle.frame_deliveries.specs.fh_document.specs.declared.config_lines.TheConstants.{MOST_TRANSIT}
+use Rattle.fh_document.specs.Proper.{IsDocument, IsFrom}
+use Rattle.fh_document.specs.declared.document.Document.{Document}
+use Rattle.fh_document.specs.declared.config_lines.TheConstants.{MOST_TRANSIT}
 use Rattle.unit_model.specs.Meetings.{Arrival}
 use Rattle.frame_ways.specs.Ways.{LandsFrom}
 use Rattle.frame_ways.proofs.CountLemmas.{measured_within, times_within}

@@ -8,9 +8,9 @@ use Rattle.air_source.specs.declared.events.Side.{Side}
 use Rattle.frame_deliveries.specs.Copies.{DeliveriesTo, deliveries_to}
 use Rattle.frame_deliveries.specs.Landing.{arrival_at, copies_among, copies_in, injected_to, landing_at}
 use Rattle.frame_deliveries.specs.Leaving.{Delayed, Leaving, SentCounts, counted, delayed, none_sent}
-use Rattle.frame_deliveries.specs.fh_document.specs.Proper.{IsDocument}
-use Rattle.frame_deliveries.specs.fh_document.specs.declared.document.Document.{Document}
-use Rattle.frame_deliveries.specs.fh_document.specs.declared.document.Injection.{Injection}
+use Rattle.fh_document.specs.Proper.{IsDocument}
+use Rattle.fh_document.specs.declared.document.Document.{Document}
+use Rattle.fh_document.specs.declared.document.Injection.{Injection}
 use Rattle.fh_time.specs.declared.values.Ticks.{Ticks}
 use Rattle.frame_network.specs.Network.{IsInOrder}
 use Rattle.frame_network.specs.Queues.{AreRising, IsPlaced, at_time, enumerated, first_time, landing_of}

@@ -4,7 +4,7 @@ use Rattle.std.specs.Prelude.{int_lt, if◌then◌else◌, IfSome}
 use Rattle.std.proofs.lemmas.List.Elements.{All-cons, All-head, All-nil, All-tail}
 use Rattle.std.specs.Int.Signed.{<ℤ-≤ℤ_trans, ≤ℤ_refl}
 use Rattle.air_source.specs.declared.events.Side.{Side}
-use Rattle.frame_deliveries.specs.fh_document.specs.declared.document.Document.{Document}
+use Rattle.fh_document.specs.declared.document.Document.{Document}
 use Rattle.fh_time.specs.declared.values.Ticks.{Ticks}
 use Rattle.frame_network.specs.declared.arrivals.Arrival.{Arrival as Flying}
 use Rattle.frame_network.specs.declared.landings.Landing.{Landing}

@@ -35,7 +35,7 @@ pub struct Way<'a> {
 
 impl<'a> Way<'a> {
     ghost use Rattle.std.specs.Prelude.{◌≡◌, ◌≤ℤ◌, ◌^◌, ℤ, List, pos, IfOk, IfSome, OnOk, MatchOption};
-    ghost use Rattle.frame_deliveries.specs.fh_document.specs.Proper.{IsDocument};
+    ghost use Rattle.fh_document.specs.Proper.{IsDocument};
     ghost use Rattle.unit_model.specs.Meetings.{Arrival};
     ghost use Rattle.unit_model.specs.Radiated.{first_clock};
     ghost use Rattle.unit_model.specs.Times.{end_of_time};

@@ -4,42 +4,42 @@ use Rattle.std.specs.Prelude.{cond, if◌then◌else◌}
 use Rattle.std.specs.List.{flat_map, AllByRecursion}
 use Rattle.std.proofs.lemmas.Bool.Decides.{nat_tests}
 use Rattle.std.proofs.lemmas.List.{take_all}
-use Rattle.capture_air.specs.air_source.specs.Stops.{StopsIn}
-use Rattle.capture_air.specs.air_source.specs.declared.events.AirCell.{AirCell}
-use Rattle.capture_air.specs.air_source.specs.declared.events.Event.{Event}
-use Rattle.capture_air.specs.air_source.specs.declared.events.Event.TheVariants.{Cell, Delay, Arrival, Count}
-use Rattle.capture_air.specs.air_source.specs.declared.events.Side.{Side}
-use Rattle.capture_air.specs.air_source.specs.declared.events.Side.TheVariants.{Ru as AtRu, Du as AtDu}
-use Rattle.capture_air.specs.air_source.proofs.Stops.{parted, stops_early, stops_later}
+use Rattle.air_source.specs.Stops.{StopsIn}
+use Rattle.air_source.specs.declared.events.AirCell.{AirCell}
+use Rattle.air_source.specs.declared.events.Event.{Event}
+use Rattle.air_source.specs.declared.events.Event.TheVariants.{Cell, Delay, Arrival, Count}
+use Rattle.air_source.specs.declared.events.Side.{Side}
+use Rattle.air_source.specs.declared.events.Side.TheVariants.{Ru as AtRu, Du as AtDu}
+use Rattle.air_source.proofs.Stops.{parted, stops_early, stops_later}
 use Rattle.du_intake.specs.Units.{intake_due_of as intake_due}
 use Rattle.du_intake.specs.declared.unit.Intake.{Intake}
 use Rattle.fault_counters.specs.Counts.{capped, count_of, times}
 use Rattle.fault_counters.specs.Names.{all_counters}
 use Rattle.fault_counters.specs.declared.kinds.Counter.{Counter}
-use Rattle.measured_traffic.specs.fh_document.specs.declared.document.Document.{Document}
+use Rattle.fh_document.specs.declared.document.Document.{Document}
 use Rattle.replay_turns.specs.IntakeTurns.{AtIntakeTurn, planned_for}
 use Rattle.replay_turns.proofs.NextLemmas.{intake_over}
 use Rattle.measured_traffic.specs.Replayed.{doings_at, landings_for, traffic_of}
 use Rattle.measured_traffic.specs.Doings.{Doings}
-use Rattle.measured_traffic.specs.document_traffic.specs.Landing.{jobs_for}
-use Rattle.measured_traffic.specs.document_traffic.specs.Laws.{IsReplayable}
+use Rattle.document_traffic.specs.Landing.{jobs_for}
+use Rattle.document_traffic.specs.Laws.{IsReplayable}
 use Rattle.measured_traffic.proofs.OverLemmas.{documents_are_over}
 use Rattle.measured_traffic.proofs.SentLemmas.{messages_are_owed}
 use Rattle.replay_turns.specs.Turns.{AtRadioTurn, events_before}
-use Rattle.measured_traffic.specs.replay_events.specs.Events.{all_counted, count_event, count_events, is_measured, number_of}
-use Rattle.measured_traffic.specs.replay_events.specs.Heard.{arrivals_heard, cells_heard}
-use Rattle.measured_traffic.specs.replay_events.specs.Moments.{all_arrivals, end_of_time}
-use Rattle.measured_traffic.specs.replay_events.specs.Traffic.{landings_at, reported_at}
-use Rattle.measured_traffic.specs.replay_events.proofs.HeardLemmas.{arrivals-append, cells-append}
+use Rattle.replay_events.specs.Events.{all_counted, count_event, count_events, is_measured, number_of}
+use Rattle.replay_events.specs.Heard.{arrivals_heard, cells_heard}
+use Rattle.replay_events.specs.Moments.{all_arrivals, end_of_time}
+use Rattle.replay_events.specs.Traffic.{landings_at, reported_at}
+use Rattle.replay_events.proofs.HeardLemmas.{arrivals-append, cells-append}
 use Rattle.ru_buffers.specs.Calls.{IsQuietTo}
 use Rattle.ru_buffers.specs.declared.unit.Ru.{Ru}
-use Rattle.measured_traffic.specs.unit_model.specs.Counts.{StandAt, cells_counted}
-use Rattle.measured_traffic.specs.unit_model.specs.Meetings.{Arrival as Landing}
-use Rattle.measured_traffic.specs.unit_model.specs.Reports.{accepted_of, arrivals_counted, du_known, du_reported, ru_known, ru_reported}
-use Rattle.measured_traffic.specs.unit_model.specs.Standing.{History, due, still_given}
-use Rattle.measured_traffic.specs.unit_model.specs.declared.jobs.UplinkJob.{UplinkJob}
-use Rattle.du_intake.specs.history_laws.proofs.TickLemmas.{last_of_next}
-use Rattle.measured_traffic.specs.uplink_turns.specs.Turns.{jobs_until}
+use Rattle.unit_model.specs.Counts.{StandAt, cells_counted}
+use Rattle.unit_model.specs.Meetings.{Arrival as Landing}
+use Rattle.unit_model.specs.Reports.{accepted_of, arrivals_counted, du_known, du_reported, ru_known, ru_reported}
+use Rattle.unit_model.specs.Standing.{History, due, still_given}
+use Rattle.unit_model.specs.declared.jobs.UplinkJob.{UplinkJob}
+use Rattle.history_laws.proofs.TickLemmas.{last_of_next}
+use Rattle.uplink_turns.specs.Turns.{jobs_until}
 use Rattle.fronthaul_replay.specs.Counting.{told_counts, told_number}
 use Rattle.fronthaul_replay.specs.Replaying.{IsDone, IsInStep, IsIntakeDone, IsRadioDone, StopsInStep, events_of}
 use Rattle.fronthaul_replay.specs.Turns.{AtTurn}
@@ -47,7 +47,7 @@ use Rattle.sum_air.proofs.Whole.{IsCount}
 use Rattle.fronthaul_replay.proofs.Counted.{one_count}
 use Rattle.fronthaul_replay.proofs.StepLemmas.{turn_in_step}
 use Rattle.fronthaul_replay.proofs.StopLemmas.{all_events}
-use Rattle.measured_traffic.specs.plan_model.proofs.ListLemmas.{all_join}
+use Rattle.plan_model.proofs.ListLemmas.{all_join}
 
 -- ---- their events, one after the other
 

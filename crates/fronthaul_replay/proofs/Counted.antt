@@ -3,26 +3,26 @@ use Rattle.std.proofs.Common.{◌≡◌, ℕ, zero, suc, ℤ, pos, ◌+ℤ◌, B
 use Rattle.std.specs.List.{flat_map, AllByRecursion}
 use Rattle.std.specs.Int.{int_gap}
 use Rattle.std.proofs.lemmas.List.Concat.{flat_map-cons}
-use Rattle.capture_air.specs.air_source.specs.declared.events.Event.{Event}
-use Rattle.capture_air.specs.air_source.specs.declared.events.Event.TheVariants.{Cell, Count}
-use Rattle.capture_air.specs.air_source.specs.declared.events.Side.{Side}
-use Rattle.capture_air.specs.air_source.specs.declared.events.Side.TheVariants.{Ru, Du}
+use Rattle.air_source.specs.declared.events.Event.{Event}
+use Rattle.air_source.specs.declared.events.Event.TheVariants.{Cell, Count}
+use Rattle.air_source.specs.declared.events.Side.{Side}
+use Rattle.air_source.specs.declared.events.Side.TheVariants.{Ru, Du}
 use Rattle.fault_counters.specs.Names.{all_counters}
 use Rattle.fault_counters.specs.declared.kinds.Counter.{Counter}
-use Rattle.du_scheduler.specs.window_config.specs.declared.config.Config.{Config}
-use Rattle.measured_traffic.specs.unit_model.specs.Lists.{each_tick}
-use Rattle.measured_traffic.specs.unit_model.specs.Meetings.{Arrival}
-use Rattle.measured_traffic.specs.unit_model.specs.Radiated.{first_clock}
-use Rattle.measured_traffic.specs.replay_events.proofs.ToldLemmas.{Results, told_kept}
-use Rattle.measured_traffic.specs.replay_events.specs.Traffic.{Traffic}
-use Rattle.measured_traffic.specs.replay_events.specs.declared.results.DelayResult.{DelayResult}
-use Rattle.measured_traffic.specs.replay_events.specs.Moments.{end_of_time, landing_at}
-use Rattle.measured_traffic.specs.replay_events.specs.Events.{arrivals_at, arrivals_told, cells_reported_at, events_at, events_between, number_of, count_event, count_events, events, result_event}
-use Rattle.measured_traffic.specs.fh_document.specs.declared.document.Document.{Document}
+use Rattle.window_config.specs.declared.config.Config.{Config}
+use Rattle.unit_model.specs.Lists.{each_tick}
+use Rattle.unit_model.specs.Meetings.{Arrival}
+use Rattle.unit_model.specs.Radiated.{first_clock}
+use Rattle.replay_events.proofs.ToldLemmas.{Results, told_kept}
+use Rattle.replay_events.specs.Traffic.{Traffic}
+use Rattle.replay_events.specs.declared.results.DelayResult.{DelayResult}
+use Rattle.replay_events.specs.Moments.{end_of_time, landing_at}
+use Rattle.replay_events.specs.Events.{arrivals_at, arrivals_told, cells_reported_at, events_at, events_between, number_of, count_event, count_events, events, result_event}
+use Rattle.fh_document.specs.declared.document.Document.{Document}
 use Rattle.measured_traffic.specs.Replayed.{traffic_of}
 use Rattle.fronthaul_replay.specs.Replaying.{events_of}
 use Rattle.sum_air.proofs.Whole.{IsEarlier, IsCount, CountsLast, cells_earlier}
-use Rattle.measured_traffic.specs.plan_model.proofs.ListLemmas.{all_join}
+use Rattle.plan_model.proofs.ListLemmas.{all_join}
 
 results_earlier : (side : Side) (at : ℤ) (results : List DelayResult) → AllByRecursion IsEarlier (map (result_event side at) results)
 results_earlier side at [] = tt

@@ -2,12 +2,12 @@
 use Rattle.std.proofs.Common.{◌≡◌, ℕ, List, ◌⊎◌, refl, sym, subst, Result, Ok, Err, IfErr, true≢false}
 use Rattle.std.specs.Prelude.{IsOk, MatchResult}
 use Rattle.std.specs.Result.{IsErrAnd}
-use Rattle.capture_air.specs.air_source.specs.Causes.{HasAirCause}
-use Rattle.capture_air.specs.air_source.specs.Stops.{GrewSome, StopsIn}
-use Rattle.capture_air.specs.air_source.specs.declared.airs.AirFault.{AirFault}
-use Rattle.capture_air.specs.air_source.specs.declared.airs.AirFault.TheVariants as air
-use Rattle.capture_air.specs.air_source.specs.declared.events.Event.{Event}
-use Rattle.capture_air.specs.air_source.proofs.Causes.{air_cause_since}
+use Rattle.air_source.specs.Causes.{HasAirCause}
+use Rattle.air_source.specs.Stops.{GrewSome, StopsIn}
+use Rattle.air_source.specs.declared.airs.AirFault.{AirFault}
+use Rattle.air_source.specs.declared.airs.AirFault.TheVariants as air
+use Rattle.air_source.specs.declared.events.Event.{Event}
+use Rattle.air_source.proofs.Causes.{air_cause_since}
 use Rattle.fronthaul_replay.specs.Cut.{CutBy}
 use Rattle.fronthaul_replay.specs.Faults.{replay_fault, text_fault}
 use Rattle.fronthaul_replay.specs.Replay.{HasReplayCause, HasWriteCause}

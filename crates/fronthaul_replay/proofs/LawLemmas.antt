@@ -1,37 +1,37 @@
 -- The laws of a replay's events hold of every document that was read.
 use Rattle.std.proofs.Common.{◌≡◌, List, inl, inr, true, not, ◌==◌, refl, ap, sym, ◌∙◌}
 use Rattle.std.proofs.lemmas.Bool.{and_from, and_parts, cases_Bool, eqb-true, or_right}
-use Rattle.capture_air.specs.air_source.specs.declared.events.Side.TheVariants.{Ru, Du}
-use Rattle.measured_traffic.specs.document_traffic.specs.Sending.{lines_of}
-use Rattle.measured_traffic.specs.document_traffic.proofs.LineLemmas.{lines_fit}
+use Rattle.air_source.specs.declared.events.Side.TheVariants.{Ru, Du}
+use Rattle.document_traffic.specs.Sending.{lines_of}
+use Rattle.document_traffic.proofs.LineLemmas.{lines_fit}
 use Rattle.du_intake.specs.Planned.{IsPlanOf}
 use Rattle.du_intake.proofs.PlanLemmas.{plan_clear}
-use Rattle.measured_traffic.specs.fh_document.specs.declared.document.Document.{Document}
-use Rattle.measured_traffic.specs.fragment_laws.specs.Apart.{IsIn}
+use Rattle.fh_document.specs.declared.document.Document.{Document}
+use Rattle.fragment_laws.specs.Apart.{IsIn}
 use Rattle.replay_turns.specs.IntakeTurns.{planned_for}
 use Rattle.measured_traffic.specs.Replayed.{traffic_of}
 use Rattle.measured_traffic.proofs.CountedLemmas.{counters_have_counted}
 use Rattle.measured_traffic.proofs.DelayLemmas.{events_are_exact, events_are_measured}
 use Rattle.measured_traffic.proofs.ExchangedLemmas.{delay_events_are_known}
 use Rattle.measured_traffic.proofs.OnceLemmas.{schedule_radiates, uplink_is_taken_in}
-use Rattle.measured_traffic.specs.plan_model.specs.Validity.{share_bit, share_cell}
-use Rattle.measured_traffic.specs.replay_events.specs.Moments.{all_arrivals}
-use Rattle.measured_traffic.specs.replay_events.specs.Traffic.{landings_at}
-use Rattle.measured_traffic.specs.replay_laws.specs.Shown.{HaveOneId}
-use Rattle.measured_traffic.specs.replay_laws.proofs.DelayLemmas.{delays_are_results, delays_follow_frames, frames_are_told}
-use Rattle.measured_traffic.specs.replay_laws.proofs.GatheredLemmas.{shown_are_gathered}
-use Rattle.measured_traffic.specs.replay_laws.proofs.LandedLemmas.{each_arrives}
-use Rattle.measured_traffic.specs.replay_laws.proofs.OnceLemmas.{at_most_once}
-use Rattle.measured_traffic.specs.replay_laws.proofs.RefusedLemmas.{each_refused_changes_nothing}
-use Rattle.measured_traffic.specs.replay_laws.proofs.ShownLemmas.{shown_only_in_time}
-use Rattle.measured_traffic.specs.replay_laws.proofs.SumLemmas.{sums_add_up}
-use Rattle.measured_traffic.specs.replay_laws.proofs.WithoutLemmas.{each_silent_changes_nothing}
-use Rattle.measured_traffic.specs.schedule_laws.proofs.ClashLemmas.{IsClear}
-use Rattle.measured_traffic.specs.unit_model.specs.Claims.{covers}
-use Rattle.measured_traffic.specs.unit_model.specs.declared.allocations.Allocation.{Allocation}
-use Rattle.measured_traffic.specs.unit_model.specs.declared.cells.Cell.{Cell}
-use Rattle.measured_traffic.specs.unit_model.specs.declared.cells.Claim.{Claim}
-use Rattle.measured_traffic.specs.plan_model.proofs.ClashLemmas.{both_cover, claimed}
+use Rattle.plan_model.specs.Validity.{share_bit, share_cell}
+use Rattle.replay_events.specs.Moments.{all_arrivals}
+use Rattle.replay_events.specs.Traffic.{landings_at}
+use Rattle.replay_laws.specs.Shown.{HaveOneId}
+use Rattle.replay_laws.proofs.DelayLemmas.{delays_are_results, delays_follow_frames, frames_are_told}
+use Rattle.replay_laws.proofs.GatheredLemmas.{shown_are_gathered}
+use Rattle.replay_laws.proofs.LandedLemmas.{each_arrives}
+use Rattle.replay_laws.proofs.OnceLemmas.{at_most_once}
+use Rattle.replay_laws.proofs.RefusedLemmas.{each_refused_changes_nothing}
+use Rattle.replay_laws.proofs.ShownLemmas.{shown_only_in_time}
+use Rattle.replay_laws.proofs.SumLemmas.{sums_add_up}
+use Rattle.replay_laws.proofs.WithoutLemmas.{each_silent_changes_nothing}
+use Rattle.schedule_laws.proofs.ClashLemmas.{IsClear}
+use Rattle.unit_model.specs.Claims.{covers}
+use Rattle.unit_model.specs.declared.allocations.Allocation.{Allocation}
+use Rattle.unit_model.specs.declared.cells.Cell.{Cell}
+use Rattle.unit_model.specs.declared.cells.Claim.{Claim}
+use Rattle.plan_model.proofs.ClashLemmas.{both_cover, claimed}
 use Rattle.replay_turns.proofs.TurnLemmas.{lands_in_time}
 use Rattle.fronthaul_replay.specs.Laws.{IsSound, TellsResults}
 use Rattle.fronthaul_replay.specs.Replaying.{IsReplayable}

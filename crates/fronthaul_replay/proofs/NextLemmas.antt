@@ -4,17 +4,17 @@ use Rattle.std.specs.Prelude.{int_le, int_lt, if◌then◌else◌}
 use Rattle.std.specs.Int.{int_gap}
 use Rattle.std.proofs.lemmas.Int.{ints, by_lt_z}
 use Rattle.std.specs.Int.Signed.{≤ℤ_refl}
-use Rattle.capture_air.specs.air_source.specs.declared.events.Event.{Event}
-use Rattle.capture_air.specs.air_source.specs.declared.events.Side.{Side}
-use Rattle.capture_air.specs.air_source.specs.declared.events.Side.TheVariants.{Ru as AtRu, Du as AtDu}
-use Rattle.capture_air.specs.air_source.specs.declared.places.RePlace.{RePlace}
+use Rattle.air_source.specs.declared.events.Event.{Event}
+use Rattle.air_source.specs.declared.events.Side.{Side}
+use Rattle.air_source.specs.declared.events.Side.TheVariants.{Ru as AtRu, Du as AtDu}
+use Rattle.air_source.specs.declared.places.RePlace.{RePlace}
 use Rattle.bfp_codec.specs.declared.samples.Wide.{Wide}
-use Rattle.sum_air.specs.delay_measure.specs.declared.edge.Edge.{Edge}
-use Rattle.measured_traffic.specs.document_traffic.specs.Laws.{IsReplayable}
+use Rattle.delay_measure.specs.declared.edge.Edge.{Edge}
+use Rattle.document_traffic.specs.Laws.{IsReplayable}
 use Rattle.du_intake.specs.Calls.{IsIntakeDue}
 use Rattle.du_intake.specs.Units.{intake_due_of as intake_due}
 use Rattle.du_intake.specs.declared.unit.Intake.{Intake}
-use Rattle.measured_traffic.specs.fh_document.specs.declared.document.Document.{Document}
+use Rattle.fh_document.specs.declared.document.Document.{Document}
 use Rattle.fh_time.specs.declared.values.Ticks.{Ticks}
 use Rattle.frame_ways.proofs.TimeLemmas.{earlier_of_both}
 use Rattle.replay_turns.specs.Up.{NoneComesUp}
@@ -29,21 +29,21 @@ use Rattle.measured_traffic.specs.Turns.{IsQuietBetween}
 use Rattle.replay_turns.specs.Down.{NoneComesDown}
 use Rattle.replay_turns.specs.Turns.{events_before}
 use Rattle.frame_sending.proofs.OrderLemmas.{sent_less}
-use Rattle.du_scheduler.specs.plan_model.specs.Sent.{SentFrame}
-use Rattle.capture_air.specs.air_source.specs.declared.links.LinkFrame.{LinkFrame}
-use Rattle.measured_traffic.specs.frame_deliveries.specs.Leaving.{Leaving}
+use Rattle.plan_model.specs.Sent.{SentFrame}
+use Rattle.air_source.specs.declared.links.LinkFrame.{LinkFrame}
+use Rattle.frame_deliveries.specs.Leaving.{Leaving}
 use Rattle.replay_turns.proofs.MomentLemmas as radio
-use Rattle.measured_traffic.specs.replay_events.specs.Events.{events_at}
-use Rattle.measured_traffic.specs.replay_events.specs.Moments.{end_of_time}
-use Rattle.measured_traffic.specs.replay_events.specs.Passing.{IsNextMoment, IsUnitMoment}
-use Rattle.measured_traffic.specs.replay_events.proofs.EventLemmas.{events_go_on, events_wait}
+use Rattle.replay_events.specs.Events.{events_at}
+use Rattle.replay_events.specs.Moments.{end_of_time}
+use Rattle.replay_events.specs.Passing.{IsNextMoment, IsUnitMoment}
+use Rattle.replay_events.proofs.EventLemmas.{events_go_on, events_wait}
 use Rattle.ru_buffers.specs.Calls.{IsDue, IsQuietTo}
 use Rattle.fh_time.specs.Least.{IsLeast, IsLeastOf, earlier_time}
 use Rattle.ru_buffers.specs.declared.unit.Ru.{Ru}
-use Rattle.measured_traffic.specs.unit_model.proofs.SweepLaws.{gap_is}
-use Rattle.measured_traffic.specs.unit_model.specs.Radiated.{first_clock}
-use Rattle.measured_traffic.specs.unit_model.specs.Standing.{History}
-use Rattle.du_intake.specs.history_laws.proofs.TickLemmas.{before_next, next_after}
+use Rattle.unit_model.proofs.SweepLaws.{gap_is}
+use Rattle.unit_model.specs.Radiated.{first_clock}
+use Rattle.unit_model.specs.Standing.{History}
+use Rattle.history_laws.proofs.TickLemmas.{before_next, next_after}
 use Rattle.fronthaul_replay.specs.declared.coming.Coming.{Coming}
 use Rattle.fronthaul_replay.specs.Turns.{AtMoment, HaveMeasured, IsNextTick, IsStill, within_end}
 use Rattle.fh_time.proofs.Orders.{under, not_under, next_later as next_most, before_it}

@@ -1,9 +1,9 @@
 -- Both units are in step with what an air heard.
 use Rattle.std.proofs.Common.{◌≡◌, ℤ, List, ◌++◌, subst}
-use Rattle.capture_air.specs.air_source.specs.declared.events.Event.{Event}
-use Rattle.capture_air.specs.air_source.specs.declared.events.Side.TheVariants.{Du as AtDu}
+use Rattle.air_source.specs.declared.events.Event.{Event}
+use Rattle.air_source.specs.declared.events.Side.TheVariants.{Du as AtDu}
 use Rattle.du_intake.specs.declared.unit.Intake.{Intake}
-use Rattle.measured_traffic.specs.fh_document.specs.declared.document.Document.{Document}
+use Rattle.fh_document.specs.declared.document.Document.{Document}
 use Rattle.replay_turns.specs.IntakeTurns.{AtIntakeTurn, IsIntakeInStep}
 use Rattle.replay_turns.proofs.NextLemmas.{intake_front_stays, intake_turn_step}
 use Rattle.replay_turns.specs.Turns.{IsRadioInStep, events_before, intake_events, radio_events}

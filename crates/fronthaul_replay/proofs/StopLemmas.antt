@@ -1,26 +1,26 @@
 -- Where an air stopped, and what both units stand for then.
 use Rattle.std.proofs.Common.{◌≡◌, ℤ, pos, ◌+ℤ◌, ◌≤ℤ◌, List, [], ◌++◌, ◌⊎◌, inl, inr, refl, sym, ap, ◌∙◌, append_assoc, append-nil, subst}
-use Rattle.capture_air.specs.air_source.specs.Stops.{GrewSome, StopsIn}
-use Rattle.capture_air.specs.air_source.specs.declared.events.Event.{Event}
-use Rattle.capture_air.specs.air_source.specs.declared.events.Side.TheVariants.{Ru as AtRu, Du as AtDu}
+use Rattle.air_source.specs.Stops.{GrewSome, StopsIn}
+use Rattle.air_source.specs.declared.events.Event.{Event}
+use Rattle.air_source.specs.declared.events.Side.TheVariants.{Ru as AtRu, Du as AtDu}
 use Rattle.du_intake.specs.Calls.{IntakeStandsFor}
 use Rattle.du_intake.specs.declared.unit.Intake.{Intake}
-use Rattle.measured_traffic.specs.fh_document.specs.declared.document.Document.{Document}
+use Rattle.fh_document.specs.declared.document.Document.{Document}
 use Rattle.replay_turns.specs.IntakeTurns.{AtIntakeTurn, IsIntakeInStep, planned_for}
 use Rattle.measured_traffic.specs.Replayed.{traffic_of}
 use Rattle.unit_moments.specs.Stops.{HaltsBehind, RestsBehind, StopsBehind}
 use Rattle.replay_turns.specs.Turns.{IsRadioInStep, events_before, intake_events, radio_events}
 use Rattle.replay_turns.proofs.StepLemmas.{tick_events}
 use Rattle.unit_moments.proofs.StopLemmas as stop
-use Rattle.measured_traffic.specs.replay_events.specs.Events.{count_events, events, events_at, events_between}
-use Rattle.measured_traffic.specs.replay_events.specs.Moments.{end_of_time}
-use Rattle.measured_traffic.specs.replay_events.proofs.EventLemmas.{events_go_on}
-use Rattle.measured_traffic.specs.replay_events.proofs.HeardLemmas.{arrivals-none, cells-none}
-use Rattle.measured_traffic.specs.replay_events.proofs.TickLemmas.{ticks_append}
+use Rattle.replay_events.specs.Events.{count_events, events, events_at, events_between}
+use Rattle.replay_events.specs.Moments.{end_of_time}
+use Rattle.replay_events.proofs.EventLemmas.{events_go_on}
+use Rattle.replay_events.proofs.HeardLemmas.{arrivals-none, cells-none}
+use Rattle.replay_events.proofs.TickLemmas.{ticks_append}
 use Rattle.ru_buffers.specs.Calls.{StandsFor}
 use Rattle.ru_buffers.specs.declared.unit.Ru.{Ru}
-use Rattle.measured_traffic.specs.unit_model.specs.Radiated.{first_clock}
-use Rattle.measured_traffic.specs.unit_model.specs.Standing.{nothing_yet}
+use Rattle.unit_model.specs.Radiated.{first_clock}
+use Rattle.unit_model.specs.Standing.{nothing_yet}
 use Rattle.fronthaul_replay.specs.Replaying.{HaltsInStep, RestsInStep, StopsInStep, events_of}
 use Rattle.fronthaul_replay.specs.Turns.{AtTurn}
 use Rattle.fronthaul_replay.proofs.StepLemmas.{InStep, intake_in_step, radio_in_step, turn_in_step}

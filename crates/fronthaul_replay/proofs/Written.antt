@@ -4,13 +4,13 @@ use Rattle.std.specs.Prelude.{is_ok}
 use Rattle.std.specs.List.{flat_map}
 use Rattle.std.specs.Io.KnownBytes.{append_known}
 use Rattle.fh_base.specs.Told.{WritesFront, WritesPart}
-use Rattle.capture_air.specs.air_source.specs.declared.airs.AirFault.{AirFault}
-use Rattle.capture_air.specs.air_source.specs.declared.airs.AirFault.TheVariants.{Failed, NoMemory as WantsMemory}
-use Rattle.capture_air.specs.air_source.specs.declared.events.Event.{Event}
-use Rattle.measured_traffic.specs.fh_document.specs.declared.document.Document.{Document}
-use Rattle.capture_air.specs.owed_bytes.specs.Owed.{Carried}
-use Rattle.capture_air.specs.owed_bytes.proofs.Parts.{front_part, part_behind}
-use Rattle.capture_air.specs.air_sinks.specs.Stopping.{Halted}
+use Rattle.air_source.specs.declared.airs.AirFault.{AirFault}
+use Rattle.air_source.specs.declared.airs.AirFault.TheVariants.{Failed, NoMemory as WantsMemory}
+use Rattle.air_source.specs.declared.events.Event.{Event}
+use Rattle.fh_document.specs.declared.document.Document.{Document}
+use Rattle.owed_bytes.specs.Owed.{Carried}
+use Rattle.owed_bytes.proofs.Parts.{front_part, part_behind}
+use Rattle.air_sinks.specs.Stopping.{Halted}
 use Rattle.text_air.specs.Counts.{counter_text}
 use Rattle.text_air.specs.Text.{end_text, event_text}
 use Rattle.text_air.proofs.Texts.{cut_front, finish_front, finished, front_of_whole, stops_front}

@@ -1,12 +1,12 @@
 -- The numbers that are told of counters in the end (this project's profile).
 use Rattle.std.specs.Prelude.{ℕ, List, if◌then◌else◌}
 use Rattle.std.specs.List.{flat_map}
-use Rattle.capture_air.specs.air_source.specs.declared.events.Event.{Event}
-use Rattle.capture_air.specs.air_source.specs.declared.events.Side.{Side}
+use Rattle.air_source.specs.declared.events.Event.{Event}
+use Rattle.air_source.specs.declared.events.Side.{Side}
 use Rattle.fault_counters.specs.Counts.{capped, count_of, times}
 use Rattle.fault_counters.specs.Names.{all_counters}
 use Rattle.fault_counters.specs.declared.kinds.Counter.{Counter}
-use Rattle.measured_traffic.specs.replay_events.specs.Events.{count_event, is_measured}
+use Rattle.replay_events.specs.Events.{count_event, is_measured}
 
 -- of a counter of delay measurement by what the meter counted, of any other by the unit's counters
 abbrev pub told_number : List ℕ → List Counter → Counter → ℕ

@@ -1,9 +1,9 @@
 -- How far an air heard some events where a replay was cut (this project's profile).
 use Rattle.std.specs.Prelude.{List, ◌⊎◌}
-use Rattle.capture_air.specs.air_source.specs.Stops.{GrewSome, StopsIn}
-use Rattle.capture_air.specs.air_source.specs.declared.airs.AirFault.{AirFault}
-use Rattle.capture_air.specs.air_source.specs.declared.airs.AirFault.TheVariants.{Failed, NoMemory as WantsMemory}
-use Rattle.capture_air.specs.air_source.specs.declared.events.Event.{Event}
+use Rattle.air_source.specs.Stops.{GrewSome, StopsIn}
+use Rattle.air_source.specs.declared.airs.AirFault.{AirFault}
+use Rattle.air_source.specs.declared.airs.AirFault.TheVariants.{Failed, NoMemory as WantsMemory}
+use Rattle.air_source.specs.declared.events.Event.{Event}
 use Rattle.fronthaul_replay.specs.declared.report.TextFault.{TextFault}
 use Rattle.fronthaul_replay.specs.declared.report.TextFault.TheVariants.{WriteFault, NoMemory}
 

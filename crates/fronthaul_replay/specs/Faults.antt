@@ -1,6 +1,6 @@
 -- Under which names the faults of an air and of a replay are passed on.
-use Rattle.capture_air.specs.air_source.specs.declared.airs.AirFault.{AirFault}
-use Rattle.capture_air.specs.air_source.specs.declared.airs.AirFault.TheVariants as air
+use Rattle.air_source.specs.declared.airs.AirFault.{AirFault}
+use Rattle.air_source.specs.declared.airs.AirFault.TheVariants as air
 use Rattle.fronthaul_replay.specs.declared.replays.ReplayFault.{ReplayFault}
 use Rattle.fronthaul_replay.specs.declared.replays.ReplayFault.TheVariants as replay
 use Rattle.fronthaul_replay.specs.declared.report.TextFault.{TextFault}

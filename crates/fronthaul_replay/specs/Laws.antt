@@ -1,25 +1,25 @@
 -- What holds of the events of every document, whatever lands (this project's profile).
 use Rattle.std.specs.Prelude.{◌≡◌, ℕ, ℤ, ◌≤ℤ◌, ◌∷◌, ◌++◌, List, All, map}
-use Rattle.capture_air.specs.air_source.specs.declared.events.Event.{Event}
-use Rattle.capture_air.specs.air_source.specs.declared.events.Side.{Side}
-use Rattle.measured_traffic.specs.document_traffic.specs.Undisturbed.{IsTakenInOnce, IsUndisturbed, IsUndisturbedBothWays, RadiatesOnce}
-use Rattle.measured_traffic.specs.fh_document.specs.declared.document.Document.{Document}
+use Rattle.air_source.specs.declared.events.Event.{Event}
+use Rattle.air_source.specs.declared.events.Side.{Side}
+use Rattle.document_traffic.specs.Undisturbed.{IsTakenInOnce, IsUndisturbed, IsUndisturbedBothWays, RadiatesOnce}
+use Rattle.fh_document.specs.declared.document.Document.{Document}
 use Rattle.measured_traffic.specs.Delays.{DelayIs, InjectsNone, IsOfRequest, IsTimeOfWay}
 use Rattle.measured_traffic.specs.Exchanged.{TellsExchanges}
 use Rattle.measured_traffic.specs.Replayed.{traffic_of}
-use Rattle.measured_traffic.specs.replay_events.specs.Events.{arrival_event, result_event}
-use Rattle.measured_traffic.specs.replay_events.specs.Moments.{all_arrivals, end_of_time}
-use Rattle.measured_traffic.specs.replay_events.specs.Traffic.{landings_at}
-use Rattle.measured_traffic.specs.replay_laws.specs.Delays.{FollowsFrame, IsLanding, IsResult, StandTogether, given_by}
-use Rattle.measured_traffic.specs.replay_laws.specs.Gathered.{IsShownGathered}
-use Rattle.measured_traffic.specs.replay_laws.specs.Landed.{AllLand}
-use Rattle.measured_traffic.specs.replay_laws.specs.Once.{IsOnce}
-use Rattle.measured_traffic.specs.replay_laws.specs.Refused.{RefusedChangesNothing}
-use Rattle.measured_traffic.specs.replay_laws.specs.Shown.{IsShownInTime}
-use Rattle.measured_traffic.specs.replay_laws.specs.Silent.{SilentChangesNothing}
-use Rattle.measured_traffic.specs.replay_laws.specs.Sums.{AddsUp}
-use Rattle.measured_traffic.specs.unit_model.specs.Meetings.{Arrival}
-use Rattle.measured_traffic.specs.unit_model.specs.Radiated.{first_clock}
+use Rattle.replay_events.specs.Events.{arrival_event, result_event}
+use Rattle.replay_events.specs.Moments.{all_arrivals, end_of_time}
+use Rattle.replay_events.specs.Traffic.{landings_at}
+use Rattle.replay_laws.specs.Delays.{FollowsFrame, IsLanding, IsResult, StandTogether, given_by}
+use Rattle.replay_laws.specs.Gathered.{IsShownGathered}
+use Rattle.replay_laws.specs.Landed.{AllLand}
+use Rattle.replay_laws.specs.Once.{IsOnce}
+use Rattle.replay_laws.specs.Refused.{RefusedChangesNothing}
+use Rattle.replay_laws.specs.Shown.{IsShownInTime}
+use Rattle.replay_laws.specs.Silent.{SilentChangesNothing}
+use Rattle.replay_laws.specs.Sums.{AddsUp}
+use Rattle.unit_model.specs.Meetings.{Arrival}
+use Rattle.unit_model.specs.Radiated.{first_clock}
 use Rattle.fronthaul_replay.specs.Replaying.{events_of}
 
 -- each delay is a result of the frames that land at its unit at its time, and stands behind the frame that gave it, with that frame's

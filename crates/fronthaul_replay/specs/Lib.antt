@@ -1,6 +1,3 @@
-pub use Rattle.du_scheduler
-pub use Rattle.du_scheduler.specs.plan_model
-pub use Rattle.du_scheduler.specs.plan_check
 pub mod Counting
 pub mod Replaying
 pub mod Turns

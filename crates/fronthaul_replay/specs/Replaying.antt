@@ -1,22 +1,22 @@
 -- The replay of a document: its events, and how both units stand to those that were heard (this project's profile).
 use Rattle.std.specs.Prelude.{◌≡◌, ℤ, List, [], ◌∷◌, ◌++◌, ◌⊎◌}
-use Rattle.capture_air.specs.air_source.specs.declared.events.Event.{Event}
-use Rattle.capture_air.specs.air_source.specs.declared.events.Side.TheVariants.{Ru as AtRu, Du as AtDu}
-use Rattle.measured_traffic.specs.document_traffic.specs.Landing.{jobs_for}
+use Rattle.air_source.specs.declared.events.Event.{Event}
+use Rattle.air_source.specs.declared.events.Side.TheVariants.{Ru as AtRu, Du as AtDu}
+use Rattle.document_traffic.specs.Landing.{jobs_for}
 use Rattle.measured_traffic.specs.Replayed.{landings_for, traffic_of}
 use Rattle.du_intake.specs.Calls.{IntakeStandsFor}
 use Rattle.du_intake.specs.Units.{intake_due_of as intake_due}
 use Rattle.du_intake.specs.declared.unit.Intake.{Intake}
-use Rattle.measured_traffic.specs.fh_document.specs.declared.document.Document.{Document}
+use Rattle.fh_document.specs.declared.document.Document.{Document}
 use Rattle.replay_turns.specs.IntakeTurns.{IsIntakeInStep, planned_for}
 use Rattle.replay_turns.specs.Turns.{IsRadioInStep}
-use Rattle.measured_traffic.specs.replay_events.specs.Events.{events}
-use Rattle.measured_traffic.specs.replay_events.specs.Moments.{all_arrivals, end_of_time}
+use Rattle.replay_events.specs.Events.{events}
+use Rattle.replay_events.specs.Moments.{all_arrivals, end_of_time}
 use Rattle.ru_buffers.specs.Calls.{IsQuietTo, StandsFor}
 use Rattle.ru_buffers.specs.declared.unit.Ru.{Ru}
-use Rattle.measured_traffic.specs.unit_model.specs.Reports.{du_reported, ru_reported}
-use Rattle.measured_traffic.specs.unit_model.specs.Standing.{History}
-pub use Rattle.measured_traffic.specs.document_traffic.specs.Laws.{IsReplayable}
+use Rattle.unit_model.specs.Reports.{du_reported, ru_reported}
+use Rattle.unit_model.specs.Standing.{History}
+pub use Rattle.document_traffic.specs.Laws.{IsReplayable}
 
 -- all events of a document, in order
 abbrev pub events_of : Document → List Event

@@ -1,6 +1,6 @@
 -- The texts of a document (this project's profile), each of all its events.
 use Rattle.std.specs.Prelude.{ℕ, List}
-use Rattle.measured_traffic.specs.fh_document.specs.declared.document.Document.{Document}
+use Rattle.fh_document.specs.declared.document.Document.{Document}
 use Rattle.fronthaul_replay.specs.Replaying.{events_of}
 use Rattle.capture_air.specs.Capture.{whole_capture}
 use Rattle.sum_air.specs.Summary.{whole_summary}

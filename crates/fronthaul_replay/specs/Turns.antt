@@ -1,17 +1,17 @@
 -- How both units, their meters and what is to come stand to a document at the start of a tick, and when the next moment is (this project's
 -- profile).
 use Rattle.std.specs.Prelude.{◌≡◌, ℤ, ◌<ℤ◌, ◌≤ℤ◌, pos, ◌+ℤ◌, List, [], Option, Some, None, if◌then◌else◌, int_lt}
-use Rattle.capture_air.specs.air_source.specs.declared.events.Side.TheVariants.{Ru, Du}
-use Rattle.capture_air.specs.air_source.specs.declared.links.LinkFrame.{LinkFrame}
-use Rattle.capture_air.specs.air_source.specs.declared.places.RePlace.{RePlace}
+use Rattle.air_source.specs.declared.events.Side.TheVariants.{Ru, Du}
+use Rattle.air_source.specs.declared.links.LinkFrame.{LinkFrame}
+use Rattle.air_source.specs.declared.places.RePlace.{RePlace}
 use Rattle.bfp_codec.specs.declared.samples.Wide.{Wide}
-use Rattle.sum_air.specs.delay_measure.specs.declared.edge.Edge.{Edge}
+use Rattle.delay_measure.specs.declared.edge.Edge.{Edge}
 use Rattle.du_intake.specs.Units.{intake_due_of as intake_due}
 use Rattle.du_intake.specs.declared.unit.Intake.{Intake}
-use Rattle.du_scheduler.specs.plan_model.specs.Sent.{SentFrame}
-use Rattle.measured_traffic.specs.fh_document.specs.declared.document.Document.{Document}
-use Rattle.measured_traffic.specs.frame_deliveries.specs.Leaving.{Leaving}
-use Rattle.measured_traffic.specs.document_delays.specs.Settings.{compensation_of}
+use Rattle.plan_model.specs.Sent.{SentFrame}
+use Rattle.fh_document.specs.declared.document.Document.{Document}
+use Rattle.frame_deliveries.specs.Leaving.{Leaving}
+use Rattle.document_delays.specs.Settings.{compensation_of}
 use Rattle.fh_time.specs.declared.values.Ticks.{Ticks}
 use Rattle.replay_turns.specs.Down.{HasLandedDown, NoneComesDown, WaitsDown}
 use Rattle.replay_turns.specs.IntakeTurns.{AtIntakeTurn, planned_for}
@@ -20,12 +20,12 @@ use Rattle.replay_turns.specs.Turns.{AtRadioTurn}
 use Rattle.replay_turns.specs.Up.{HasLandedUp, NoneComesUp, WaitsUp}
 use Rattle.unit_meters.specs.Begins.{Awaits, NoneBeginsTo}
 use Rattle.unit_meters.specs.declared.meters.Meters.{Meters}
-use Rattle.unit_moments.specs.delay_exchange.specs.Meters.{HasDoings}
+use Rattle.delay_exchange.specs.Meters.{HasDoings}
 use Rattle.measured_traffic.specs.Replayed.{doings_at, made_at}
-use Rattle.measured_traffic.specs.replay_events.specs.Moments.{end_of_time}
+use Rattle.replay_events.specs.Moments.{end_of_time}
 use Rattle.ru_buffers.specs.Calls.{IsQuietTo}
 use Rattle.ru_buffers.specs.declared.unit.Ru.{Ru as Unit}
-use Rattle.measured_traffic.specs.unit_model.specs.Standing.{History}
+use Rattle.unit_model.specs.Standing.{History}
 use Rattle.fronthaul_replay.specs.declared.coming.Coming.{Coming}
 
 -- both units at the start of a tick

@@ -1,11 +1,11 @@
 // What the radio unit answers, and what is to come to the distributed unit.
 ghost use Rattle.std.specs.Prelude.{IfOk};
-ghost use Rattle.capture_air.specs.air_source.specs.Answers.{AnswersBy};
-ghost use Rattle.capture_air.specs.air_source.specs.Kept.{IsKept, closure_of};
+ghost use Rattle.air_source.specs.Answers.{AnswersBy};
+ghost use Rattle.air_source.specs.Kept.{IsKept, closure_of};
 ghost use Rattle.fh_time.specs.Least.{IsLeastOf};
-ghost use Rattle.measured_traffic.specs.document_traffic.specs.Landing.{antenna_for};
-ghost use Rattle.measured_traffic.specs.document_traffic.specs.Laws.{IsReplayable};
-ghost use Rattle.measured_traffic.specs.unit_model.specs.Radiated.{first_clock};
+ghost use Rattle.document_traffic.specs.Landing.{antenna_for};
+ghost use Rattle.document_traffic.specs.Laws.{IsReplayable};
+ghost use Rattle.unit_model.specs.Radiated.{first_clock};
 ghost use Rattle.replay_turns.specs.Up.{NoneComesUp, WaitsUp};
 
 use air_source::{RePlace, Samples, Side};
@@ -30,7 +30,7 @@ pub(crate) struct Answers<'a, G: Fn(RePlace) -> Wide> {
 
 impl<'a, G: Fn(RePlace) -> Wide> Answers<'a, G> {
     ghost use Rattle.std.specs.Prelude.{ℤ};
-    ghost use Rattle.measured_traffic.specs.fh_document.specs.declared.document.Document.{Document as SpecDocument};
+    ghost use Rattle.fh_document.specs.declared.document.Document.{Document as SpecDocument};
 
     /// Nothing was answered, and none of the document's frames has landed.
     pub(crate) fn make(

@@ -1,12 +1,12 @@
 // What is to come to both units.
 ghost use Rattle.std.specs.Prelude.{IfOk};
-ghost use Rattle.capture_air.specs.air_source.specs.Answers.{AnswersBy};
-ghost use Rattle.capture_air.specs.air_source.specs.Kept.{IsKept, closure_of};
-ghost use Rattle.measured_traffic.specs.document_traffic.specs.Landing.{antenna_for};
-ghost use Rattle.measured_traffic.specs.document_traffic.specs.Laws.{IsReplayable};
-ghost use Rattle.measured_traffic.specs.document_traffic.specs.Sending.{sent_for};
+ghost use Rattle.air_source.specs.Answers.{AnswersBy};
+ghost use Rattle.air_source.specs.Kept.{IsKept, closure_of};
+ghost use Rattle.document_traffic.specs.Landing.{antenna_for};
+ghost use Rattle.document_traffic.specs.Laws.{IsReplayable};
+ghost use Rattle.document_traffic.specs.Sending.{sent_for};
 ghost use Rattle.du_scheduler.specs.Plans.{HasToSend};
-ghost use Rattle.measured_traffic.specs.unit_model.specs.Radiated.{first_clock};
+ghost use Rattle.unit_model.specs.Radiated.{first_clock};
 ghost use Rattle.fronthaul_replay.specs.Turns.{WaitsInTurn};
 
 use crate::answers::Answers;

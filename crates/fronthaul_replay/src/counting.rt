@@ -1,11 +1,11 @@
 // The counters at the end.
 ghost use Rattle.std.specs.Prelude.{◌≡◌, IfErr, OnOk};
-ghost use Rattle.capture_air.specs.air_source.specs.Causes.{HasAirCause};
-ghost use Rattle.capture_air.specs.air_source.specs.Stops.{StopsIn};
-ghost use Rattle.unit_moments.specs.delay_exchange.specs.Units.{Has};
-ghost use Rattle.measured_traffic.specs.delay_laws.specs.Nodes.{Compensation};
+ghost use Rattle.air_source.specs.Causes.{HasAirCause};
+ghost use Rattle.air_source.specs.Stops.{StopsIn};
+ghost use Rattle.delay_exchange.specs.Units.{Has};
+ghost use Rattle.delay_laws.specs.Nodes.{Compensation};
 ghost use Rattle.measured_traffic.specs.Doings.{Doings};
-ghost use Rattle.measured_traffic.specs.replay_events.specs.Events.{count_event};
+ghost use Rattle.replay_events.specs.Events.{count_event};
 ghost use Rattle.fronthaul_replay.specs.Counting.{told_counts, told_number};
 
 use air_source::{Air, AirFault, Side};

@@ -2,9 +2,9 @@
 ghost use Rattle.std.specs.Prelude.{IfOk};
 ghost use Rattle.du_scheduler.specs.Plans.{HasToSend, IsPlan};
 ghost use Rattle.fh_time.specs.Least.{IsLeastOf};
-ghost use Rattle.measured_traffic.specs.document_traffic.specs.Laws.{IsReplayable};
-ghost use Rattle.measured_traffic.specs.document_traffic.specs.Sending.{sent_for};
-ghost use Rattle.measured_traffic.specs.unit_model.specs.Radiated.{first_clock};
+ghost use Rattle.document_traffic.specs.Laws.{IsReplayable};
+ghost use Rattle.document_traffic.specs.Sending.{sent_for};
+ghost use Rattle.unit_model.specs.Radiated.{first_clock};
 ghost use Rattle.replay_turns.specs.Down.{NoneComesDown, WaitsDown};
 
 use air_source::Side;
@@ -27,7 +27,7 @@ pub(crate) struct Downlink<'a> {
 
 impl<'a> Downlink<'a> {
     ghost use Rattle.std.specs.Prelude.{ℤ};
-    ghost use Rattle.measured_traffic.specs.fh_document.specs.declared.document.Document.{Document as SpecDocument};
+    ghost use Rattle.fh_document.specs.declared.document.Document.{Document as SpecDocument};
 
     /// All frames of a document and of its plan, none of which was sent or has landed.
     pub(crate) fn make(

@@ -1,23 +1,23 @@
 // The distributed unit's part of a moment.
 ghost use Rattle.std.specs.Prelude.{◌≡◌, ℤ, pos, ◌+ℤ◌, ◌≤ℤ◌, List, ◌∷◌, All, IsErrOf, OnErr, OnOk};
-ghost use Rattle.capture_air.specs.air_source.specs.Causes.{HasAirCause};
-ghost use Rattle.capture_air.specs.air_source.specs.declared.airs.AirFault.TheVariants.{Failed, NoMemory as WantsMemory};
-ghost use Rattle.capture_air.specs.air_source.specs.declared.events.Side.TheVariants.{Du as AtDu};
-ghost use Rattle.measured_traffic.specs.frame_deliveries.specs.Landing.{landing_at};
-ghost use Rattle.measured_traffic.specs.frame_deliveries.specs.Leaving.{Leaving};
+ghost use Rattle.air_source.specs.Causes.{HasAirCause};
+ghost use Rattle.air_source.specs.declared.airs.AirFault.TheVariants.{Failed, NoMemory as WantsMemory};
+ghost use Rattle.air_source.specs.declared.events.Side.TheVariants.{Du as AtDu};
+ghost use Rattle.frame_deliveries.specs.Landing.{landing_at};
+ghost use Rattle.frame_deliveries.specs.Leaving.{Leaving};
 ghost use Rattle.measured_traffic.specs.Replayed.{landings_for, made_at};
-ghost use Rattle.measured_traffic.specs.document_delays.specs.Settings.{compensation_of};
-ghost use Rattle.measured_traffic.specs.document_traffic.specs.Laws.{IsReplayable};
-ghost use Rattle.measured_traffic.specs.replay_events.specs.Moments.{end_of_time};
-ghost use Rattle.measured_traffic.specs.unit_model.specs.Meetings.{Arrival};
-ghost use Rattle.measured_traffic.specs.fh_document.specs.declared.document.Document.{Document as SpecDocument};
+ghost use Rattle.document_delays.specs.Settings.{compensation_of};
+ghost use Rattle.document_traffic.specs.Laws.{IsReplayable};
+ghost use Rattle.replay_events.specs.Moments.{end_of_time};
+ghost use Rattle.unit_model.specs.Meetings.{Arrival};
+ghost use Rattle.fh_document.specs.declared.document.Document.{Document as SpecDocument};
 ghost use Rattle.replay_turns.specs.Answering.{Answered, IsDueAt, MayAnswer};
 ghost use Rattle.replay_turns.specs.Turns.{AtRadioTurn, HasRadioLanded, IsRadioInStep, intake_events};
 ghost use Rattle.replay_turns.specs.Up.{HasLandedUp, WaitsUp};
 ghost use Rattle.replay_turns.specs.IntakeTurns.{AtIntakeTurn, IsIntakeInStep, heard_before};
 ghost use Rattle.replay_turns.specs.Waiting.{LandsAfter, Waits, begun_at};
 ghost use Rattle.unit_moments.specs.Stops.{HaltsBehind, StopsBehind};
-ghost use Rattle.unit_moments.specs.delay_exchange.specs.Meters.{HasDoings};
+ghost use Rattle.delay_exchange.specs.Meters.{HasDoings};
 
 use crate::answers::Answers;
 use air_source::{Air, AirFault, RePlace, Side};

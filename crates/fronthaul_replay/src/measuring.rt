@@ -1,11 +1,11 @@
 // Both units' meters.
 ghost use Rattle.std.specs.Prelude.{IfOk};
-ghost use Rattle.capture_air.specs.air_source.specs.declared.events.Side.TheVariants.{Du as AtDu, Ru as AtRu};
-ghost use Rattle.measured_traffic.specs.document_delays.specs.Settings.{compensation_of};
-ghost use Rattle.measured_traffic.specs.fh_document.specs.Proper.{IsDocument};
-ghost use Rattle.measured_traffic.specs.unit_model.specs.Radiated.{first_clock};
+ghost use Rattle.air_source.specs.declared.events.Side.TheVariants.{Du as AtDu, Ru as AtRu};
+ghost use Rattle.document_delays.specs.Settings.{compensation_of};
+ghost use Rattle.fh_document.specs.Proper.{IsDocument};
+ghost use Rattle.unit_model.specs.Radiated.{first_clock};
 ghost use Rattle.replay_turns.specs.Measuring.{MeasuresWait};
-ghost use Rattle.sum_air.specs.delay_measure.specs.Kept.{IsCompensation};
+ghost use Rattle.delay_measure.specs.Kept.{IsCompensation};
 ghost use Rattle.unit_meters.specs.Begins.{AnswersAs};
 
 use delay_measure::Edge;

@@ -1,20 +1,20 @@
 // The moments of a replay, one after the other.
 ghost use Rattle.std.specs.Prelude.{ℤ, pos, ◌+ℤ◌, ◌≤ℤ◌, [], IsErrOf, OnOk, List};
-ghost use Rattle.capture_air.specs.air_source.specs.Answers.{AnswersBy};
-ghost use Rattle.capture_air.specs.air_source.specs.Causes.{HasAirCause};
-ghost use Rattle.capture_air.specs.air_source.specs.Kept.{IsKept, closure_of};
-ghost use Rattle.capture_air.specs.air_source.specs.declared.airs.AirFault.TheVariants.{Failed, NoMemory as WantsMemory};
-ghost use Rattle.measured_traffic.specs.document_traffic.specs.Laws.{IsReplayable};
+ghost use Rattle.air_source.specs.Answers.{AnswersBy};
+ghost use Rattle.air_source.specs.Causes.{HasAirCause};
+ghost use Rattle.air_source.specs.Kept.{IsKept, closure_of};
+ghost use Rattle.air_source.specs.declared.airs.AirFault.TheVariants.{Failed, NoMemory as WantsMemory};
+ghost use Rattle.document_traffic.specs.Laws.{IsReplayable};
 ghost use Rattle.du_scheduler.specs.Plans.{IsPlan};
-ghost use Rattle.measured_traffic.specs.fh_document.specs.declared.document.Document.{Document as SpecDocument};
+ghost use Rattle.fh_document.specs.declared.document.Document.{Document as SpecDocument};
 ghost use Rattle.replay_turns.specs.Measuring.{MeasuresWait};
 ghost use Rattle.measured_traffic.specs.Replayed.{traffic_of};
 ghost use Rattle.unit_moments.specs.Stops.{HaltsBehind, StopsBehind};
 ghost use Rattle.replay_turns.specs.Turns.{events_before};
-ghost use Rattle.measured_traffic.specs.replay_events.specs.Events.{events_at};
-ghost use Rattle.measured_traffic.specs.replay_events.specs.Moments.{end_of_time};
-ghost use Rattle.measured_traffic.specs.tone_source.specs.Tones.{tone_of};
-ghost use Rattle.measured_traffic.specs.unit_model.specs.Radiated.{first_clock};
+ghost use Rattle.replay_events.specs.Events.{events_at};
+ghost use Rattle.replay_events.specs.Moments.{end_of_time};
+ghost use Rattle.tone_source.specs.Tones.{tone_of};
+ghost use Rattle.unit_model.specs.Radiated.{first_clock};
 ghost use Rattle.fronthaul_replay.specs.Replaying.{IsInStep};
 ghost use Rattle.fronthaul_replay.specs.Turns.{AtMoment, AtTurn, TurnHasBegun, TurnHasLanded, HaveMeasured, IsNextTick, WaitsInTurn};
 

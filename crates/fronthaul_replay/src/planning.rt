@@ -1,6 +1,6 @@
 // The plan of a document that is replayed.
 ghost use Rattle.du_scheduler.specs.Plans.{Checks};
-ghost use Rattle.measured_traffic.specs.fh_document.specs.Proper.{IsDocument};
+ghost use Rattle.fh_document.specs.Proper.{IsDocument};
 
 use du_scheduler::{Plan, PlanRefusal};
 use fh_document::Document;

@@ -1,23 +1,23 @@
 // The radio unit's part of a moment.
 ghost use Rattle.std.specs.Prelude.{◌≡◌, pos, ◌+ℤ◌, ◌≤ℤ◌, List, ◌∷◌, All, IsErrOf, OnOk};
-ghost use Rattle.capture_air.specs.air_source.specs.Answers.{AnswersBy};
-ghost use Rattle.capture_air.specs.air_source.specs.Causes.{HasAirCause};
-ghost use Rattle.capture_air.specs.air_source.specs.Kept.{IsKept, closure_of};
-ghost use Rattle.capture_air.specs.air_source.specs.declared.airs.AirFault.TheVariants.{Failed, NoMemory as WantsMemory};
-ghost use Rattle.capture_air.specs.air_source.specs.declared.events.Side.TheVariants.{Ru as AtRu};
-ghost use Rattle.measured_traffic.specs.frame_deliveries.specs.Landing.{landing_at};
-ghost use Rattle.measured_traffic.specs.frame_deliveries.specs.Leaving.{Leaving};
+ghost use Rattle.air_source.specs.Answers.{AnswersBy};
+ghost use Rattle.air_source.specs.Causes.{HasAirCause};
+ghost use Rattle.air_source.specs.Kept.{IsKept, closure_of};
+ghost use Rattle.air_source.specs.declared.airs.AirFault.TheVariants.{Failed, NoMemory as WantsMemory};
+ghost use Rattle.air_source.specs.declared.events.Side.TheVariants.{Ru as AtRu};
+ghost use Rattle.frame_deliveries.specs.Landing.{landing_at};
+ghost use Rattle.frame_deliveries.specs.Leaving.{Leaving};
 ghost use Rattle.measured_traffic.specs.Replayed.{landings_for, made_at};
-ghost use Rattle.measured_traffic.specs.document_delays.specs.Settings.{compensation_of};
-ghost use Rattle.measured_traffic.specs.document_traffic.specs.Laws.{IsReplayable};
-ghost use Rattle.measured_traffic.specs.replay_events.specs.Moments.{end_of_time};
-ghost use Rattle.measured_traffic.specs.tone_source.specs.Tones.{tone_of};
-ghost use Rattle.measured_traffic.specs.unit_model.specs.Meetings.{Arrival};
+ghost use Rattle.document_delays.specs.Settings.{compensation_of};
+ghost use Rattle.document_traffic.specs.Laws.{IsReplayable};
+ghost use Rattle.replay_events.specs.Moments.{end_of_time};
+ghost use Rattle.tone_source.specs.Tones.{tone_of};
+ghost use Rattle.unit_model.specs.Meetings.{Arrival};
 ghost use Rattle.replay_turns.specs.Down.{HasLandedDown, WaitsDown};
 ghost use Rattle.replay_turns.specs.Turns.{AtRadioTurn, HasRadioLanded, IsRadioInStep, events_before, radio_events};
 ghost use Rattle.replay_turns.specs.Waiting.{LandsAfter, Waits, begun_at};
 ghost use Rattle.unit_moments.specs.Stops.{HaltsBehind, StopsBehind};
-ghost use Rattle.unit_moments.specs.delay_exchange.specs.Meters.{HasDoings};
+ghost use Rattle.delay_exchange.specs.Meters.{HasDoings};
 
 use crate::downlink::Downlink;
 use air_source::{Air, AirFault, RePlace, Samples, Side};

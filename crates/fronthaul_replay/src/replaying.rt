@@ -1,10 +1,10 @@
 // A replay of a document, told to any air.
 ghost use Rattle.std.specs.Prelude.{◌≡◌, ◌<◌, OnOk, IfErr, IfOk};
-ghost use Rattle.capture_air.specs.air_source.specs.Answers.{Fits16};
-ghost use Rattle.measured_traffic.specs.document_traffic.specs.Sending.{sent_for};
+ghost use Rattle.air_source.specs.Answers.{Fits16};
+ghost use Rattle.document_traffic.specs.Sending.{sent_for};
 ghost use Rattle.du_scheduler.specs.Plans.{HasToSend};
-ghost use Rattle.measured_traffic.specs.tone_source.specs.Tones.{tone_of};
-ghost use Rattle.measured_traffic.specs.fh_document.specs.Proper.{IsDocument};
+ghost use Rattle.tone_source.specs.Tones.{tone_of};
+ghost use Rattle.fh_document.specs.Proper.{IsDocument};
 ghost use Rattle.fronthaul_replay.specs.Laws.{IsSound};
 ghost use Rattle.fronthaul_replay.specs.Replay.{HasWriteCause};
 ghost use Rattle.fronthaul_replay.specs.Replaying.{events_of};
@@ -12,7 +12,7 @@ ghost use Rattle.fronthaul_replay.specs.Cut.{CutBy};
 ghost use Rattle.fronthaul_replay.specs.Replaying.{IsReplayable};
 ghost use Rattle.du_intake.specs.Calls.{IntakeStandsFor};
 ghost use Rattle.replay_turns.specs.IntakeTurns.{planned_for};
-ghost use Rattle.measured_traffic.specs.unit_model.specs.Standing.{nothing_yet};
+ghost use Rattle.unit_model.specs.Standing.{nothing_yet};
 
 use crate::replays::replay;
 use crate::report::TextFault;

@@ -2,9 +2,9 @@
 ghost use Rattle.std.specs.Prelude.{◌≡◌, [], OnErr, OnOk};
 ghost use Rattle.std.specs.Io.KnownBytes.{append_known};
 ghost use Rattle.fh_base.specs.Told.{WritesFront, WritesPart};
-ghost use Rattle.measured_traffic.specs.document_traffic.specs.Sending.{sent_for};
+ghost use Rattle.document_traffic.specs.Sending.{sent_for};
 ghost use Rattle.du_scheduler.specs.Plans.{HasToSend};
-ghost use Rattle.measured_traffic.specs.fh_document.specs.Proper.{IsDocument};
+ghost use Rattle.fh_document.specs.Proper.{IsDocument};
 ghost use Rattle.sum_air.specs.Airs.{sink_name, sink_of, owed_of, sums_of};
 ghost use Rattle.sum_air.specs.States.{sum_start};
 ghost use Rattle.fronthaul_replay.specs.Laws.{IsSound};

@@ -1,9 +1,3 @@
-pub use Rattle.explain_heard
-pub use Rattle.explain_model
-pub use Rattle.explain_reasons
-pub use Rattle.explain_records
-pub use Rattle.fragment_records
-pub use Rattle.unit_memory
 pub mod Sound
 pub mod Steps
 pub mod Records

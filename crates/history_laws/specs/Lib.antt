@@ -1,10 +1,3 @@
-pub use Rattle.air_source
-pub use Rattle.window_config.specs.eaxc_map
-pub use Rattle.ecpri_fragments
-pub use Rattle.unit_laws
-pub use Rattle.unit_laws.specs.unit_model
-pub use Rattle.uplane_sections
-pub use Rattle.window_config
 pub mod First
 pub mod Arriving
 pub mod Sending

@@ -3,9 +3,9 @@ ghost use Rattle.std.specs.Prelude.{◌≡◌, ◌≤ℤ◌, true, All, List as 
 ghost use Rattle.window_config.specs.Configs.{IsConfig};
 ghost use Rattle.window_config.specs.Plans.{IsPlanLine};
 ghost use Rattle.window_config.specs.declared.config.Config.{Config as SpecConfig};
-ghost use Rattle.du_intake.specs.unit_model.specs.Proper.{IsTime};
-ghost use Rattle.du_intake.specs.unit_model.specs.Standing.{History};
-ghost use Rattle.du_intake.specs.unit_model.specs.declared.allocations.Allocation.{Allocation};
+ghost use Rattle.unit_model.specs.Proper.{IsTime};
+ghost use Rattle.unit_model.specs.Standing.{History};
+ghost use Rattle.unit_model.specs.declared.allocations.Allocation.{Allocation};
 ghost use Rattle.du_intake.specs.Calls.{IsReportedBefore, IntakeStandsFor};
 ghost use Rattle.du_intake.specs.Closing.{IntakeStandsForSome};
 ghost use Rattle.du_intake.specs.Planned.{IsPlanOf};

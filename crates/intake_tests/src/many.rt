@@ -1,8 +1,8 @@
 // 50 s at 30 kHz, slot by slot: 100,000 slots, of which each hundredth has a line. A slot has 768,000,000 ticks, and frame 1 begins at
 // tick 15360000000; a cell is told 416,256,000 ticks behind the start of its symbol.
 ghost use Rattle.std.specs.Prelude.{◌<◌, ◌≤ℤ◌, pos, All, IfOk};
-ghost use Rattle.intake_samples.specs.du_intake.specs.Closing.{IntakeStandsForSome};
-ghost use Rattle.plain_units.specs.unit_model.specs.Proper.{IsTime};
+ghost use Rattle.du_intake.specs.Closing.{IntakeStandsForSome};
+ghost use Rattle.unit_model.specs.Proper.{IsTime};
 ghost use Rattle.window_config.specs.Plans.{IsPlanLine};
 
 use crate::samples::{DATA, Data, READ, at_30_khz, block, cell, has_counted, heard};

@@ -2,9 +2,9 @@
 // keeps all that came. The plan has two lines of section 5 at 30 kHz, of symbol 0 of frame 1: some elements of the PRBs 0 and 1, and
 // others of PRB 0. Ta4 is from 50 to 271 us behind its start. What two of the rows give is worked out by hand.
 ghost use Rattle.std.specs.Prelude.{IfOk, IfSome, All};
-ghost use Rattle.intake_samples.specs.du_intake.specs.Closing.{IntakeStandsForSome};
+ghost use Rattle.du_intake.specs.Closing.{IntakeStandsForSome};
 ghost use Rattle.plain_units.specs.declared.report.TimedFrame.{TimedFrame as SpecFrame};
-ghost use Rattle.plain_units.specs.unit_model.specs.Proper.{IsProperAllocation, IsTime};
+ghost use Rattle.unit_model.specs.Proper.{IsProperAllocation, IsTime};
 ghost use Rattle.window_config.specs.Configs.{IsConfig};
 ghost use Rattle.window_config.specs.Plans.{IsPlanLine};
 

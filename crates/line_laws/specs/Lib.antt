@@ -1,4 +1,3 @@
-pub use Rattle.fh_document
 pub mod Joined
 pub mod Words
 pub mod Lines

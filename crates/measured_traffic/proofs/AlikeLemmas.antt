@@ -6,35 +6,35 @@ use Rattle.std.proofs.lemmas.Bool.{cases_Bool}
 use Rattle.std.proofs.lemmas.Bool.Decides.{Decides-int_eq}
 use Rattle.std.proofs.lemmas.Int.{by_lt_z, ints}
 use Rattle.std.proofs.lemmas.List.Concat.{flat_map-append}
-use Rattle.document_delays.specs.air_source.specs.declared.events.Side.{Side}
-use Rattle.document_delays.specs.air_source.specs.declared.events.Side.TheVariants.{Ru, Du}
-use Rattle.document_delays.specs.delay_laws.specs.Ticks.{Flight, after_tick, flight, hearing, launched, state}
-use Rattle.document_delays.specs.delay_measure.specs.declared.message.DelayMessage.{DelayMessage}
+use Rattle.air_source.specs.declared.events.Side.{Side}
+use Rattle.air_source.specs.declared.events.Side.TheVariants.{Ru, Du}
+use Rattle.delay_laws.specs.Ticks.{Flight, after_tick, flight, hearing, launched, state}
+use Rattle.delay_measure.specs.declared.message.DelayMessage.{DelayMessage}
 use Rattle.document_delays.specs.Settings.{setting_of, ways_of}
 use Rattle.document_traffic.proofs.OrderLemmas.{leaving_rising}
 use Rattle.document_traffic.specs.Landing.{all_delayed, copies_among, copy_at, injected_to, leaving_answer, leaving_to}
 use Rattle.document_traffic.specs.Sending.{Delayed, Leaving, SentCounts, class_of, count_of, counted, delayed, delayed_behind, leaving_of, none_sent, sent_for}
-use Rattle.document_delays.specs.fh_document.specs.declared.delivered.TrafficClass.{TrafficClass}
-use Rattle.document_delays.specs.fh_document.specs.declared.delivered.TrafficClass.TheVariants.{C, U, M}
-use Rattle.document_delays.specs.fh_document.specs.declared.document.Document.{Document}
-use Rattle.uplink_turns.specs.fragment_laws.specs.Apart.{IsIn}
-use Rattle.document_delays.specs.frame_deliveries.specs.Copies.{copies_of}
-use Rattle.uplink_turns.specs.plan_model.specs.declared.streams.Stream.{Stream}
-use Rattle.uplink_turns.specs.plan_model.specs.declared.streams.Stream.TheVariants.{DownCommands, UpCommands, DownData, UpData}
-use Rattle.uplink_turns.specs.schedule_laws.proofs.ListLemmas.{of_map}
-use Rattle.uplink_turns.specs.unit_model.specs.Lists.{each_tick}
-use Rattle.uplink_turns.specs.unit_model.specs.Meetings.{Arrival}
-use Rattle.uplink_turns.specs.unit_model.specs.Radiated.{first_clock}
-use Rattle.document_delays.specs.window_config.specs.Windows.{ticks_of_ns}
-use Rattle.uplink_turns.specs.plan_model.proofs.TickLemmas.{ticks_same}
+use Rattle.fh_document.specs.declared.delivered.TrafficClass.{TrafficClass}
+use Rattle.fh_document.specs.declared.delivered.TrafficClass.TheVariants.{C, U, M}
+use Rattle.fh_document.specs.declared.document.Document.{Document}
+use Rattle.fragment_laws.specs.Apart.{IsIn}
+use Rattle.frame_deliveries.specs.Copies.{copies_of}
+use Rattle.plan_model.specs.declared.streams.Stream.{Stream}
+use Rattle.plan_model.specs.declared.streams.Stream.TheVariants.{DownCommands, UpCommands, DownData, UpData}
+use Rattle.schedule_laws.proofs.ListLemmas.{of_map}
+use Rattle.unit_model.specs.Lists.{each_tick}
+use Rattle.unit_model.specs.Meetings.{Arrival}
+use Rattle.unit_model.specs.Radiated.{first_clock}
+use Rattle.window_config.specs.Windows.{ticks_of_ns}
+use Rattle.plan_model.proofs.TickLemmas.{ticks_same}
 use Rattle.measured_traffic.proofs.ListLemmas.{at_key, ticks_flat, without}
 use Rattle.measured_traffic.proofs.MergeLemmas.{AreFrom, first_merged, later_from, merged, none_from, none_merged, rest_from, second_merged}
 use Rattle.measured_traffic.proofs.Apart.{all_sent, copies_flown, delayed_then, landings_apart, sent_then}
 use Rattle.measured_traffic.proofs.OrderLemmas.{flights_in_ticks, leaves_within}
 use Rattle.measured_traffic.specs.Measured.{exchanges, flights_then, others_of}
 use Rattle.measured_traffic.specs.Replayed.{all_leaving, landings_for, leaving_flight, leaving_from}
-use Rattle.document_delays.specs.air_source.specs.Units.{other}
-use Rattle.uplink_turns.specs.unit_model.specs.Times.{tick_count}
+use Rattle.air_source.specs.Units.{other}
+use Rattle.unit_model.specs.Times.{tick_count}
 
 -- ---- a frame of any class, and how many ticks each of its copies takes
 

@@ -5,18 +5,18 @@ use Rattle.std.specs.List.{fold}
 use Rattle.std.specs.Option.{option_map_or}
 use Rattle.std.proofs.lemmas.Bool.{and_parts, leb-true}
 use Rattle.std.proofs.lemmas.List.Elements.{All-head, All-tail}
-use Rattle.uplink_turns.specs.fragment_laws.specs.Apart.{IsIn}
-use Rattle.uplink_turns.specs.plan_model.specs.Packs.{Message, PartFields, alone, parts_of, same_symbol, size_of, takes, with_part}
-use Rattle.uplink_turns.specs.plan_model.specs.Streams.{section_size}
-use Rattle.uplink_turns.specs.schedule_laws.proofs.ListLemmas.{at_in, in_all}
-use Rattle.uplink_turns.specs.unit_model.specs.ProperJobs.{IsProperJob}
-use Rattle.uplink_turns.specs.unit_model.specs.declared.jobs.UplinkJob.{UplinkJob}
-use Rattle.uplink_turns.specs.uplink_model.specs.Messages.{job_fields, messages_behind, uplink_messages_of, takes_job}
-use Rattle.document_delays.specs.window_config.specs.Endpoints.{IsEndpoint}
-use Rattle.document_delays.specs.window_config.specs.declared.config.Config.{Config}
-use Rattle.document_delays.specs.window_config.specs.declared.endpoints.EndpointConfig.{EndpointConfig}
-use Rattle.uplink_turns.specs.plan_model.proofs.SizeLemmas.{alone_few, section_few}
-use Rattle.uplink_turns.specs.ecpri_fragments.specs.declared.place.TheConstants.{MESSAGE_BYTES}
+use Rattle.fragment_laws.specs.Apart.{IsIn}
+use Rattle.plan_model.specs.Packs.{Message, PartFields, alone, parts_of, same_symbol, size_of, takes, with_part}
+use Rattle.plan_model.specs.Streams.{section_size}
+use Rattle.schedule_laws.proofs.ListLemmas.{at_in, in_all}
+use Rattle.unit_model.specs.ProperJobs.{IsProperJob}
+use Rattle.unit_model.specs.declared.jobs.UplinkJob.{UplinkJob}
+use Rattle.uplink_model.specs.Messages.{job_fields, messages_behind, uplink_messages_of, takes_job}
+use Rattle.window_config.specs.Endpoints.{IsEndpoint}
+use Rattle.window_config.specs.declared.config.Config.{Config}
+use Rattle.window_config.specs.declared.endpoints.EndpointConfig.{EndpointConfig}
+use Rattle.plan_model.proofs.SizeLemmas.{alone_few, section_few}
+use Rattle.ecpri_fragments.specs.declared.place.TheConstants.{MESSAGE_BYTES}
 
 -- ---- a section alone
 

@@ -3,16 +3,16 @@
 use Rattle.std.specs.Prelude.{ℤ, ◌+ℤ◌, List, ◌++◌, filter, map}
 use Rattle.std.specs.List.{flat_map}
 use Rattle.std.specs.Ordering.{int_eq}
-use Rattle.document_delays.specs.air_source.specs.declared.events.Side.{Side}
-use Rattle.document_delays.specs.delay_laws.specs.Ticks.{Flight}
+use Rattle.air_source.specs.declared.events.Side.{Side}
+use Rattle.delay_laws.specs.Ticks.{Flight}
 use Rattle.document_traffic.specs.Landing.{all_delayed, copies_among, injected_to}
 use Rattle.document_traffic.specs.Sending.{Delayed}
-use Rattle.document_delays.specs.fh_document.specs.declared.document.Document.{Document}
-use Rattle.uplink_turns.specs.unit_model.specs.Lists.{each_tick}
-use Rattle.uplink_turns.specs.unit_model.specs.Meetings.{Arrival}
-use Rattle.uplink_turns.specs.unit_model.specs.Radiated.{first_clock}
+use Rattle.fh_document.specs.declared.document.Document.{Document}
+use Rattle.unit_model.specs.Lists.{each_tick}
+use Rattle.unit_model.specs.Meetings.{Arrival}
+use Rattle.unit_model.specs.Radiated.{first_clock}
 use Rattle.measured_traffic.specs.Measured.{delay_frame, exchanges, flights_then}
-use Rattle.uplink_turns.specs.unit_model.specs.Times.{tick_count}
+use Rattle.unit_model.specs.Times.{tick_count}
 
 -- a copy of a frame of delay measurement, so many ticks after it left
 abbrev pub flight_copy : Flight → ℤ → Arrival

@@ -3,29 +3,29 @@ use Rattle.std.proofs.Common.{◌≡◌, ℕ, zero, suc, ℤ, pos, ◌+◌, ◌+
 use Rattle.std.specs.Prelude.{filter, map}
 use Rattle.std.specs.List.{flat_map}
 use Rattle.std.proofs.lemmas.Bool.{cases_Bool}
-use Rattle.document_delays.specs.air_source.specs.Units.{same_side}
-use Rattle.document_delays.specs.air_source.specs.declared.events.Side.{Side}
-use Rattle.document_delays.specs.air_source.specs.declared.events.Side.TheVariants.{Ru, Du}
-use Rattle.document_delays.specs.delay_laws.proofs.Quiet.{before}
-use Rattle.document_delays.specs.delay_laws.specs.Ticks.{Begin, Hearing, Setting, State, arriving, begin_heard, came_heard, due, exchange_of, hearing, landing, state, told_all, told_one}
-use Rattle.document_delays.specs.delay_measure.specs.After.{Told, begins, comes, exchange_after, id_of}
-use Rattle.document_delays.specs.delay_measure.specs.Payload.{message_of}
-use Rattle.document_delays.specs.delay_measure.specs.declared.message.DelayMessage.{DelayMessage}
-use Rattle.document_delays.specs.fh_document.specs.declared.document.Document.{Document}
+use Rattle.air_source.specs.Units.{same_side}
+use Rattle.air_source.specs.declared.events.Side.{Side}
+use Rattle.air_source.specs.declared.events.Side.TheVariants.{Ru, Du}
+use Rattle.delay_laws.proofs.Quiet.{before}
+use Rattle.delay_laws.specs.Ticks.{Begin, Hearing, Setting, State, arriving, begin_heard, came_heard, due, exchange_of, hearing, landing, state, told_all, told_one}
+use Rattle.delay_measure.specs.After.{Told, begins, comes, exchange_after, id_of}
+use Rattle.delay_measure.specs.Payload.{message_of}
+use Rattle.delay_measure.specs.declared.message.DelayMessage.{DelayMessage}
+use Rattle.fh_document.specs.declared.document.Document.{Document}
 use Rattle.document_traffic.specs.Laws.{IsReplayable}
 use Rattle.ecpri_frames.specs.Gathering.{whole_messages}
 use Rattle.ecpri_frames.specs.Messages.{Message}
 use Rattle.fault_counters.specs.Counts.{capped, once, times}
 use Rattle.fault_counters.specs.declared.kinds.Counter.{Counter}
 use Rattle.fault_counters.specs.declared.kinds.Counter.TheVariants.{DelayShort}
-use Rattle.uplink_turns.specs.replay_events.proofs.CameLemmas.{next_first, none_first}
-use Rattle.uplink_turns.specs.replay_events.specs.Events.{all_counted, is_measured, number_of}
-use Rattle.uplink_turns.specs.replay_events.specs.Moments.{all_arrivals, arrivals_in, landing_at}
-use Rattle.uplink_turns.specs.unit_model.proofs.CountLemmas.{times-append}
-use Rattle.uplink_turns.specs.unit_model.specs.Lists.{onto}
-use Rattle.uplink_turns.specs.unit_model.specs.Meetings.{Arrival}
-use Rattle.uplink_turns.specs.unit_model.specs.Radiated.{first_clock}
-use Rattle.uplink_turns.specs.unit_model.specs.Times.{tick_count}
+use Rattle.replay_events.proofs.CameLemmas.{next_first, none_first}
+use Rattle.replay_events.specs.Events.{all_counted, is_measured, number_of}
+use Rattle.replay_events.specs.Moments.{all_arrivals, arrivals_in, landing_at}
+use Rattle.unit_model.proofs.CountLemmas.{times-append}
+use Rattle.unit_model.specs.Lists.{onto}
+use Rattle.unit_model.specs.Meetings.{Arrival}
+use Rattle.unit_model.specs.Radiated.{first_clock}
+use Rattle.unit_model.specs.Times.{tick_count}
 use Rattle.measured_traffic.proofs.SideLemmas.{all_told, begins_told, cleared, follows_one, frames_told, messages_of, others_pass, either_told}
 use Rattle.measured_traffic.proofs.TurnLemmas.{after_is, comes_as_told, comes_in, doings_next, doings_zero, heard_next, nothing_heard, own, side_in}
 use Rattle.measured_traffic.specs.Doings.{Doings, counted_then, forgotten, told_in, with_begins, with_frame, with_frames, with_message, with_messages}

@@ -6,32 +6,32 @@ use Rattle.std.specs.Int.{int_gap}
 use Rattle.std.specs.Option.{option_to_list}
 use Rattle.std.proofs.lemmas.Int.{by_lt_z, ints}
 use Rattle.std.proofs.lemmas.List.Elements.{All-append, All-cons, All-contains, All-head, All-nil, All-tail, All-weaker}
-use Rattle.document_delays.specs.air_source.specs.declared.events.Event.{Event}
-use Rattle.document_delays.specs.air_source.specs.declared.events.Event.TheVariants.{Cell, Delay, Arrival as ArrivalTold, Count}
-use Rattle.document_delays.specs.air_source.specs.declared.events.Side.{Side}
-use Rattle.document_delays.specs.air_source.specs.declared.events.Side.TheVariants.{Ru, Du}
-use Rattle.document_delays.specs.delay_laws.proofs.Knowing.{known_grows}
-use Rattle.document_delays.specs.delay_laws.proofs.Quiet.{before}
-use Rattle.document_delays.specs.delay_laws.specs.Known.{delay_event, known, known_then, known_while}
-use Rattle.document_delays.specs.delay_laws.specs.Measured.{IsMeasured, IsMeasuredExactly}
-use Rattle.document_delays.specs.delay_laws.specs.Nodes.{Heard, delay_then, time_of}
-use Rattle.document_delays.specs.delay_laws.specs.Ticks.{Hearing, Setting, State, arriving, begin_heard, came_heard, due, exchange_of, hearing, landing, state, told_all}
-use Rattle.document_delays.specs.delay_measure.specs.After.{id_of}
-use Rattle.document_delays.specs.delay_measure.specs.declared.message.DelayMessage.{DelayMessage}
+use Rattle.air_source.specs.declared.events.Event.{Event}
+use Rattle.air_source.specs.declared.events.Event.TheVariants.{Cell, Delay, Arrival as ArrivalTold, Count}
+use Rattle.air_source.specs.declared.events.Side.{Side}
+use Rattle.air_source.specs.declared.events.Side.TheVariants.{Ru, Du}
+use Rattle.delay_laws.proofs.Knowing.{known_grows}
+use Rattle.delay_laws.proofs.Quiet.{before}
+use Rattle.delay_laws.specs.Known.{delay_event, known, known_then, known_while}
+use Rattle.delay_laws.specs.Measured.{IsMeasured, IsMeasuredExactly}
+use Rattle.delay_laws.specs.Nodes.{Heard, delay_then, time_of}
+use Rattle.delay_laws.specs.Ticks.{Hearing, Setting, State, arriving, begin_heard, came_heard, due, exchange_of, hearing, landing, state, told_all}
+use Rattle.delay_measure.specs.After.{id_of}
+use Rattle.delay_measure.specs.declared.message.DelayMessage.{DelayMessage}
 use Rattle.document_delays.proofs.Documents.{document_delays, document_exact}
 use Rattle.document_delays.specs.Settings.{no_others, setting_of}
 use Rattle.document_traffic.specs.Laws.{IsReplayable}
-use Rattle.document_delays.specs.fh_document.specs.declared.document.Document.{Document}
-use Rattle.uplink_turns.specs.replay_events.proofs.EndLemmas.{lands_by_end}
-use Rattle.uplink_turns.specs.replay_events.specs.Events.{events}
-use Rattle.uplink_turns.specs.replay_events.specs.Moments.{end_of_time, landing_at}
-use Rattle.uplink_turns.specs.replay_events.specs.declared.results.DelayResult.{DelayResult}
-use Rattle.document_traffic.specs.replay_laws.proofs.DelayLemmas.{delays_are_results}
-use Rattle.document_traffic.specs.replay_laws.specs.Delays.{IsAmong, IsResult}
-use Rattle.uplink_turns.specs.unit_model.proofs.SweepLaws.{gap_is, gap_parts}
-use Rattle.uplink_turns.specs.unit_model.specs.Meetings.{Arrival}
-use Rattle.uplink_turns.specs.unit_model.specs.Radiated.{first_clock}
-use Rattle.uplink_turns.specs.replay_events.specs.history_laws.proofs.AddedLemmas.{in_front}
+use Rattle.fh_document.specs.declared.document.Document.{Document}
+use Rattle.replay_events.proofs.EndLemmas.{lands_by_end}
+use Rattle.replay_events.specs.Events.{events}
+use Rattle.replay_events.specs.Moments.{end_of_time, landing_at}
+use Rattle.replay_events.specs.declared.results.DelayResult.{DelayResult}
+use Rattle.replay_laws.proofs.DelayLemmas.{delays_are_results}
+use Rattle.replay_laws.specs.Delays.{IsAmong, IsResult}
+use Rattle.unit_model.proofs.SweepLaws.{gap_is, gap_parts}
+use Rattle.unit_model.specs.Meetings.{Arrival}
+use Rattle.unit_model.specs.Radiated.{first_clock}
+use Rattle.history_laws.proofs.AddedLemmas.{in_front}
 use Rattle.measured_traffic.proofs.QuietLemmas as quiet
 use Rattle.measured_traffic.proofs.ReplayedLemmas.{landings_are_replayed}
 use Rattle.measured_traffic.proofs.SideLemmas.{all_told, begins_told, messages_of, others_pass, results_known, frames_told}
@@ -43,8 +43,8 @@ use Rattle.measured_traffic.specs.Replayed.{begun, doings_in, landings_for, resu
 use Rattle.measured_traffic.specs.Sides.{IsSideOf, known_as}
 use Rattle.measured_traffic.proofs.FlightLemmas.{none_at}
 use Rattle.fh_time.proofs.Orders.{within_next}
-use Rattle.document_delays.specs.air_source.specs.Units.{same_side}
-use Rattle.uplink_turns.specs.unit_model.specs.Times.{tick_count}
+use Rattle.air_source.specs.Units.{same_side}
+use Rattle.unit_model.specs.Times.{tick_count}
 
 -- ---- parts of lists
 

@@ -5,26 +5,26 @@ use Rattle.std.specs.List.{flat_map}
 use Rattle.std.specs.Option.{option_to_list}
 use Rattle.std.proofs.lemmas.Int.{ints}
 use Rattle.std.proofs.lemmas.List.Elements.{All-append, All-cons, All-map, All-nil}
-use Rattle.document_delays.specs.air_source.specs.declared.events.Side.{Side}
-use Rattle.document_delays.specs.air_source.specs.declared.events.Side.TheVariants.{Ru, Du}
+use Rattle.air_source.specs.declared.events.Side.{Side}
+use Rattle.air_source.specs.declared.events.Side.TheVariants.{Ru, Du}
 use Rattle.bit_fields.proofs.Field.{field_fits}
-use Rattle.document_delays.specs.delay_laws.proofs.Keeping.{all_kept}
-use Rattle.document_delays.specs.delay_laws.specs.Ticks.{Begin, Setting}
-use Rattle.document_delays.specs.delay_measure.specs.Payload.{message_of}
-use Rattle.document_delays.specs.delay_measure.specs.declared.message.DelayMessage.{DelayMessage}
+use Rattle.delay_laws.proofs.Keeping.{all_kept}
+use Rattle.delay_laws.specs.Ticks.{Begin, Setting}
+use Rattle.delay_measure.specs.Payload.{message_of}
+use Rattle.delay_measure.specs.declared.message.DelayMessage.{DelayMessage}
 use Rattle.document_delays.specs.Settings.{begin_of, compensation_of, setting_of}
 use Rattle.document_traffic.proofs.WidthLemmas.{widths_are}
 use Rattle.document_traffic.specs.Landing.{injected_to}
 use Rattle.ecpri_frames.specs.Gathering.{whole_messages}
 use Rattle.ecpri_frames.specs.Messages.{Message}
-use Rattle.document_delays.specs.fh_document.specs.Proper.{AreComps}
-use Rattle.document_delays.specs.fh_document.specs.declared.document.Document.{Document}
-use Rattle.uplink_turns.specs.replay_events.specs.Moments.{landing_at}
-use Rattle.uplink_turns.specs.unit_model.proofs.SweepLaws.{gap_is}
-use Rattle.uplink_turns.specs.unit_model.specs.Meetings.{Arrival}
-use Rattle.uplink_turns.specs.unit_model.specs.Radiated.{first_clock}
-use Rattle.uplink_turns.specs.unit_model.specs.Times.{end_of_time, tick_count}
-use Rattle.uplink_turns.specs.replay_events.specs.history_laws.proofs.TickLemmas.{clock_begins}
+use Rattle.fh_document.specs.Proper.{AreComps}
+use Rattle.fh_document.specs.declared.document.Document.{Document}
+use Rattle.replay_events.specs.Moments.{landing_at}
+use Rattle.unit_model.proofs.SweepLaws.{gap_is}
+use Rattle.unit_model.specs.Meetings.{Arrival}
+use Rattle.unit_model.specs.Radiated.{first_clock}
+use Rattle.unit_model.specs.Times.{end_of_time, tick_count}
+use Rattle.history_laws.proofs.TickLemmas.{clock_begins}
 use Rattle.measured_traffic.proofs.MadeLemmas.{IsIdHeard, IsIdSent, ids_kept, sent_fits}
 use Rattle.measured_traffic.proofs.PlainLemmas.{delayed_plain}
 use Rattle.measured_traffic.proofs.StampLemmas.{AreStamps, receiving_fits, sending_fits}

@@ -5,33 +5,33 @@ use Rattle.std.specs.Int.{int_gap}
 use Rattle.std.specs.List.{flat_map}
 use Rattle.std.proofs.lemmas.Int.{ints}
 use Rattle.std.proofs.lemmas.List.Elements.{All-head, All-tail, filter-append}
-use Rattle.document_delays.specs.air_source.specs.Units.{same_side}
-use Rattle.document_delays.specs.air_source.specs.declared.events.AirCell.{AirCell}
-use Rattle.document_delays.specs.air_source.specs.declared.events.Event.{Event}
-use Rattle.document_delays.specs.air_source.specs.declared.events.Event.TheVariants.{Cell, Count}
-use Rattle.document_delays.specs.air_source.specs.declared.events.Side.{Side}
-use Rattle.document_delays.specs.air_source.specs.declared.events.Side.TheVariants.{Ru, Du}
-use Rattle.document_delays.specs.delay_laws.proofs.Knowing.{known_grows}
-use Rattle.document_delays.specs.delay_laws.proofs.Quiet.{before}
-use Rattle.document_delays.specs.delay_laws.specs.Known.{known, known_while}
-use Rattle.document_delays.specs.delay_laws.specs.Ticks.{Begin, Hearing, Setting, State, arriving, begin_heard, came_heard, due, hearing, landing, state, told_all, told_one}
-use Rattle.document_delays.specs.delay_measure.specs.declared.message.DelayMessage.{DelayMessage}
-use Rattle.document_delays.specs.fh_document.specs.declared.document.Document.{Document}
+use Rattle.air_source.specs.Units.{same_side}
+use Rattle.air_source.specs.declared.events.AirCell.{AirCell}
+use Rattle.air_source.specs.declared.events.Event.{Event}
+use Rattle.air_source.specs.declared.events.Event.TheVariants.{Cell, Count}
+use Rattle.air_source.specs.declared.events.Side.{Side}
+use Rattle.air_source.specs.declared.events.Side.TheVariants.{Ru, Du}
+use Rattle.delay_laws.proofs.Knowing.{known_grows}
+use Rattle.delay_laws.proofs.Quiet.{before}
+use Rattle.delay_laws.specs.Known.{known, known_while}
+use Rattle.delay_laws.specs.Ticks.{Begin, Hearing, Setting, State, arriving, begin_heard, came_heard, due, hearing, landing, state, told_all, told_one}
+use Rattle.delay_measure.specs.declared.message.DelayMessage.{DelayMessage}
+use Rattle.fh_document.specs.declared.document.Document.{Document}
 use Rattle.document_traffic.specs.Laws.{IsReplayable}
 use Rattle.fault_counters.specs.Names.{all_counters}
 use Rattle.fault_counters.specs.declared.kinds.Counter.{Counter}
-use Rattle.uplink_turns.specs.replay_events.proofs.CameLemmas.{landed_then}
-use Rattle.uplink_turns.specs.replay_events.proofs.ToldLemmas.{none_told, told_next}
-use Rattle.uplink_turns.specs.replay_events.specs.Events.{arrival_told, arrivals_at, arrivals_told, cells_reported_at, count_event, count_events, events, events_at, number_of, result_event}
-use Rattle.uplink_turns.specs.replay_events.specs.Moments.{landing_at}
-use Rattle.uplink_turns.specs.replay_events.specs.Traffic.{Traffic}
-use Rattle.uplink_turns.specs.replay_events.specs.declared.results.DelayResult.{DelayResult}
-use Rattle.uplink_turns.specs.unit_model.proofs.SweepLaws.{gap_is, ticks_split}
-use Rattle.uplink_turns.specs.unit_model.specs.Lists.{each_tick}
-use Rattle.uplink_turns.specs.unit_model.specs.Meetings.{Arrival}
-use Rattle.uplink_turns.specs.unit_model.specs.Radiated.{first_clock}
-use Rattle.uplink_turns.specs.unit_model.specs.Times.{tick_count}
-use Rattle.document_delays.specs.window_config.specs.declared.config.Config.{Config}
+use Rattle.replay_events.proofs.CameLemmas.{landed_then}
+use Rattle.replay_events.proofs.ToldLemmas.{none_told, told_next}
+use Rattle.replay_events.specs.Events.{arrival_told, arrivals_at, arrivals_told, cells_reported_at, count_event, count_events, events, events_at, number_of, result_event}
+use Rattle.replay_events.specs.Moments.{landing_at}
+use Rattle.replay_events.specs.Traffic.{Traffic}
+use Rattle.replay_events.specs.declared.results.DelayResult.{DelayResult}
+use Rattle.unit_model.proofs.SweepLaws.{gap_is, ticks_split}
+use Rattle.unit_model.specs.Lists.{each_tick}
+use Rattle.unit_model.specs.Meetings.{Arrival}
+use Rattle.unit_model.specs.Radiated.{first_clock}
+use Rattle.unit_model.specs.Times.{tick_count}
+use Rattle.window_config.specs.declared.config.Config.{Config}
 use Rattle.measured_traffic.proofs.SideLemmas.{all_known, begins_told, frames_told, messages_of, others_pass, results_known}
 use Rattle.measured_traffic.proofs.TurnLemmas.{comes_as_told, comes_in, heard_next, nothing_heard, own, side_in}
 use Rattle.measured_traffic.specs.Doings.{Doings, results_of, with_begins, with_frame}

@@ -7,33 +7,33 @@ use Rattle.std.proofs.lemmas.Bool.{cases_Bool}
 use Rattle.std.proofs.lemmas.Bool.Decides.{Decides-int_eq}
 use Rattle.std.proofs.lemmas.Int.{by_lt_z, ints}
 use Rattle.std.proofs.lemmas.List.Elements.{All-filter, All-head, All-map, All-nil, All-tail, All-weaker}
-use Rattle.document_delays.specs.air_source.specs.declared.events.Side.{Side}
-use Rattle.document_delays.specs.delay_laws.proofs.Keeping.{IsKept, Keeps, all_kept}
-use Rattle.document_delays.specs.delay_laws.specs.Nodes.{Heard, time_of}
-use Rattle.document_delays.specs.delay_laws.specs.Ticks.{Begin, Flight, came_heard, copies_at, landing}
-use Rattle.document_delays.specs.delay_measure.specs.declared.message.DelayMessage.{DelayMessage}
+use Rattle.air_source.specs.declared.events.Side.{Side}
+use Rattle.delay_laws.proofs.Keeping.{IsKept, Keeps, all_kept}
+use Rattle.delay_laws.specs.Nodes.{Heard, time_of}
+use Rattle.delay_laws.specs.Ticks.{Begin, Flight, came_heard, copies_at, landing}
+use Rattle.delay_measure.specs.declared.message.DelayMessage.{DelayMessage}
 use Rattle.document_delays.proofs.Documents.{document_ends}
 use Rattle.document_delays.specs.Settings.{begin_of, setting_of, ways_of}
 use Rattle.document_traffic.specs.Landing.{injected_at, injected_to, is_to}
-use Rattle.document_delays.specs.fh_document.specs.Proper.{IsDocument, IsFrom, IsInjection, IsMeasure}
-use Rattle.document_delays.specs.fh_document.specs.declared.delivered.TrafficClass.TheVariants.{M}
-use Rattle.document_delays.specs.fh_document.specs.declared.document.Document.{Document}
-use Rattle.document_delays.specs.fh_document.specs.declared.document.Injection.{Injection}
-use Rattle.document_delays.specs.fh_document.specs.declared.document.Measure.{Measure}
-use Rattle.uplink_turns.specs.fragment_laws.specs.Apart.{IsIn}
-use Rattle.document_delays.specs.frame_deliveries.proofs.Within.{copies_within}
-use Rattle.document_delays.specs.frame_deliveries.specs.Copies.{copies_of}
-use Rattle.uplink_turns.specs.replay_events.specs.Moments.{landing_at}
-use Rattle.uplink_turns.specs.schedule_laws.proofs.ListLemmas.{in_all}
-use Rattle.uplink_turns.specs.unit_model.specs.Meetings.{Arrival}
-use Rattle.uplink_turns.specs.unit_model.specs.Radiated.{first_clock}
-use Rattle.document_delays.specs.window_config.specs.Windows.{ticks_of_ns}
-use Rattle.uplink_turns.specs.replay_events.specs.history_laws.proofs.ListLemmas.{front_empty, back_empty}
+use Rattle.fh_document.specs.Proper.{IsDocument, IsFrom, IsInjection, IsMeasure}
+use Rattle.fh_document.specs.declared.delivered.TrafficClass.TheVariants.{M}
+use Rattle.fh_document.specs.declared.document.Document.{Document}
+use Rattle.fh_document.specs.declared.document.Injection.{Injection}
+use Rattle.fh_document.specs.declared.document.Measure.{Measure}
+use Rattle.fragment_laws.specs.Apart.{IsIn}
+use Rattle.frame_deliveries.proofs.Within.{copies_within}
+use Rattle.frame_deliveries.specs.Copies.{copies_of}
+use Rattle.replay_events.specs.Moments.{landing_at}
+use Rattle.schedule_laws.proofs.ListLemmas.{in_all}
+use Rattle.unit_model.specs.Meetings.{Arrival}
+use Rattle.unit_model.specs.Radiated.{first_clock}
+use Rattle.window_config.specs.Windows.{ticks_of_ns}
+use Rattle.history_laws.proofs.ListLemmas.{front_empty, back_empty}
 use Rattle.measured_traffic.specs.Measured.{delay_messages, exchanges, others_of}
 use Rattle.fh_time.specs.declared.nanoseconds.TheConstants.{LAST_TIME, NANOSECOND}
-use Rattle.document_delays.specs.fh_document.specs.declared.config_lines.TheConstants.{MOST_TRANSIT}
+use Rattle.fh_document.specs.declared.config_lines.TheConstants.{MOST_TRANSIT}
 use Rattle.fh_time.proofs.Orders.{lasts as later, not_eq}
-use Rattle.uplink_turns.specs.unit_model.specs.Times.{tick_count}
+use Rattle.unit_model.specs.Times.{tick_count}
 
 -- ---- at a tick at which nothing lands no copy does
 

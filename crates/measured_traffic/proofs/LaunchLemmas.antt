@@ -6,11 +6,11 @@ use Rattle.std.proofs.lemmas.Bool.{cases_Bool}
 use Rattle.std.proofs.lemmas.Bool.Decides.{Decides-int_eq}
 use Rattle.std.proofs.lemmas.Int.{ints}
 use Rattle.std.proofs.lemmas.List.Elements.{All-cons, All-head, All-nil, All-tail, filter-append}
-use Rattle.document_delays.specs.air_source.specs.declared.events.Side.{Side}
-use Rattle.document_delays.specs.delay_laws.specs.Ticks.{Flight, Setting, after_tick, flight, hearing, launched, state}
-use Rattle.document_delays.specs.delay_measure.specs.declared.message.DelayMessage.{DelayMessage}
+use Rattle.air_source.specs.declared.events.Side.{Side}
+use Rattle.delay_laws.specs.Ticks.{Flight, Setting, after_tick, flight, hearing, launched, state}
+use Rattle.delay_measure.specs.declared.message.DelayMessage.{DelayMessage}
 use Rattle.measured_traffic.specs.Measured.{flights_then}
-use Rattle.document_delays.specs.air_source.specs.Units.{other}
+use Rattle.air_source.specs.Units.{other}
 
 -- frames of these messages, launched at a tick
 pub record AreLaunched (t : ℤ) (ms : List DelayMessage) (fs : List Flight) : Type 0 where

@@ -6,36 +6,36 @@ use Rattle.std.specs.Ordering.{int_eq}
 use Rattle.std.proofs.lemmas.Int.{ints}
 use Rattle.std.proofs.lemmas.List.Elements.{All-map, All-weaker}
 use Rattle.std.specs.Int.Signed.{<ℤ-≤ℤ_trans}
-use Rattle.document_delays.specs.air_source.specs.declared.events.Side.{Side}
-use Rattle.document_delays.specs.air_source.specs.declared.events.Side.TheVariants.{Ru}
-use Rattle.document_delays.specs.delay_laws.specs.Ticks.{Flight}
-use Rattle.document_delays.specs.delay_measure.specs.declared.message.DelayMessage.{DelayMessage}
+use Rattle.air_source.specs.declared.events.Side.{Side}
+use Rattle.air_source.specs.declared.events.Side.TheVariants.{Ru}
+use Rattle.delay_laws.specs.Ticks.{Flight}
+use Rattle.delay_measure.specs.declared.message.DelayMessage.{DelayMessage}
 use Rattle.document_traffic.proofs.ShortLemmas.{are_short}
 use Rattle.document_traffic.specs.Landing.{antenna_for, copy_at, leaving_answer, leaving_to}
 use Rattle.document_traffic.specs.Laws.{IsReplayable}
 use Rattle.document_traffic.specs.Sending.{Leaving, count_of}
-use Rattle.document_delays.specs.fh_document.specs.DeliverLines.{least_of}
-use Rattle.document_delays.specs.fh_document.specs.Proper.{IsFrom}
-use Rattle.document_delays.specs.fh_document.specs.declared.delivered.TrafficClass.{TrafficClass}
-use Rattle.document_delays.specs.fh_document.specs.declared.delivered.TrafficClass.TheVariants.{M}
-use Rattle.document_delays.specs.fh_document.specs.declared.document.Document.{Document}
-use Rattle.uplink_turns.specs.fragment_laws.specs.Apart.{IsIn}
-use Rattle.uplink_turns.specs.frame_bytes.proofs.Fields.{length-in_bytes}
-use Rattle.uplink_turns.specs.frame_bytes.specs.Spelled.{in_bytes}
-use Rattle.document_delays.specs.frame_deliveries.proofs.Within.{copies_within}
-use Rattle.document_delays.specs.frame_deliveries.specs.Copies.{copies_of}
-use Rattle.uplink_turns.specs.replay_events.proofs.TickLemmas.{no_ticks, ticks_append}
-use Rattle.uplink_turns.specs.schedule_laws.proofs.ListLemmas.{in_all, of_map, of_tick}
-use Rattle.uplink_turns.specs.unit_model.proofs.SweepLaws.{gap_is}
-use Rattle.uplink_turns.specs.unit_model.specs.Lists.{each_tick}
-use Rattle.uplink_turns.specs.unit_model.specs.Radiated.{first_clock}
-use Rattle.uplink_turns.specs.unit_model.specs.Times.{end_of_time, tick_count}
-use Rattle.uplink_turns.specs.unit_model.specs.declared.jobs.UplinkJob.{UplinkJob}
-use Rattle.document_traffic.specs.uplink_laws.specs.Premise.{frames_of}
-use Rattle.uplink_turns.specs.uplink_model.specs.Sent.{in_sent_order}
+use Rattle.fh_document.specs.DeliverLines.{least_of}
+use Rattle.fh_document.specs.Proper.{IsFrom}
+use Rattle.fh_document.specs.declared.delivered.TrafficClass.{TrafficClass}
+use Rattle.fh_document.specs.declared.delivered.TrafficClass.TheVariants.{M}
+use Rattle.fh_document.specs.declared.document.Document.{Document}
+use Rattle.fragment_laws.specs.Apart.{IsIn}
+use Rattle.frame_bytes.proofs.Fields.{length-in_bytes}
+use Rattle.frame_bytes.specs.Spelled.{in_bytes}
+use Rattle.frame_deliveries.proofs.Within.{copies_within}
+use Rattle.frame_deliveries.specs.Copies.{copies_of}
+use Rattle.replay_events.proofs.TickLemmas.{no_ticks, ticks_append}
+use Rattle.schedule_laws.proofs.ListLemmas.{in_all, of_map, of_tick}
+use Rattle.unit_model.proofs.SweepLaws.{gap_is}
+use Rattle.unit_model.specs.Lists.{each_tick}
+use Rattle.unit_model.specs.Radiated.{first_clock}
+use Rattle.unit_model.specs.Times.{end_of_time, tick_count}
+use Rattle.unit_model.specs.declared.jobs.UplinkJob.{UplinkJob}
+use Rattle.uplink_laws.specs.Premise.{frames_of}
+use Rattle.uplink_model.specs.Sent.{in_sent_order}
 use Rattle.uplink_turns.proofs.LeavingLemmas.{left_is_all}
-use Rattle.document_delays.specs.window_config.specs.Windows.{ticks_of_ns}
-use Rattle.uplink_turns.specs.plan_model.proofs.ListLemmas.{in_either, of_filter, all_of}
+use Rattle.window_config.specs.Windows.{ticks_of_ns}
+use Rattle.plan_model.proofs.ListLemmas.{in_either, of_filter, all_of}
 use Rattle.delay_model.proofs.FrameLemmas.{payload_long, payload_of}
 use Rattle.measured_traffic.proofs.ListLemmas.{at_key, none_then}
 use Rattle.measured_traffic.proofs.MergeLemmas.{first_merged}
@@ -43,7 +43,7 @@ use Rattle.measured_traffic.proofs.SentLemmas.{messages_are_owed}
 use Rattle.measured_traffic.specs.Measured.{delay_frame, exchanges, flights_then, header_fields}
 use Rattle.measured_traffic.specs.Replayed.{all_leaving, landings_for, leaving_flight, leaving_from, leaving_then}
 use Rattle.measured_traffic.specs.Turns.{AllAreShort, FirstLeaves, LeavingWaits, MeasuredLandLater, MeasuredLeave, UplinkLeavesInTurn}
-use Rattle.document_delays.specs.fh_document.specs.declared.config_lines.TheConstants.{MOST_TRANSIT}
+use Rattle.fh_document.specs.declared.config_lines.TheConstants.{MOST_TRANSIT}
 use Rattle.fh_time.proofs.Orders.{next_later as next_most, beyond_next as after_next, next_order}
 
 -- ---- tick by tick

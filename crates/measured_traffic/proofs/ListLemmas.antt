@@ -8,11 +8,11 @@ use Rattle.std.proofs.lemmas.Bool.Decides.{Decides-int_eq}
 use Rattle.std.proofs.lemmas.Int.{ints}
 use Rattle.std.proofs.lemmas.List.Concat.{flat_map-append}
 use Rattle.std.proofs.lemmas.List.Elements.{filter-append}
-use Rattle.uplink_turns.specs.fragment_laws.specs.Apart.{IsIn}
-use Rattle.uplink_turns.specs.schedule_laws.proofs.OrderLemmas.{IsRising}
-use Rattle.uplink_turns.specs.unit_model.specs.Lists.{each_tick, onto}
-use Rattle.uplink_turns.specs.plan_model.proofs.ListLemmas.{in_either}
-use Rattle.uplink_turns.specs.plan_model.proofs.TickLemmas.{next_tick}
+use Rattle.fragment_laws.specs.Apart.{IsIn}
+use Rattle.schedule_laws.proofs.OrderLemmas.{IsRising}
+use Rattle.unit_model.specs.Lists.{each_tick, onto}
+use Rattle.plan_model.proofs.ListLemmas.{in_either}
+use Rattle.plan_model.proofs.TickLemmas.{next_tick}
 use Rattle.fh_time.proofs.Orders.{not_eq}
 
 -- ---- filters

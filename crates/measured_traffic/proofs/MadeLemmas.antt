@@ -2,17 +2,17 @@
 use Rattle.std.proofs.Common.{◌≡◌, ℕ, zero, suc, ℤ, pos, ◌+ℤ◌, ◌<◌, ◌^◌, if◌then◌else◌, List, [], ◌∷◌, ◌++◌, length, sym, subst, arith}
 use Rattle.std.specs.Prelude.{All, map}
 use Rattle.std.proofs.lemmas.List.Elements.{All-append, All-cons, All-head, All-map, All-nil, All-push, All-tail, All-weaker}
-use Rattle.document_delays.specs.air_source.specs.declared.events.Side.{Side}
-use Rattle.document_delays.specs.air_source.specs.declared.events.Side.TheVariants.{Ru, Du}
-use Rattle.document_delays.specs.delay_laws.proofs.Keeping.{Keeps}
-use Rattle.document_delays.specs.delay_laws.proofs.Sending.{sent_named}
-use Rattle.document_delays.specs.delay_laws.proofs.Ticking.{due_now}
-use Rattle.document_delays.specs.delay_laws.specs.Nodes.{Heard, sent_then, time_of, told_to}
-use Rattle.document_delays.specs.delay_laws.specs.Ticks.{Begin, Flight, Hearing, Setting, State, after_tick, answers, arriving, begin_heard, came_heard, due, exchange_of, flight, hearing, landing, launched, state, told_all, told_one}
-use Rattle.document_delays.specs.delay_measure.specs.After.{Told, id_of}
-use Rattle.document_delays.specs.delay_measure.specs.declared.message.DelayMessage.{DelayMessage}
+use Rattle.air_source.specs.declared.events.Side.{Side}
+use Rattle.air_source.specs.declared.events.Side.TheVariants.{Ru, Du}
+use Rattle.delay_laws.proofs.Keeping.{Keeps}
+use Rattle.delay_laws.proofs.Sending.{sent_named}
+use Rattle.delay_laws.proofs.Ticking.{due_now}
+use Rattle.delay_laws.specs.Nodes.{Heard, sent_then, time_of, told_to}
+use Rattle.delay_laws.specs.Ticks.{Begin, Flight, Hearing, Setting, State, after_tick, answers, arriving, begin_heard, came_heard, due, exchange_of, flight, hearing, landing, launched, state, told_all, told_one}
+use Rattle.delay_measure.specs.After.{Told, id_of}
+use Rattle.delay_measure.specs.declared.message.DelayMessage.{DelayMessage}
 use Rattle.measured_traffic.proofs.StampLemmas.{AreStamps, FitsBesides, has_stamps, told_sends}
-use Rattle.document_delays.specs.air_source.specs.Units.{other, same_side}
+use Rattle.air_source.specs.Units.{other, same_side}
 
 -- ---- ids
 

@@ -2,10 +2,10 @@
 use Rattle.std.proofs.Common.{◌≡◌, ℕ, ℤ, pos, suc, ◌+ℤ◌, ◌≤ℤ◌, ◌<ℤ◌, inl, inr, List, [], ◌∷◌, ◌++◌, map, ap, ap₂, sym, ◌∙◌, arith}
 use Rattle.std.proofs.lemmas.Bool.Decides.{Decides-int_eq}
 use Rattle.std.proofs.lemmas.Int.{ints}
-use Rattle.uplink_turns.specs.fragment_laws.specs.Apart.{IsIn}
-use Rattle.uplink_turns.specs.schedule_laws.proofs.OrderLemmas.{IsRising}
-use Rattle.uplink_turns.specs.unit_model.specs.Lists.{each_tick}
-use Rattle.uplink_turns.specs.plan_model.proofs.TickLemmas.{ticks_same}
+use Rattle.fragment_laws.specs.Apart.{IsIn}
+use Rattle.schedule_laws.proofs.OrderLemmas.{IsRising}
+use Rattle.unit_model.specs.Lists.{each_tick}
+use Rattle.plan_model.proofs.TickLemmas.{ticks_same}
 use Rattle.measured_traffic.proofs.ListLemmas.{at_key, none_then, with_first, without}
 
 -- ---- ticks that are gone over

@@ -5,16 +5,16 @@ use Rattle.std.specs.List.{flat_map}
 use Rattle.std.specs.Ordering.{int_eq}
 use Rattle.std.proofs.lemmas.List.Concat.{flat_map-append}
 use Rattle.std.proofs.lemmas.List.Elements.{All-filter, All-head, All-tail, filter-append}
-use Rattle.document_delays.specs.delay_laws.specs.Ticks.{Flight, copies_at, landing}
-use Rattle.document_delays.specs.delay_measure.specs.declared.message.DelayMessage.{DelayMessage}
+use Rattle.delay_laws.specs.Ticks.{Flight, copies_at, landing}
+use Rattle.delay_measure.specs.declared.message.DelayMessage.{DelayMessage}
 use Rattle.document_delays.specs.Settings.{setting_of}
 use Rattle.document_traffic.specs.Landing.{all_delayed, copies_among, copies_in, copy_at, injected_to}
 use Rattle.document_traffic.specs.Sending.{Delayed}
-use Rattle.uplink_turns.specs.replay_events.specs.Moments.{landing_at}
-use Rattle.uplink_turns.specs.unit_model.specs.Lists.{each_tick}
-use Rattle.uplink_turns.specs.unit_model.specs.Meetings.{Arrival}
-use Rattle.uplink_turns.specs.unit_model.specs.Radiated.{first_clock}
-use Rattle.uplink_turns.specs.plan_model.proofs.TickLemmas.{ticks_same}
+use Rattle.replay_events.specs.Moments.{landing_at}
+use Rattle.unit_model.specs.Lists.{each_tick}
+use Rattle.unit_model.specs.Meetings.{Arrival}
+use Rattle.unit_model.specs.Radiated.{first_clock}
+use Rattle.plan_model.proofs.TickLemmas.{ticks_same}
 use Rattle.measured_traffic.proofs.FrameLemmas.{frames_are_read}
 use Rattle.measured_traffic.proofs.ListLemmas.{swept, ticks_flat}
 use Rattle.measured_traffic.specs.Laws.{IsDelayMessage, MessagesLand}
@@ -22,7 +22,7 @@ use Rattle.measured_traffic.proofs.AlikeLemmas.{lands_alike}
 use Rattle.measured_traffic.proofs.Apart.{all_sent, copies_flown, delayed_then, flight_copy, sent_then}
 use Rattle.measured_traffic.proofs.OrderLemmas.{AreInTicks, flights_in_ticks}
 use Rattle.measured_traffic.specs.Measured.{delay_frame, delay_messages, exchanges, flights_then, others_of}
-use Rattle.uplink_turns.specs.unit_model.specs.Times.{tick_count}
+use Rattle.unit_model.specs.Times.{tick_count}
 
 -- ---- the messages of what lands at a tick
 

@@ -1,9 +1,9 @@
 -- Exactly once of what lands without delay measurement is exactly once of what lands with it.
 use Rattle.std.proofs.Common.{◌≡◌, List, [], ◌∷◌, ap, sym, ◌∙◌, subst}
 use Rattle.std.specs.Prelude.{IsPermutation, filter, map}
-use Rattle.document_delays.specs.air_source.specs.declared.events.AirCell.{AirCell}
-use Rattle.document_delays.specs.air_source.specs.declared.events.Side.{Side}
-use Rattle.document_delays.specs.air_source.specs.declared.events.Side.TheVariants.{Ru, Du}
+use Rattle.air_source.specs.declared.events.AirCell.{AirCell}
+use Rattle.air_source.specs.declared.events.Side.{Side}
+use Rattle.air_source.specs.declared.events.Side.TheVariants.{Ru, Du}
 use Rattle.document_traffic.proofs.RadiatedLemmas.{radiates_once}
 use Rattle.document_traffic.proofs.TakenLemmas.{is_taken_in_once}
 use Rattle.document_traffic.proofs.WidthLemmas.{widths_are}
@@ -11,44 +11,44 @@ use Rattle.document_traffic.specs.Generations.{EachHoldsOneMessage}
 use Rattle.document_traffic.specs.Landing.{antenna_for, planned_traffic}
 use Rattle.document_traffic.specs.Sending.{lines_of, source_for}
 use Rattle.document_traffic.specs.Undisturbed.{answered_for, answers_for, blocks_for, messages_for, told_for}
-use Rattle.uplink_turns.specs.ecpri_fragments.specs.Generations.{Fragment}
-use Rattle.document_delays.specs.fh_document.specs.declared.document.Document.{Document}
-use Rattle.uplink_turns.specs.fragment_laws.specs.Apart.{AreApart, IsIn, of_message}
-use Rattle.uplink_turns.specs.fragment_laws.specs.Flow.{numbers_of, sent_at}
-use Rattle.uplink_turns.specs.fragment_laws.specs.Once.{AreTheSent, IsOnceWhole, answers, wholes}
-use Rattle.uplink_turns.specs.plan_model.specs.Streams.{part_in}
-use Rattle.uplink_turns.specs.plan_model.specs.declared.lines.PlannedLine.{PlannedLine}
-use Rattle.uplink_turns.specs.replay_events.specs.Moments.{all_arrivals, end_of_time}
-use Rattle.uplink_turns.specs.replay_events.specs.Traffic.{landings_at}
-use Rattle.document_traffic.specs.replay_laws.proofs.OnceLemmas.{cells_are_reported}
-use Rattle.uplink_turns.specs.schedule_laws.specs.Commands.{AreCommandedOnce, IsCommanded}
-use Rattle.uplink_turns.specs.schedule_laws.specs.Data.{AreDecodedOnce, Blocks, IsDataSent}
-use Rattle.uplink_turns.specs.schedule_laws.specs.Flows.{bounds_of, flow_of}
-use Rattle.uplink_turns.specs.schedule_laws.specs.Premise.{Texts}
-use Rattle.uplink_turns.specs.schedule_laws.specs.Singles.{event_of}
-use Rattle.document_traffic.specs.sent_laws.specs.Frames.{texts_of}
-use Rattle.uplink_turns.specs.unit_model.specs.Blocks.{block_at}
-use Rattle.uplink_turns.specs.unit_model.specs.Claims.{claim_at}
-use Rattle.uplink_turns.specs.unit_model.specs.Commands.{is_uplink as is_sent_up}
-use Rattle.uplink_turns.specs.unit_model.specs.Meetings.{Arrival}
-use Rattle.uplink_turns.specs.unit_model.specs.Standing.{same_cell}
-use Rattle.uplink_turns.specs.unit_model.specs.Uplink.{jobs}
-use Rattle.uplink_turns.specs.unit_model.specs.declared.allocations.Allocation.{Allocation}
-use Rattle.uplink_turns.specs.unit_model.specs.declared.decoded.ControlSection.{ControlSection}
-use Rattle.uplink_turns.specs.unit_model.specs.declared.decoded.UserSection.{UserSection}
-use Rattle.document_traffic.specs.uplink_laws.specs.Data.{AreUplinksDecodedOnce as AreAnswersDecodedOnce, IsUplinkDataSent as IsAnswerSent, antenna_blocks as answer_blocks_of, said_by}
-use Rattle.document_traffic.specs.uplink_laws.specs.Flows.{uplink_bounds_of as answer_bounds_of, uplink_flow_of as answer_flow_of, flow_start_at}
-use Rattle.document_traffic.specs.uplink_laws.specs.Jobs.{AreJobsOfPlan}
-use Rattle.document_traffic.specs.uplink_laws.specs.Singles.{uplink_event_of as taken_event_of}
-use Rattle.document_traffic.specs.uplink_laws.specs.Whole.{AreTakenOnce, IsTakenOnce}
-use Rattle.uplink_turns.specs.uplink_model.specs.Frames.{Antenna}
-use Rattle.document_delays.specs.window_config.specs.declared.config.Config.{Config}
+use Rattle.ecpri_fragments.specs.Generations.{Fragment}
+use Rattle.fh_document.specs.declared.document.Document.{Document}
+use Rattle.fragment_laws.specs.Apart.{AreApart, IsIn, of_message}
+use Rattle.fragment_laws.specs.Flow.{numbers_of, sent_at}
+use Rattle.fragment_laws.specs.Once.{AreTheSent, IsOnceWhole, answers, wholes}
+use Rattle.plan_model.specs.Streams.{part_in}
+use Rattle.plan_model.specs.declared.lines.PlannedLine.{PlannedLine}
+use Rattle.replay_events.specs.Moments.{all_arrivals, end_of_time}
+use Rattle.replay_events.specs.Traffic.{landings_at}
+use Rattle.replay_laws.proofs.OnceLemmas.{cells_are_reported}
+use Rattle.schedule_laws.specs.Commands.{AreCommandedOnce, IsCommanded}
+use Rattle.schedule_laws.specs.Data.{AreDecodedOnce, Blocks, IsDataSent}
+use Rattle.schedule_laws.specs.Flows.{bounds_of, flow_of}
+use Rattle.schedule_laws.specs.Premise.{Texts}
+use Rattle.schedule_laws.specs.Singles.{event_of}
+use Rattle.sent_laws.specs.Frames.{texts_of}
+use Rattle.unit_model.specs.Blocks.{block_at}
+use Rattle.unit_model.specs.Claims.{claim_at}
+use Rattle.unit_model.specs.Commands.{is_uplink as is_sent_up}
+use Rattle.unit_model.specs.Meetings.{Arrival}
+use Rattle.unit_model.specs.Standing.{same_cell}
+use Rattle.unit_model.specs.Uplink.{jobs}
+use Rattle.unit_model.specs.declared.allocations.Allocation.{Allocation}
+use Rattle.unit_model.specs.declared.decoded.ControlSection.{ControlSection}
+use Rattle.unit_model.specs.declared.decoded.UserSection.{UserSection}
+use Rattle.uplink_laws.specs.Data.{AreUplinksDecodedOnce as AreAnswersDecodedOnce, IsUplinkDataSent as IsAnswerSent, antenna_blocks as answer_blocks_of, said_by}
+use Rattle.uplink_laws.specs.Flows.{uplink_bounds_of as answer_bounds_of, uplink_flow_of as answer_flow_of, flow_start_at}
+use Rattle.uplink_laws.specs.Jobs.{AreJobsOfPlan}
+use Rattle.uplink_laws.specs.Singles.{uplink_event_of as taken_event_of}
+use Rattle.uplink_laws.specs.Whole.{AreTakenOnce, IsTakenOnce}
+use Rattle.uplink_model.specs.Frames.{Antenna}
+use Rattle.window_config.specs.declared.config.Config.{Config}
 use Rattle.measured_traffic.proofs.SentLemmas.{measurement_rests}
 use Rattle.measured_traffic.specs.Laws.{LeaveTheSame}
 use Rattle.measured_traffic.specs.Once.{ScheduleRadiatesOnce, UplinkIsTakenInOnce}
 use Rattle.measured_traffic.specs.Replayed.{landings_for, traffic_of}
-use Rattle.uplink_turns.specs.plan_model.specs.Lines.{uplink_allocations}
-use Rattle.uplink_turns.specs.ecpri_fragments.specs.Pieces.{joined}
+use Rattle.plan_model.specs.Lines.{uplink_allocations}
+use Rattle.ecpri_fragments.specs.Pieces.{joined}
 
 -- ---- what the radio unit makes of arrivals that leave it the same
 

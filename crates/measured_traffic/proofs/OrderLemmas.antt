@@ -2,29 +2,29 @@
 use Rattle.std.proofs.Common.{◌≡◌, ℕ, ℤ, pos, zero, suc, ◌+ℤ◌, ◌≤ℤ◌, ◌<ℤ◌, inl, inr, List, [], ◌∷◌, ◌++◌, length, refl, ap, sym, ◌∙◌, subst, arith}
 use Rattle.std.proofs.lemmas.Int.{ints}
 use Rattle.std.specs.Int.Signed.{≤ℤ_refl}
-use Rattle.document_delays.specs.air_source.specs.declared.events.Side.{Side}
-use Rattle.document_delays.specs.air_source.specs.declared.events.Side.TheVariants.{Ru, Du}
-use Rattle.document_delays.specs.air_source.specs.declared.links.LinkFrame.{LinkFrame}
-use Rattle.document_delays.specs.delay_laws.specs.Ticks.{Flight, Setting, after_tick, flight, hearing, launched, state}
-use Rattle.document_delays.specs.delay_measure.specs.declared.message.DelayMessage.{DelayMessage}
+use Rattle.air_source.specs.declared.events.Side.{Side}
+use Rattle.air_source.specs.declared.events.Side.TheVariants.{Ru, Du}
+use Rattle.air_source.specs.declared.links.LinkFrame.{LinkFrame}
+use Rattle.delay_laws.specs.Ticks.{Flight, Setting, after_tick, flight, hearing, launched, state}
+use Rattle.delay_measure.specs.declared.message.DelayMessage.{DelayMessage}
 use Rattle.document_traffic.specs.Landing.{handed_for, leaving_answer, leaving_to}
 use Rattle.document_traffic.specs.Sending.{Leaving, leaving_of, lines_of, sent_for}
-use Rattle.document_delays.specs.fh_document.specs.declared.document.Document.{Document}
-use Rattle.uplink_turns.specs.fragment_laws.specs.Apart.{IsIn}
-use Rattle.uplink_turns.specs.plan_model.specs.Sent.{SentFrame, frames_from, sent}
-use Rattle.uplink_turns.specs.plan_model.specs.declared.lines.PlannedLine.{PlannedLine}
-use Rattle.uplink_turns.specs.schedule_laws.proofs.ListLemmas.{in_all, of_map}
-use Rattle.uplink_turns.specs.schedule_laws.proofs.OrderLemmas.{IsRising}
-use Rattle.document_traffic.specs.sent_order.proofs.KeptLemmas.{at_time, time_is}
-use Rattle.uplink_turns.specs.unit_model.specs.Radiated.{first_clock}
-use Rattle.uplink_turns.specs.uplink_model.proofs.SentLemmas.{leaving_leave_then}
-use Rattle.uplink_turns.specs.uplink_model.specs.Sent.{in_sent_order, leaving_at}
-use Rattle.document_delays.specs.window_config.specs.declared.config.Config.{Config}
-use Rattle.uplink_turns.specs.plan_model.proofs.ListLemmas.{in_either}
+use Rattle.fh_document.specs.declared.document.Document.{Document}
+use Rattle.fragment_laws.specs.Apart.{IsIn}
+use Rattle.plan_model.specs.Sent.{SentFrame, frames_from, sent}
+use Rattle.plan_model.specs.declared.lines.PlannedLine.{PlannedLine}
+use Rattle.schedule_laws.proofs.ListLemmas.{in_all, of_map}
+use Rattle.schedule_laws.proofs.OrderLemmas.{IsRising}
+use Rattle.sent_order.proofs.KeptLemmas.{at_time, time_is}
+use Rattle.unit_model.specs.Radiated.{first_clock}
+use Rattle.uplink_model.proofs.SentLemmas.{leaving_leave_then}
+use Rattle.uplink_model.specs.Sent.{in_sent_order, leaving_at}
+use Rattle.window_config.specs.declared.config.Config.{Config}
+use Rattle.plan_model.proofs.ListLemmas.{in_either}
 use Rattle.measured_traffic.proofs.ListLemmas.{ticks_within}
 use Rattle.fh_time.proofs.Orders.{frame_low_is as begun}
-use Rattle.document_delays.specs.air_source.specs.Units.{other}
-use Rattle.uplink_turns.specs.unit_model.specs.Times.{tick_count}
+use Rattle.air_source.specs.Units.{other}
+use Rattle.unit_model.specs.Times.{tick_count}
 
 -- ---- when the frames of the classes c and u leave
 

@@ -1,23 +1,23 @@
 -- Nothing of a document comes after the end of time.
 use Rattle.std.proofs.Common.{◌≡◌, pos, ◌≤ℤ◌, List, [], sym, subst}
 use Rattle.std.specs.Prelude.{filter}
-use Rattle.document_delays.specs.air_source.specs.declared.events.Side.TheVariants.{Ru}
-use Rattle.document_delays.specs.fh_document.specs.declared.document.Document.{Document}
+use Rattle.air_source.specs.declared.events.Side.TheVariants.{Ru}
+use Rattle.fh_document.specs.declared.document.Document.{Document}
 use Rattle.document_traffic.proofs.LineLemmas.{lines_fit}
 use Rattle.document_traffic.specs.Laws.{IsReplayable}
 use Rattle.document_traffic.specs.Sending.{lines_of}
-use Rattle.uplink_turns.specs.plan_model.proofs.ListLemmas.{all_of, of_filter}
-use Rattle.uplink_turns.specs.plan_model.specs.Lines.{is_up_line, line_allocation}
-use Rattle.uplink_turns.specs.replay_events.proofs.EndLemmas.{no_cell_is_left, no_message_is_left}
-use Rattle.uplink_turns.specs.replay_events.specs.Ending.{AreInPlan}
-use Rattle.uplink_turns.specs.replay_events.specs.Moments.{all_arrivals}
-use Rattle.uplink_turns.specs.schedule_laws.proofs.LineLemmas.{line_good}
-use Rattle.uplink_turns.specs.schedule_laws.proofs.ListLemmas.{of_map}
-use Rattle.uplink_turns.specs.unit_model.specs.Reports.{accepted_of}
-use Rattle.uplink_turns.specs.unit_model.specs.Standing.{still_given}
-use Rattle.uplink_turns.specs.unit_model.specs.declared.allocations.Allocation.{Allocation}
-use Rattle.uplink_turns.specs.unit_model.specs.declared.jobs.UplinkJob.{UplinkJob}
-use Rattle.document_delays.specs.window_config.specs.declared.plan.TheConstants.{LAST_FRAME}
+use Rattle.plan_model.proofs.ListLemmas.{all_of, of_filter}
+use Rattle.plan_model.specs.Lines.{is_up_line, line_allocation}
+use Rattle.replay_events.proofs.EndLemmas.{no_cell_is_left, no_message_is_left}
+use Rattle.replay_events.specs.Ending.{AreInPlan}
+use Rattle.replay_events.specs.Moments.{all_arrivals}
+use Rattle.schedule_laws.proofs.LineLemmas.{line_good}
+use Rattle.schedule_laws.proofs.ListLemmas.{of_map}
+use Rattle.unit_model.specs.Reports.{accepted_of}
+use Rattle.unit_model.specs.Standing.{still_given}
+use Rattle.unit_model.specs.declared.allocations.Allocation.{Allocation}
+use Rattle.unit_model.specs.declared.jobs.UplinkJob.{UplinkJob}
+use Rattle.window_config.specs.declared.plan.TheConstants.{LAST_FRAME}
 use Rattle.measured_traffic.proofs.ReplayedLemmas.{landings_are_replayed}
 use Rattle.measured_traffic.proofs.SentLemmas.{messages_are_owed}
 use Rattle.measured_traffic.specs.Ends.{DocumentsAreOver, planned_of}

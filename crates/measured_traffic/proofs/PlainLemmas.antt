@@ -3,48 +3,48 @@ use Rattle.std.proofs.Common.{◌≡◌, ℕ, ◌+◌, ◌*◌, ◌%◌, ◌<◌
 use Rattle.std.specs.Prelude.{All, ◌==◌}
 use Rattle.std.specs.List.{flat_map}
 use Rattle.std.specs.Option.{option_to_list}
-use Rattle.document_delays.specs.air_source.specs.declared.events.Side.{Side}
-use Rattle.document_delays.specs.air_source.specs.declared.events.Side.TheVariants.{Ru, Du}
-use Rattle.document_delays.specs.air_source.specs.declared.links.LinkFrame.{LinkFrame}
+use Rattle.air_source.specs.declared.events.Side.{Side}
+use Rattle.air_source.specs.declared.events.Side.TheVariants.{Ru, Du}
+use Rattle.air_source.specs.declared.links.LinkFrame.{LinkFrame}
 use Rattle.document_traffic.proofs.AnswerLemmas.{jobs_proper, last_start, sent_is_handed, IsHanded, handed_is}
 use Rattle.document_traffic.proofs.CopyLemmas.{delayed_is}
 use Rattle.document_traffic.proofs.LineLemmas.{lines_fit}
 use Rattle.document_traffic.specs.Landing.{all_delayed, antenna_for, jobs_for, leaving_to, leaving_up}
 use Rattle.document_traffic.specs.Laws.{HasWidths}
 use Rattle.document_traffic.specs.Sending.{Delayed, Leaving, leaving_down, leaving_of, lines_of, none_sent, sent_for, source_for}
-use Rattle.uplink_turns.specs.ecpri_fragments.specs.declared.sequence.SeqField.{SeqField}
+use Rattle.ecpri_fragments.specs.declared.sequence.SeqField.{SeqField}
 use Rattle.ecpri_frames.specs.Messages.{Message as FrameMessage}
-use Rattle.document_delays.specs.fh_document.specs.Proper.{IsDocument}
-use Rattle.document_delays.specs.fh_document.specs.declared.document.Document.{Document}
-use Rattle.uplink_turns.specs.fragment_laws.specs.Apart.{IsIn}
-use Rattle.uplink_turns.specs.frame_bytes.proofs.CutBytes.{length_cut}
-use Rattle.uplink_turns.specs.frame_bytes.proofs.Frames.{frame_is_one}
-use Rattle.uplink_turns.specs.frame_bytes.specs.Commands.{command_of, whole_seq}
-use Rattle.uplink_turns.specs.frame_bytes.specs.Cuts.{cut, piece_at}
-use Rattle.uplink_turns.specs.frame_bytes.specs.Transport.{IsTransport, frame_of}
-use Rattle.uplink_turns.specs.plan_model.specs.Packs.{Message, Numbered, size_of}
-use Rattle.uplink_turns.specs.plan_model.specs.Sent.{SentFrame}
-use Rattle.uplink_turns.specs.plan_model.specs.Streams.{Part, frames_in, messages_of as sent_messages, part_fields}
-use Rattle.uplink_turns.specs.plan_model.specs.Valid.{IsValid}
-use Rattle.uplink_turns.specs.plan_model.specs.declared.streams.Stream.{Stream}
-use Rattle.uplink_turns.specs.plan_model.specs.declared.streams.Stream.TheVariants.{DownCommands, UpCommands, DownData, UpData}
-use Rattle.uplink_turns.specs.schedule_laws.proofs.ListLemmas.{at_in, in_all, of_map}
-use Rattle.uplink_turns.specs.schedule_laws.proofs.SentLemmas.{IsOfMessage, IsSentStream, sent_is}
-use Rattle.document_traffic.specs.sent_frames.proofs.MessageFacts.{message_short}
-use Rattle.document_traffic.specs.sent_frames.specs.Commands.{command_head, command_section}
-use Rattle.document_traffic.specs.sent_frames.specs.Frames.{bytes_in, command_bytes, fragment_bytes, fragment_field}
-use Rattle.document_traffic.specs.sent_frames.specs.Messages.{message_bytes}
-use Rattle.document_traffic.specs.sent_laws.proofs.CommandRead.{one_whole}
-use Rattle.document_traffic.specs.sent_laws.proofs.Fragments.{piece_short}
-use Rattle.document_traffic.specs.sent_laws.proofs.SentRead.{command_short, in_size, low_byte}
-use Rattle.uplink_turns.specs.unit_model.specs.Proper.{IsAt}
-use Rattle.uplink_turns.specs.unit_model.specs.declared.jobs.UplinkJob.{UplinkJob}
-use Rattle.uplink_turns.specs.uplink_model.specs.Frames.{uplink_fragment_bytes as answer_bytes, uplink_fragment_field as answer_field, uplink_message_bytes as answer_message}
-use Rattle.uplink_turns.specs.uplink_model.specs.Messages.{job_fields, uplink_messages_of}
-use Rattle.document_delays.specs.window_config.specs.declared.config.Config.{Config}
-use Rattle.document_delays.specs.window_config.specs.declared.endpoints.EndpointConfig.{EndpointConfig}
-use Rattle.uplink_turns.specs.plan_model.proofs.SizeLemmas.{few_pieces}
-use Rattle.uplink_turns.specs.plan_model.proofs.ListLemmas.{all_of}
+use Rattle.fh_document.specs.Proper.{IsDocument}
+use Rattle.fh_document.specs.declared.document.Document.{Document}
+use Rattle.fragment_laws.specs.Apart.{IsIn}
+use Rattle.frame_bytes.proofs.CutBytes.{length_cut}
+use Rattle.frame_bytes.proofs.Frames.{frame_is_one}
+use Rattle.frame_bytes.specs.Commands.{command_of, whole_seq}
+use Rattle.frame_bytes.specs.Cuts.{cut, piece_at}
+use Rattle.frame_bytes.specs.Transport.{IsTransport, frame_of}
+use Rattle.plan_model.specs.Packs.{Message, Numbered, size_of}
+use Rattle.plan_model.specs.Sent.{SentFrame}
+use Rattle.plan_model.specs.Streams.{Part, frames_in, messages_of as sent_messages, part_fields}
+use Rattle.plan_model.specs.Valid.{IsValid}
+use Rattle.plan_model.specs.declared.streams.Stream.{Stream}
+use Rattle.plan_model.specs.declared.streams.Stream.TheVariants.{DownCommands, UpCommands, DownData, UpData}
+use Rattle.schedule_laws.proofs.ListLemmas.{at_in, in_all, of_map}
+use Rattle.schedule_laws.proofs.SentLemmas.{IsOfMessage, IsSentStream, sent_is}
+use Rattle.sent_frames.proofs.MessageFacts.{message_short}
+use Rattle.sent_frames.specs.Commands.{command_head, command_section}
+use Rattle.sent_frames.specs.Frames.{bytes_in, command_bytes, fragment_bytes, fragment_field}
+use Rattle.sent_frames.specs.Messages.{message_bytes}
+use Rattle.sent_laws.proofs.CommandRead.{one_whole}
+use Rattle.sent_laws.proofs.Fragments.{piece_short}
+use Rattle.sent_laws.proofs.SentRead.{command_short, in_size, low_byte}
+use Rattle.unit_model.specs.Proper.{IsAt}
+use Rattle.unit_model.specs.declared.jobs.UplinkJob.{UplinkJob}
+use Rattle.uplink_model.specs.Frames.{uplink_fragment_bytes as answer_bytes, uplink_fragment_field as answer_field, uplink_message_bytes as answer_message}
+use Rattle.uplink_model.specs.Messages.{job_fields, uplink_messages_of}
+use Rattle.window_config.specs.declared.config.Config.{Config}
+use Rattle.window_config.specs.declared.endpoints.EndpointConfig.{EndpointConfig}
+use Rattle.plan_model.proofs.SizeLemmas.{few_pieces}
+use Rattle.plan_model.proofs.ListLemmas.{all_of}
 use Rattle.document_traffic.proofs.ShortLemmas.{short_cut}
 use Rattle.measured_traffic.proofs.AnswerLemmas.{messages_short}
 use Rattle.measured_traffic.specs.Measured.{delay_messages, delays_of, read_as}

@@ -4,22 +4,22 @@ use Rattle.std.specs.Prelude.{All, filter, map}
 use Rattle.std.specs.List.{flat_map}
 use Rattle.std.specs.Ordering.{int_eq}
 use Rattle.std.proofs.lemmas.List.Elements.{All-filter, All-head, All-map, All-tail}
-use Rattle.document_delays.specs.air_source.specs.declared.events.Side.{Side}
-use Rattle.document_delays.specs.delay_laws.proofs.Quiet.{quiet_ticks}
-use Rattle.document_delays.specs.delay_laws.specs.Ticks.{Flight, Setting, State, due, landing, state}
-use Rattle.document_delays.specs.delay_measure.specs.declared.message.DelayMessage.{DelayMessage}
+use Rattle.air_source.specs.declared.events.Side.{Side}
+use Rattle.delay_laws.proofs.Quiet.{quiet_ticks}
+use Rattle.delay_laws.specs.Ticks.{Flight, Setting, State, due, landing, state}
+use Rattle.delay_measure.specs.declared.message.DelayMessage.{DelayMessage}
 use Rattle.document_delays.specs.Settings.{begin_of, setting_of}
 use Rattle.document_traffic.specs.Landing.{injected_at, injected_to, is_to}
-use Rattle.document_delays.specs.fh_document.specs.declared.document.Document.{Document}
-use Rattle.document_delays.specs.fh_document.specs.declared.document.Injection.{Injection}
-use Rattle.document_delays.specs.fh_document.specs.declared.document.Measure.{Measure}
-use Rattle.uplink_turns.specs.replay_events.specs.Moments.{landing_at}
-use Rattle.uplink_turns.specs.unit_model.specs.Meetings.{Arrival}
-use Rattle.uplink_turns.specs.unit_model.specs.Radiated.{first_clock}
+use Rattle.fh_document.specs.declared.document.Document.{Document}
+use Rattle.fh_document.specs.declared.document.Injection.{Injection}
+use Rattle.fh_document.specs.declared.document.Measure.{Measure}
+use Rattle.replay_events.specs.Moments.{landing_at}
+use Rattle.unit_model.specs.Meetings.{Arrival}
+use Rattle.unit_model.specs.Radiated.{first_clock}
 use Rattle.measured_traffic.proofs.SentLemmas.{none_measured}
 use Rattle.measured_traffic.specs.Laws.{UnmeasuredLandsTheSame}
 use Rattle.measured_traffic.specs.Measured.{delay_messages, others_of}
-use Rattle.uplink_turns.specs.unit_model.specs.Times.{tick_count}
+use Rattle.unit_model.specs.Times.{tick_count}
 
 -- ---- no message of delay measurement comes in an injected frame
 

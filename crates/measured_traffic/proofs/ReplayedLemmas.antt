@@ -3,24 +3,24 @@ use Rattle.std.proofs.Common.{ℤ, pos, ◌+ℤ◌, ◌≤ℤ◌, inl, inr, ◌�
 use Rattle.std.specs.List.{flat_map}
 use Rattle.std.specs.Ordering.{int_eq}
 use Rattle.std.proofs.lemmas.Int.{ints}
-use Rattle.document_delays.specs.air_source.specs.declared.events.Side.{Side}
-use Rattle.document_delays.specs.delay_laws.specs.Ticks.{Flight}
+use Rattle.air_source.specs.declared.events.Side.{Side}
+use Rattle.delay_laws.specs.Ticks.{Flight}
 use Rattle.document_traffic.proofs.CopyLemmas.{of_copies}
 use Rattle.document_traffic.proofs.LandingLemmas.{each_leaves, landing_in_time, last_leaving, leaving_late}
 use Rattle.document_traffic.proofs.TimeLemmas.{IsBy, longest, replayed_by}
 use Rattle.document_traffic.proofs.WithinLemmas.{copy_of_each, injected_of_each}
 use Rattle.document_traffic.specs.Landing.{all_delayed, copies_among, copies_in, injected_to, leaving_to}
 use Rattle.document_traffic.specs.Sending.{Delayed}
-use Rattle.document_delays.specs.fh_document.specs.Proper.{IsDocument}
-use Rattle.document_delays.specs.fh_document.specs.declared.document.Document.{Document}
-use Rattle.uplink_turns.specs.fragment_laws.specs.Apart.{IsIn}
-use Rattle.uplink_turns.specs.plan_model.specs.Valid.{IsValid}
-use Rattle.uplink_turns.specs.schedule_laws.proofs.ListLemmas.{of_map, of_tick}
-use Rattle.uplink_turns.specs.unit_model.specs.Meetings.{Arrival}
-use Rattle.uplink_turns.specs.unit_model.specs.Radiated.{first_clock}
-use Rattle.uplink_turns.specs.unit_model.specs.Times.{last_landing, tick_count}
-use Rattle.document_delays.specs.window_config.specs.Windows.{ticks_of_ns}
-use Rattle.uplink_turns.specs.plan_model.proofs.ListLemmas.{in_either, of_filter}
+use Rattle.fh_document.specs.Proper.{IsDocument}
+use Rattle.fh_document.specs.declared.document.Document.{Document}
+use Rattle.fragment_laws.specs.Apart.{IsIn}
+use Rattle.plan_model.specs.Valid.{IsValid}
+use Rattle.schedule_laws.proofs.ListLemmas.{of_map, of_tick}
+use Rattle.unit_model.specs.Meetings.{Arrival}
+use Rattle.unit_model.specs.Radiated.{first_clock}
+use Rattle.unit_model.specs.Times.{last_landing, tick_count}
+use Rattle.window_config.specs.Windows.{ticks_of_ns}
+use Rattle.plan_model.proofs.ListLemmas.{in_either, of_filter}
 use Rattle.measured_traffic.proofs.FlightLemmas.{flown_after, flown_before}
 use Rattle.measured_traffic.specs.Laws.{LandingsAreReplayed}
 use Rattle.measured_traffic.proofs.AlikeLemmas.{lands_alike}

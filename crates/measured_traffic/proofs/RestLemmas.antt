@@ -4,26 +4,26 @@ use Rattle.std.specs.Prelude.{filter}
 use Rattle.std.specs.List.{list_all}
 use Rattle.std.specs.Ordering.{int_eq}
 use Rattle.std.proofs.lemmas.Bool.{and_parts}
-use Rattle.document_delays.specs.air_source.specs.declared.events.Side.{Side}
-use Rattle.document_delays.specs.air_source.specs.declared.events.Side.TheVariants.{Ru, Du}
-use Rattle.uplink_turns.specs.ecpri_fragments.specs.Generations.{Fragment}
+use Rattle.air_source.specs.declared.events.Side.{Side}
+use Rattle.air_source.specs.declared.events.Side.TheVariants.{Ru, Du}
+use Rattle.ecpri_fragments.specs.Generations.{Fragment}
 use Rattle.ecpri_frames.specs.Gathering.{whole_messages}
 use Rattle.ecpri_frames.specs.Messages.{Message}
-use Rattle.uplink_turns.specs.replay_events.specs.Moments.{all_arrivals, arrivals_in, landing_at}
-use Rattle.uplink_turns.specs.replay_events.specs.Traffic.{reported_at}
-use Rattle.uplink_turns.specs.unit_model.proofs.OntoLemmas.{onto_none}
-use Rattle.uplink_turns.specs.unit_model.specs.Blocks.{timely}
-use Rattle.uplink_turns.specs.unit_model.specs.Commands.{accepted}
-use Rattle.uplink_turns.specs.unit_model.specs.Decoding.{data_now, data_sections, data_told}
-use Rattle.uplink_turns.specs.unit_model.specs.Lists.{onto}
-use Rattle.uplink_turns.specs.unit_model.specs.Meetings.{Arrival, Commands, Ignored, Meeting, Piece, commands, fragments, meet, meetings, met_in}
-use Rattle.uplink_turns.specs.unit_model.specs.Radiated.{first_clock, known_of, reported}
-use Rattle.uplink_turns.specs.unit_model.specs.Reports.{accepted_of, commands_of, data_of, hold_of, met, timely_of}
-use Rattle.uplink_turns.specs.unit_model.specs.declared.allocations.Allocation.{Allocation}
-use Rattle.uplink_turns.specs.unit_model.specs.declared.decoded.ControlSection.{ControlSection}
-use Rattle.uplink_turns.specs.unit_model.specs.declared.decoded.UserSection.{UserSection}
-use Rattle.document_delays.specs.window_config.specs.declared.config.Config.{Config}
-use Rattle.document_delays.specs.window_config.specs.declared.endpoints.EndpointConfig.{EndpointConfig}
+use Rattle.replay_events.specs.Moments.{all_arrivals, arrivals_in, landing_at}
+use Rattle.replay_events.specs.Traffic.{reported_at}
+use Rattle.unit_model.proofs.OntoLemmas.{onto_none}
+use Rattle.unit_model.specs.Blocks.{timely}
+use Rattle.unit_model.specs.Commands.{accepted}
+use Rattle.unit_model.specs.Decoding.{data_now, data_sections, data_told}
+use Rattle.unit_model.specs.Lists.{onto}
+use Rattle.unit_model.specs.Meetings.{Arrival, Commands, Ignored, Meeting, Piece, commands, fragments, meet, meetings, met_in}
+use Rattle.unit_model.specs.Radiated.{first_clock, known_of, reported}
+use Rattle.unit_model.specs.Reports.{accepted_of, commands_of, data_of, hold_of, met, timely_of}
+use Rattle.unit_model.specs.declared.allocations.Allocation.{Allocation}
+use Rattle.unit_model.specs.declared.decoded.ControlSection.{ControlSection}
+use Rattle.unit_model.specs.declared.decoded.UserSection.{UserSection}
+use Rattle.window_config.specs.declared.config.Config.{Config}
+use Rattle.window_config.specs.declared.endpoints.EndpointConfig.{EndpointConfig}
 use Rattle.measured_traffic.proofs.ListLemmas.{filter_onto, filter_swap}
 use Rattle.measured_traffic.specs.Laws.{LeaveTheSame, OnlyDelaysRest}
 use Rattle.measured_traffic.specs.Measured.{has_only_delays, is_delay}

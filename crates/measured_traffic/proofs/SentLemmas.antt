@@ -3,23 +3,23 @@ use Rattle.std.proofs.Common.{◌≡◌, ℤ, Bool, true, false, not, List, [], 
 use Rattle.std.specs.Prelude.{filter}
 use Rattle.std.specs.List.{flat_map}
 use Rattle.std.proofs.lemmas.List.Elements.{filter-append}
-use Rattle.document_delays.specs.air_source.specs.declared.events.Side.{Side}
-use Rattle.document_delays.specs.air_source.specs.declared.events.Side.TheVariants.{Ru, Du}
-use Rattle.document_delays.specs.delay_laws.specs.Ticks.{Flight}
+use Rattle.air_source.specs.declared.events.Side.{Side}
+use Rattle.air_source.specs.declared.events.Side.TheVariants.{Ru, Du}
+use Rattle.delay_laws.specs.Ticks.{Flight}
 use Rattle.document_traffic.proofs.CopyLemmas.{delayed_is}
 use Rattle.document_traffic.proofs.OrderLemmas.{leaving_rising}
 use Rattle.document_traffic.specs.Landing.{all_delayed, copies_among, copies_in, injected_to, leaving_to, planned_traffic}
 use Rattle.document_traffic.specs.Sending.{Delayed, Leaving, SentCounts, counted, delayed_behind, none_sent}
-use Rattle.document_delays.specs.fh_document.specs.declared.document.Document.{Document}
-use Rattle.uplink_turns.specs.replay_events.specs.Traffic.{landings_at}
-use Rattle.uplink_turns.specs.schedule_laws.proofs.OrderLemmas.{IsRising}
-use Rattle.uplink_turns.specs.unit_model.specs.Lists.{each_tick}
-use Rattle.uplink_turns.specs.unit_model.specs.Meetings.{Arrival}
-use Rattle.uplink_turns.specs.unit_model.specs.Radiated.{first_clock}
-use Rattle.uplink_turns.specs.unit_model.specs.Times.{end_of_time, tick_count}
-use Rattle.uplink_turns.specs.unit_model.specs.Uplink.{jobs}
-use Rattle.uplink_turns.specs.unit_model.specs.declared.allocations.Allocation.{Allocation}
-use Rattle.uplink_turns.specs.plan_model.proofs.TickLemmas.{ticks_same}
+use Rattle.fh_document.specs.declared.document.Document.{Document}
+use Rattle.replay_events.specs.Traffic.{landings_at}
+use Rattle.schedule_laws.proofs.OrderLemmas.{IsRising}
+use Rattle.unit_model.specs.Lists.{each_tick}
+use Rattle.unit_model.specs.Meetings.{Arrival}
+use Rattle.unit_model.specs.Radiated.{first_clock}
+use Rattle.unit_model.specs.Times.{end_of_time, tick_count}
+use Rattle.unit_model.specs.Uplink.{jobs}
+use Rattle.unit_model.specs.declared.allocations.Allocation.{Allocation}
+use Rattle.plan_model.proofs.TickLemmas.{ticks_same}
 use Rattle.delay_model.proofs.FrameLemmas.{only_delays}
 use Rattle.measured_traffic.proofs.ListLemmas.{filter_mapped, swept, ticks_filter, ticks_flat}
 use Rattle.measured_traffic.proofs.RestLemmas.{landings_leave_the_same}

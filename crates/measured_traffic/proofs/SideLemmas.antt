@@ -4,24 +4,24 @@ use Rattle.std.specs.Prelude.{Bool, filter, map, Option, Some, None}
 use Rattle.std.specs.List.{flat_map}
 use Rattle.std.specs.Option.{option_to_list}
 use Rattle.std.proofs.lemmas.Bool.{cases_Bool}
-use Rattle.document_delays.specs.air_source.specs.declared.events.Event.{Event}
-use Rattle.document_delays.specs.air_source.specs.declared.events.Side.{Side}
-use Rattle.document_delays.specs.air_source.specs.declared.events.Side.TheVariants.{Ru, Du}
-use Rattle.document_delays.specs.delay_laws.specs.Known.{known_then, known_while}
-use Rattle.document_delays.specs.delay_laws.proofs.Quiet.{before}
-use Rattle.document_delays.specs.delay_laws.specs.Nodes.{delay_then, sent_then, told_to}
-use Rattle.document_delays.specs.delay_laws.specs.Ticks.{Begin, Hearing, Setting, State, arriving, begin_heard, came_heard, due, hearing, landing, told_all, told_one}
-use Rattle.document_delays.specs.delay_measure.specs.After.{Told, begins, comes, exchange_after, id_of}
-use Rattle.document_delays.specs.delay_measure.specs.Payload.{message_of}
-use Rattle.document_delays.specs.delay_measure.specs.declared.message.DelayMessage.{DelayMessage}
+use Rattle.air_source.specs.declared.events.Event.{Event}
+use Rattle.air_source.specs.declared.events.Side.{Side}
+use Rattle.air_source.specs.declared.events.Side.TheVariants.{Ru, Du}
+use Rattle.delay_laws.specs.Known.{known_then, known_while}
+use Rattle.delay_laws.proofs.Quiet.{before}
+use Rattle.delay_laws.specs.Nodes.{delay_then, sent_then, told_to}
+use Rattle.delay_laws.specs.Ticks.{Begin, Hearing, Setting, State, arriving, begin_heard, came_heard, due, hearing, landing, told_all, told_one}
+use Rattle.delay_measure.specs.After.{Told, begins, comes, exchange_after, id_of}
+use Rattle.delay_measure.specs.Payload.{message_of}
+use Rattle.delay_measure.specs.declared.message.DelayMessage.{DelayMessage}
 use Rattle.ecpri_frames.specs.Gathering.{whole_messages}
 use Rattle.ecpri_frames.specs.Messages.{Message}
-use Rattle.uplink_turns.specs.replay_events.specs.declared.results.DelayResult.{DelayResult}
-use Rattle.uplink_turns.specs.unit_model.specs.Meetings.{Arrival}
+use Rattle.replay_events.specs.declared.results.DelayResult.{DelayResult}
+use Rattle.unit_model.specs.Meetings.{Arrival}
 use Rattle.measured_traffic.specs.Doings.{Doings, forgotten, results_known_by, told_in, with_begins, with_frame, with_frames, with_message, with_messages}
 use Rattle.measured_traffic.specs.Measured.{delay_frame, delay_messages, delays_of, is_delay, read_as}
 use Rattle.measured_traffic.specs.Sides.{SidesAreTold, IsSideOf, OneIsTold, OthersStay, ResultsAreKnown, heard_at, known_as}
-use Rattle.document_delays.specs.air_source.specs.Units.{other, same_side}
+use Rattle.air_source.specs.Units.{other, same_side}
 
 is_self : (side : Side) → same_side side side ≡ true
 is_self Ru = refl

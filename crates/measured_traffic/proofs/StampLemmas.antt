@@ -5,25 +5,25 @@ use Rattle.std.proofs.lemmas.Int.{ints}
 use Rattle.std.proofs.lemmas.List.Elements.{All-cons, All-head, All-nil, All-tail}
 use Rattle.std.proofs.lemmas.Nat.{mod_below}
 use Rattle.bfp_codec.specs.Exponent.{Within}
-use Rattle.document_delays.specs.delay_laws.specs.Nodes.{Compensation, sent_then, time_of}
-use Rattle.document_delays.specs.delay_measure.specs.After.{Told, begins, comes, exchange_after, exchange_next, forgets, id_of}
-use Rattle.document_delays.specs.delay_measure.specs.Stamps.{blank, receiving_stamp, sending_stamp, stamped}
-use Rattle.document_delays.specs.delay_measure.specs.Table.{after_message, announced_in, answer_in, begin_in, exchange, follow_up_in, is_same, remote_in, remote_two_in, request_in, response, response_in, sent_at_begin, sent_at_step}
-use Rattle.document_delays.specs.delay_measure.specs.declared.message.DelayMessage.{DelayMessage}
-use Rattle.document_delays.specs.delay_measure.specs.declared.stamps.Stamp.{Stamp}
-use Rattle.document_delays.specs.delay_measure.specs.declared.states.Exchange.{Exchange}
-use Rattle.document_delays.specs.delay_measure.specs.declared.states.OwnState.{OwnState}
-use Rattle.document_delays.specs.delay_measure.specs.declared.states.OwnState.TheVariants.{Idle, Waiting, Remote, Done}
-use Rattle.document_delays.specs.delay_measure.specs.declared.states.PeerState.{PeerState}
-use Rattle.document_delays.specs.delay_measure.specs.declared.states.PeerState.TheVariants.{Nothing, Noted, Answered}
-use Rattle.document_delays.specs.delay_measure.specs.declared.steps.Begun.{Begun}
-use Rattle.document_delays.specs.delay_measure.specs.declared.steps.Kind.{Kind}
-use Rattle.document_delays.specs.delay_measure.specs.declared.steps.Kind.TheVariants.{One, Two, RemoteOne, RemoteTwo}
-use Rattle.document_delays.specs.delay_measure.specs.declared.steps.MeterStep.{MeterStep}
-use Rattle.document_delays.specs.delay_measure.specs.declared.steps.MeterStep.TheVariants.{Again, Unknown}
-use Rattle.uplink_turns.specs.unit_model.specs.Radiated.{first_clock}
-use Rattle.uplink_turns.specs.unit_model.specs.Times.{end_of_time}
-use Rattle.document_delays.specs.delay_measure.specs.declared.stamps.TheConstants.{MOST_COMPENSATION}
+use Rattle.delay_laws.specs.Nodes.{Compensation, sent_then, time_of}
+use Rattle.delay_measure.specs.After.{Told, begins, comes, exchange_after, exchange_next, forgets, id_of}
+use Rattle.delay_measure.specs.Stamps.{blank, receiving_stamp, sending_stamp, stamped}
+use Rattle.delay_measure.specs.Table.{after_message, announced_in, answer_in, begin_in, exchange, follow_up_in, is_same, remote_in, remote_two_in, request_in, response, response_in, sent_at_begin, sent_at_step}
+use Rattle.delay_measure.specs.declared.message.DelayMessage.{DelayMessage}
+use Rattle.delay_measure.specs.declared.stamps.Stamp.{Stamp}
+use Rattle.delay_measure.specs.declared.states.Exchange.{Exchange}
+use Rattle.delay_measure.specs.declared.states.OwnState.{OwnState}
+use Rattle.delay_measure.specs.declared.states.OwnState.TheVariants.{Idle, Waiting, Remote, Done}
+use Rattle.delay_measure.specs.declared.states.PeerState.{PeerState}
+use Rattle.delay_measure.specs.declared.states.PeerState.TheVariants.{Nothing, Noted, Answered}
+use Rattle.delay_measure.specs.declared.steps.Begun.{Begun}
+use Rattle.delay_measure.specs.declared.steps.Kind.{Kind}
+use Rattle.delay_measure.specs.declared.steps.Kind.TheVariants.{One, Two, RemoteOne, RemoteTwo}
+use Rattle.delay_measure.specs.declared.steps.MeterStep.{MeterStep}
+use Rattle.delay_measure.specs.declared.steps.MeterStep.TheVariants.{Again, Unknown}
+use Rattle.unit_model.specs.Radiated.{first_clock}
+use Rattle.unit_model.specs.Times.{end_of_time}
+use Rattle.delay_measure.specs.declared.stamps.TheConstants.{MOST_COMPENSATION}
 use Rattle.fh_time.specs.declared.nanoseconds.TheConstants.{END_OF_TIME}
 
 -- ---- stamps

@@ -5,22 +5,22 @@ use Rattle.std.specs.Int.{int_gap}
 use Rattle.std.proofs.lemmas.Int.{ints}
 use Rattle.std.proofs.lemmas.List.Elements.{All-head, All-tail}
 use Rattle.std.specs.Int.Signed.{≤ℤ_refl}
-use Rattle.document_delays.specs.air_source.specs.declared.events.Side.{Side}
-use Rattle.document_delays.specs.air_source.specs.declared.events.Side.TheVariants.{Ru, Du}
-use Rattle.document_delays.specs.delay_laws.proofs.Quiet.{before}
-use Rattle.document_delays.specs.delay_laws.specs.Nodes.{told_to}
-use Rattle.document_delays.specs.delay_laws.specs.Ticks.{Begin, Flight, Setting, after_tick as both_after, hearing, landing, state}
-use Rattle.document_delays.specs.delay_measure.specs.declared.message.DelayMessage.{DelayMessage}
+use Rattle.air_source.specs.declared.events.Side.{Side}
+use Rattle.air_source.specs.declared.events.Side.TheVariants.{Ru, Du}
+use Rattle.delay_laws.proofs.Quiet.{before}
+use Rattle.delay_laws.specs.Nodes.{told_to}
+use Rattle.delay_laws.specs.Ticks.{Begin, Flight, Setting, after_tick as both_after, hearing, landing, state}
+use Rattle.delay_measure.specs.declared.message.DelayMessage.{DelayMessage}
 use Rattle.document_delays.proofs.Documents.{document_settled}
 use Rattle.document_delays.specs.Settings.{compensation_of, setting_of}
 use Rattle.document_traffic.specs.Laws.{IsReplayable}
 use Rattle.document_traffic.specs.Sending.{Leaving}
-use Rattle.document_delays.specs.fh_document.specs.declared.document.Document.{Document}
-use Rattle.uplink_turns.specs.replay_events.proofs.TickLemmas.{between, next_gap}
-use Rattle.uplink_turns.specs.replay_events.specs.Moments.{end_of_time, landing_at}
-use Rattle.uplink_turns.specs.unit_model.proofs.SweepLaws.{gap_is, gap_none, gap_parts}
-use Rattle.uplink_turns.specs.unit_model.specs.Meetings.{Arrival}
-use Rattle.uplink_turns.specs.unit_model.specs.Radiated.{first_clock}
+use Rattle.fh_document.specs.declared.document.Document.{Document}
+use Rattle.replay_events.proofs.TickLemmas.{between, next_gap}
+use Rattle.replay_events.specs.Moments.{end_of_time, landing_at}
+use Rattle.unit_model.proofs.SweepLaws.{gap_is, gap_none, gap_parts}
+use Rattle.unit_model.specs.Meetings.{Arrival}
+use Rattle.unit_model.specs.Radiated.{first_clock}
 use Rattle.measured_traffic.proofs.DistinctLemmas.{documents_are_distinct}
 use Rattle.measured_traffic.proofs.LaunchLemmas.{launched_then}
 use Rattle.measured_traffic.proofs.MessageLemmas.{messages_land}
@@ -31,8 +31,8 @@ use Rattle.measured_traffic.specs.Replayed.{after_tick, begins_at, doings_at, do
 use Rattle.measured_traffic.specs.Sides.{IsSideOf}
 use Rattle.measured_traffic.specs.Turns.{DoingsBegin, DoingsGoOn, DoingsWait, FlightsWait, IsQuietBetween, MadeLeave}
 use Rattle.fh_time.proofs.Orders.{at_most}
-use Rattle.document_delays.specs.air_source.specs.Units.{other}
-use Rattle.uplink_turns.specs.unit_model.specs.Times.{tick_count}
+use Rattle.air_source.specs.Units.{other}
+use Rattle.unit_model.specs.Times.{tick_count}
 
 -- what is known of a document before its ticks
 abbrev pub own : Document → Setting

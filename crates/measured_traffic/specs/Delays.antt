@@ -1,14 +1,14 @@
 -- What the delays are that a document's replay gives, where no injected frame has a message of delay measurement.
 use Rattle.std.specs.Prelude.{◌≡◌, ℕ, ℤ, List, [], All}
-use Rattle.document_delays.specs.air_source.specs.declared.events.Event.{Event}
-use Rattle.document_delays.specs.air_source.specs.declared.events.Event.TheVariants.{Cell, Delay, Arrival, Count}
-use Rattle.document_delays.specs.air_source.specs.declared.events.Side.{Side}
-use Rattle.document_delays.specs.delay_laws.specs.Measured.{IsMeasured, IsMeasuredExactly}
+use Rattle.air_source.specs.declared.events.Event.{Event}
+use Rattle.air_source.specs.declared.events.Event.TheVariants.{Cell, Delay, Arrival, Count}
+use Rattle.air_source.specs.declared.events.Side.{Side}
+use Rattle.delay_laws.specs.Measured.{IsMeasured, IsMeasuredExactly}
 use Rattle.document_delays.specs.Settings.{no_others, setting_of}
 use Rattle.document_traffic.specs.Laws.{IsReplayable}
-use Rattle.document_delays.specs.fh_document.specs.declared.document.Document.{Document}
-use Rattle.uplink_turns.specs.replay_events.specs.Events.{events}
-use Rattle.uplink_turns.specs.replay_events.specs.declared.results.DelayResult.{DelayResult}
+use Rattle.fh_document.specs.declared.document.Document.{Document}
+use Rattle.replay_events.specs.Events.{events}
+use Rattle.replay_events.specs.declared.results.DelayResult.{DelayResult}
 use Rattle.measured_traffic.specs.Measured.{delay_messages, exchanges}
 use Rattle.measured_traffic.specs.Replayed.{results_at, traffic_of}
 

@@ -1,17 +1,17 @@
 -- Nothing of a document comes after the end of time (this project's profile).
 use Rattle.std.specs.Prelude.{◌≡◌, ℤ, List, []}
-use Rattle.document_delays.specs.air_source.specs.declared.events.Side.{Side}
-use Rattle.document_delays.specs.air_source.specs.declared.events.Side.TheVariants.{Ru}
-use Rattle.document_delays.specs.fh_document.specs.declared.document.Document.{Document}
+use Rattle.air_source.specs.declared.events.Side.{Side}
+use Rattle.air_source.specs.declared.events.Side.TheVariants.{Ru}
+use Rattle.fh_document.specs.declared.document.Document.{Document}
 use Rattle.document_traffic.specs.Landing.{jobs_for}
 use Rattle.document_traffic.specs.Laws.{IsReplayable}
 use Rattle.document_traffic.specs.Sending.{lines_of}
-use Rattle.uplink_turns.specs.plan_model.specs.Lines.{uplink_allocations}
-use Rattle.uplink_turns.specs.replay_events.specs.Moments.{all_arrivals, end_of_time}
-use Rattle.uplink_turns.specs.replay_events.specs.Traffic.{known_at, reported_at}
-use Rattle.uplink_turns.specs.unit_model.specs.Reports.{accepted_of}
-use Rattle.uplink_turns.specs.unit_model.specs.Standing.{due, still_given}
-use Rattle.uplink_turns.specs.unit_model.specs.declared.allocations.Allocation.{Allocation}
+use Rattle.plan_model.specs.Lines.{uplink_allocations}
+use Rattle.replay_events.specs.Moments.{all_arrivals, end_of_time}
+use Rattle.replay_events.specs.Traffic.{known_at, reported_at}
+use Rattle.unit_model.specs.Reports.{accepted_of}
+use Rattle.unit_model.specs.Standing.{due, still_given}
+use Rattle.unit_model.specs.declared.allocations.Allocation.{Allocation}
 use Rattle.measured_traffic.specs.Replayed.{landings_for}
 
 abbrev pub planned_of : Document → List Allocation

@@ -3,23 +3,23 @@
 use Rattle.std.specs.Prelude.{◌≡◌, ℕ, nat_lt, Bool, true, false, ◌&&◌, if◌then◌else◌, List, [], ◌∷◌, ◌++◌, filter, length, map}
 use Rattle.std.specs.List.{flat_map}
 use Rattle.document_delays.specs.Settings.{setting_of}
-use Rattle.document_delays.specs.air_source.specs.Units.{same_side}
-use Rattle.document_delays.specs.air_source.specs.declared.events.Event.{Event}
-use Rattle.document_delays.specs.air_source.specs.declared.events.Event.TheVariants.{Cell, Delay, Arrival as ArrivalTold, Count}
-use Rattle.document_delays.specs.air_source.specs.declared.events.Side.{Side}
-use Rattle.document_delays.specs.delay_laws.specs.Known.{known}
-use Rattle.document_delays.specs.delay_laws.specs.Nodes.{Heard}
-use Rattle.document_delays.specs.delay_laws.specs.Ticks.{Setting, exchange_of}
-use Rattle.document_delays.specs.delay_measure.specs.After.{id_of}
-use Rattle.document_delays.specs.fh_document.specs.declared.document.Document.{Document}
+use Rattle.air_source.specs.Units.{same_side}
+use Rattle.air_source.specs.declared.events.Event.{Event}
+use Rattle.air_source.specs.declared.events.Event.TheVariants.{Cell, Delay, Arrival as ArrivalTold, Count}
+use Rattle.air_source.specs.declared.events.Side.{Side}
+use Rattle.delay_laws.specs.Known.{known}
+use Rattle.delay_laws.specs.Nodes.{Heard}
+use Rattle.delay_laws.specs.Ticks.{Setting, exchange_of}
+use Rattle.delay_measure.specs.After.{id_of}
+use Rattle.fh_document.specs.declared.document.Document.{Document}
 use Rattle.document_traffic.specs.Laws.{IsReplayable}
 use Rattle.ecpri_frames.specs.Gathering.{whole_messages}
 use Rattle.ecpri_frames.specs.Messages.{Message}
 use Rattle.fault_counters.specs.Counts.{capped, times}
 use Rattle.fault_counters.specs.declared.kinds.Counter.{Counter}
 use Rattle.fault_counters.specs.declared.kinds.Counter.TheVariants.{DelayShort}
-use Rattle.uplink_turns.specs.replay_events.specs.Events.{events, is_measured, number_of}
-use Rattle.uplink_turns.specs.replay_events.specs.Moments.{all_arrivals}
+use Rattle.replay_events.specs.Events.{events, is_measured, number_of}
+use Rattle.replay_events.specs.Moments.{all_arrivals}
 use Rattle.measured_traffic.specs.Doings.{counted_then}
 use Rattle.measured_traffic.specs.Measured.{exchanges, is_delay, others_of}
 use Rattle.measured_traffic.specs.Replayed.{landings_for, traffic_of}

@@ -1,27 +1,27 @@
 -- What holds of what lands with the frames of delay measurement.
 use Rattle.std.specs.Prelude.{◌≡◌, ℕ, ℤ, ◌<◌, ◌^◌, Bool, true, false, List, [], ◌∷◌, ◌++◌, All, filter}
 use Rattle.std.specs.List.{flat_map}
-use Rattle.document_delays.specs.air_source.specs.declared.events.Side.{Side}
-use Rattle.document_delays.specs.air_source.specs.declared.events.Side.TheVariants.{Ru}
+use Rattle.air_source.specs.declared.events.Side.{Side}
+use Rattle.air_source.specs.declared.events.Side.TheVariants.{Ru}
 use Rattle.bfp_codec.specs.Exponent.{Within}
 use Rattle.bfp_codec.specs.Layout.{AreBytes}
-use Rattle.document_delays.specs.delay_measure.specs.Payload.{WritesMessage}
-use Rattle.document_delays.specs.delay_measure.specs.declared.message.DelayMessage.{DelayMessage}
+use Rattle.delay_measure.specs.Payload.{WritesMessage}
+use Rattle.delay_measure.specs.declared.message.DelayMessage.{DelayMessage}
 use Rattle.document_traffic.specs.Landing.{all_delayed, jobs_for, planned_traffic}
 use Rattle.document_traffic.specs.Laws.{IsReplayable}
 use Rattle.document_traffic.specs.Sending.{Delayed}
 use Rattle.ecpri_frames.specs.Headers.{WritesHead}
-use Rattle.document_delays.specs.delay_laws.specs.Ticks.{Flight, landing}
+use Rattle.delay_laws.specs.Ticks.{Flight, landing}
 use Rattle.fault_counters.specs.declared.kinds.Counter.TheVariants.{Delay}
-use Rattle.document_delays.specs.fh_document.specs.declared.document.Document.{Document}
-use Rattle.uplink_turns.specs.replay_events.specs.Moments.{all_arrivals, landing_at}
-use Rattle.uplink_turns.specs.replay_events.specs.Passing.{AreLandings}
-use Rattle.uplink_turns.specs.replay_events.specs.Traffic.{landings_at, reported_at}
-use Rattle.uplink_turns.specs.unit_model.specs.Meetings.{Arrival, Ignored, fragments}
-use Rattle.uplink_turns.specs.unit_model.specs.Reports.{accepted_of, commands_of, data_of, met, timely_of}
-use Rattle.uplink_turns.specs.unit_model.specs.declared.allocations.Allocation.{Allocation}
-use Rattle.document_traffic.specs.uplink_laws.specs.Premise.{jobs_of}
-use Rattle.document_delays.specs.window_config.specs.declared.config.Config.{Config}
+use Rattle.fh_document.specs.declared.document.Document.{Document}
+use Rattle.replay_events.specs.Moments.{all_arrivals, landing_at}
+use Rattle.replay_events.specs.Passing.{AreLandings}
+use Rattle.replay_events.specs.Traffic.{landings_at, reported_at}
+use Rattle.unit_model.specs.Meetings.{Arrival, Ignored, fragments}
+use Rattle.unit_model.specs.Reports.{accepted_of, commands_of, data_of, met, timely_of}
+use Rattle.unit_model.specs.declared.allocations.Allocation.{Allocation}
+use Rattle.uplink_laws.specs.Premise.{jobs_of}
+use Rattle.window_config.specs.declared.config.Config.{Config}
 use Rattle.measured_traffic.specs.Measured.{delay_frame, delay_messages, exchanges, has_only_delays, others_of}
 use Rattle.measured_traffic.specs.Replayed.{landings_for}
 use Rattle.ecpri_frames.specs.declared.heads.TheConstants.{ONE_WAY_DELAY}

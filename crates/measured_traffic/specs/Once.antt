@@ -1,7 +1,7 @@
 -- Exactly once, with the frames of delay measurement among those that land.
 use Rattle.document_traffic.specs.Laws.{IsReplayable}
 use Rattle.document_traffic.specs.Undisturbed.{IsTakenInOnce, IsUndisturbed, IsUndisturbedBothWays, RadiatesOnce}
-use Rattle.document_delays.specs.fh_document.specs.declared.document.Document.{Document}
+use Rattle.fh_document.specs.declared.document.Document.{Document}
 use Rattle.measured_traffic.specs.Replayed.{traffic_of}
 
 -- where nothing disturbs its schedule, each scheduled element radiates once, with its samples, whatever is measured

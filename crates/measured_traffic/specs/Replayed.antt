@@ -3,24 +3,24 @@
 use Rattle.std.specs.Prelude.{ℕ, zero, suc, ℤ, pos, ◌+ℤ◌, List, [], ◌++◌, filter, map}
 use Rattle.std.specs.Int.{int_gap}
 use Rattle.std.specs.Ordering.{int_eq}
-use Rattle.document_delays.specs.air_source.specs.declared.events.Side.{Side}
-use Rattle.document_delays.specs.air_source.specs.declared.events.Side.TheVariants.{Ru, Du}
-use Rattle.document_delays.specs.delay_laws.specs.Ticks.{Begin, Flight, due}
+use Rattle.air_source.specs.declared.events.Side.{Side}
+use Rattle.air_source.specs.declared.events.Side.TheVariants.{Ru, Du}
+use Rattle.delay_laws.specs.Ticks.{Begin, Flight, due}
 use Rattle.document_delays.specs.Settings.{begin_of, compensation_of}
 use Rattle.document_traffic.specs.Landing.{landing_with, leaving_to}
 use Rattle.document_traffic.specs.Sending.{Leaving, lines_of}
-use Rattle.document_delays.specs.fh_document.specs.declared.delivered.TrafficClass.TheVariants.{M}
-use Rattle.document_delays.specs.fh_document.specs.declared.document.Document.{Document}
-use Rattle.uplink_turns.specs.replay_events.specs.Moments.{end_of_time, landing_at}
-use Rattle.uplink_turns.specs.replay_events.specs.Traffic.{Traffic}
-use Rattle.uplink_turns.specs.replay_events.specs.declared.results.DelayResult.{DelayResult}
-use Rattle.uplink_turns.specs.unit_model.specs.Lists.{each_tick}
-use Rattle.uplink_turns.specs.unit_model.specs.Meetings.{Arrival}
-use Rattle.uplink_turns.specs.unit_model.specs.Radiated.{first_clock}
+use Rattle.fh_document.specs.declared.delivered.TrafficClass.TheVariants.{M}
+use Rattle.fh_document.specs.declared.document.Document.{Document}
+use Rattle.replay_events.specs.Moments.{end_of_time, landing_at}
+use Rattle.replay_events.specs.Traffic.{Traffic}
+use Rattle.replay_events.specs.declared.results.DelayResult.{DelayResult}
+use Rattle.unit_model.specs.Lists.{each_tick}
+use Rattle.unit_model.specs.Meetings.{Arrival}
+use Rattle.unit_model.specs.Radiated.{first_clock}
 use Rattle.measured_traffic.specs.Doings.{Doings, nothing, results_of, taken, with_begins, with_frames}
 use Rattle.measured_traffic.specs.Measured.{delay_frame, exchanges, flights_then}
-use Rattle.uplink_turns.specs.plan_model.specs.Lines.{uplink_allocations}
-use Rattle.document_delays.specs.air_source.specs.Units.{same_side}
+use Rattle.plan_model.specs.Lines.{uplink_allocations}
+use Rattle.air_source.specs.Units.{same_side}
 
 -- ---- what leaves
 

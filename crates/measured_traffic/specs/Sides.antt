@@ -1,15 +1,15 @@
 -- What a unit has, as one side of what both units heard tick by tick (`delay_laws`).
 use Rattle.std.specs.Prelude.{◌≡◌, ℕ, ℤ, List, map}
-use Rattle.document_delays.specs.air_source.specs.declared.events.Event.{Event}
-use Rattle.document_delays.specs.air_source.specs.declared.events.Side.{Side}
-use Rattle.document_delays.specs.delay_laws.specs.Known.{delay_event, known_while}
-use Rattle.document_delays.specs.delay_laws.specs.Nodes.{Heard, told_to}
-use Rattle.document_delays.specs.delay_laws.specs.Ticks.{Hearing, Setting, came_heard, told_all, told_one}
-use Rattle.document_delays.specs.delay_measure.specs.After.{Told}
+use Rattle.air_source.specs.declared.events.Event.{Event}
+use Rattle.air_source.specs.declared.events.Side.{Side}
+use Rattle.delay_laws.specs.Known.{delay_event, known_while}
+use Rattle.delay_laws.specs.Nodes.{Heard, told_to}
+use Rattle.delay_laws.specs.Ticks.{Hearing, Setting, came_heard, told_all, told_one}
+use Rattle.delay_measure.specs.After.{Told}
 use Rattle.measured_traffic.specs.Measured.{delay_frame, delay_messages}
 use Rattle.measured_traffic.specs.Doings.{Doings, told_in, with_frame}
-use Rattle.uplink_turns.specs.replay_events.specs.declared.results.DelayResult.{DelayResult}
-use Rattle.document_delays.specs.air_source.specs.Units.{other}
+use Rattle.replay_events.specs.declared.results.DelayResult.{DelayResult}
+use Rattle.air_source.specs.Units.{other}
 
 -- it was told what was told to this side, and the frames that were not taken are those of what this side sent at the tick
 pub record IsSideOf (side : Side) (h : Hearing) (d : Doings) : Type 0 where

@@ -1,21 +1,21 @@
 -- What a loop that goes over a document's replay tick by tick rests on, with delay measurement.
 use Rattle.std.specs.Prelude.{◌≡◌, ℤ, pos, ◌+ℤ◌, ◌≤ℤ◌, ◌<ℤ◌, ◌<◌, ◌^◌, List, [], ◌∷◌, ◌++◌, All, length, map}
-use Rattle.document_delays.specs.air_source.specs.declared.events.Side.{Side}
-use Rattle.document_delays.specs.air_source.specs.declared.events.Side.TheVariants.{Ru}
-use Rattle.document_delays.specs.delay_laws.specs.Ticks.{Flight}
+use Rattle.air_source.specs.declared.events.Side.{Side}
+use Rattle.air_source.specs.declared.events.Side.TheVariants.{Ru}
+use Rattle.delay_laws.specs.Ticks.{Flight}
 use Rattle.document_traffic.specs.Laws.{IsReplayable}
 use Rattle.document_traffic.specs.Landing.{antenna_for, copies_in, leaving_answer, leaving_up}
 use Rattle.document_traffic.specs.Sending.{Leaving, SentCounts, delayed}
-use Rattle.document_delays.specs.fh_document.specs.declared.delivered.TrafficClass.TheVariants.{M}
-use Rattle.document_delays.specs.fh_document.specs.declared.document.Document.{Document}
-use Rattle.uplink_turns.specs.replay_events.specs.Moments.{end_of_time}
-use Rattle.uplink_turns.specs.replay_events.specs.Passing.{IsCalm}
-use Rattle.uplink_turns.specs.unit_model.specs.Radiated.{first_clock}
+use Rattle.fh_document.specs.declared.delivered.TrafficClass.TheVariants.{M}
+use Rattle.fh_document.specs.declared.document.Document.{Document}
+use Rattle.replay_events.specs.Moments.{end_of_time}
+use Rattle.replay_events.specs.Passing.{IsCalm}
+use Rattle.unit_model.specs.Radiated.{first_clock}
 use Rattle.uplink_turns.specs.Turns.{left_from}
 use Rattle.measured_traffic.specs.Doings.{nothing, taken}
 use Rattle.measured_traffic.specs.Measured.{exchanges, flights_then}
 use Rattle.measured_traffic.specs.Replayed.{all_leaving, begins_at, doings_at, landings_for, leaving_flight, leaving_from, leaving_made, made_at}
-use Rattle.document_delays.specs.air_source.specs.Units.{other}
+use Rattle.air_source.specs.Units.{other}
 
 -- ---- what leaves
 

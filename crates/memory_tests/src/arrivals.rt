@@ -2,11 +2,11 @@
 // symbol, and data from 345 to 134 us. The bytes and the counters are worked out by hand.
 ghost use Rattle.std.specs.Prelude.{◌≡◌, ◌<◌, ◌≤ℤ◌, pos, List, [], ◌∷◌, IfOk};
 ghost use Rattle.fh_time.specs.Numbering.{slots_of};
-ghost use Rattle.unit_memory.specs.air_source.specs.declared.events.Side.{Side as SpecSide};
-ghost use Rattle.unit_memory.specs.window_config.specs.Configs.{IsConfig};
-ghost use Rattle.unit_memory.specs.unit_model.specs.Meetings.{Arrival};
-ghost use Rattle.unit_memory.specs.unit_model.specs.Proper.{IsTime};
-ghost use Rattle.unit_memory.specs.unit_cells.specs.Cells.{endpoints_of};
+ghost use Rattle.air_source.specs.declared.events.Side.{Side as SpecSide};
+ghost use Rattle.window_config.specs.Configs.{IsConfig};
+ghost use Rattle.unit_model.specs.Meetings.{Arrival};
+ghost use Rattle.unit_model.specs.Proper.{IsTime};
+ghost use Rattle.unit_cells.specs.Cells.{endpoints_of};
 ghost use Rattle.unit_memory.specs.Memory.{Holds};
 
 use crate::samples::{block_at, config, endpoint};

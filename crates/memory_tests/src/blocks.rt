@@ -2,7 +2,7 @@
 // from 345 to 134 us before their symbol, and symbol 1 begins 36.2 us behind symbol 0.
 ghost use Rattle.std.specs.Prelude.{◌≡◌, ◌<◌, List, [], ◌∷◌};
 ghost use Rattle.fh_time.specs.Numbering.{slots_of};
-ghost use Rattle.unit_memory.specs.unit_cells.specs.Cells.{endpoints_of};
+ghost use Rattle.unit_cells.specs.Cells.{endpoints_of};
 
 use crate::receiving::{counted, field, receive};
 use crate::samples::{block_at, config, endpoint};

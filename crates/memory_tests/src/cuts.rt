@@ -3,8 +3,8 @@
 ghost use Rattle.std.specs.Prelude.{◌≡◌, ◌<◌, ◌≤◌, List, [], ◌∷◌, IfOk, length};
 ghost use Rattle.bfp_codec.specs.Layout.{HasWidth};
 ghost use Rattle.fh_time.specs.Numbering.{slots_of, symbols_of};
-ghost use Rattle.unit_memory.specs.window_config.specs.Configs.{IsConfig};
-ghost use Rattle.unit_memory.specs.unit_cells.specs.Cells.{endpoints_of};
+ghost use Rattle.window_config.specs.Configs.{IsConfig};
+ghost use Rattle.unit_cells.specs.Cells.{endpoints_of};
 
 use crate::receiving::{counted, field, receive};
 use crate::samples::{accept, block_at, claim_at, config, endpoint, section};

@@ -1,8 +1,8 @@
 // Fragments that come to cells: what `take_message` requires holds after the calls before it.
 ghost use Rattle.std.specs.Prelude.{◌≡◌, ◌<◌, List, [], ◌∷◌};
 ghost use Rattle.bfp_codec.specs.Layout.{HasWidth};
-ghost use Rattle.unit_memory.specs.ecpri_fragments.specs.Assemblies.{endpoints_of as assembly_endpoints};
-ghost use Rattle.unit_memory.specs.unit_cells.specs.Cells.{endpoints_of};
+ghost use Rattle.ecpri_fragments.specs.Assemblies.{endpoints_of as assembly_endpoints};
+ghost use Rattle.unit_cells.specs.Cells.{endpoints_of};
 
 use ecpri_fragments::{Assembly, Lease, SeqField, Taken};
 use fault_counters::{Counter, Counters};

@@ -1,8 +1,8 @@
 // A ring of two places on a carrier of 4 PRBs at 30 kHz. The functions here test at run time what the ring's calls require, so that the
 // tests need no proof of what was called before.
 ghost use Rattle.std.specs.Prelude.{◌≡◌, true};
-ghost use Rattle.unit_memory.specs.unit_model.specs.Proper.{IsSlot};
-ghost use Rattle.unit_memory.specs.unit_cells.specs.slot_rings.specs.Rings.{has_slot};
+ghost use Rattle.unit_model.specs.Proper.{IsSlot};
+ghost use Rattle.slot_rings.specs.Rings.{has_slot};
 
 use crate::samples::endpoint;
 use bfp_codec::{Method, Wide};

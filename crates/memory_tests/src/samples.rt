@@ -2,9 +2,9 @@
 ghost use Rattle.std.specs.Prelude.{◌≡◌, ◌<◌, ◌≤◌, List, [], ◌∷◌};
 ghost use Rattle.bfp_codec.specs.Layout.{HasWidth};
 ghost use Rattle.fh_time.specs.Numbering.{slots_of, symbols_of};
-ghost use Rattle.unit_memory.specs.window_config.specs.Configs.{IsConfig};
-ghost use Rattle.unit_memory.specs.window_config.specs.Endpoints.{IsEndpoint};
-ghost use Rattle.unit_memory.specs.unit_cells.specs.Cells.{endpoints_of};
+ghost use Rattle.window_config.specs.Configs.{IsConfig};
+ghost use Rattle.window_config.specs.Endpoints.{IsEndpoint};
+ghost use Rattle.unit_cells.specs.Cells.{endpoints_of};
 
 use bfp_codec::{Format, Method};
 use cplane_sections::{CBody, CHead, CSection};

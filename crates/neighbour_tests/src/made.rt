@@ -1,8 +1,8 @@
 // What the tests make: ranges, and configurations whose endpoints have ids that follow one another.
 ghost use Rattle.std.specs.Prelude.{◌≡◌, ◌+◌, ◌≤◌, ◌<◌, ◌^◌, length};
-ghost use Rattle.window_lines.specs.window_config.specs.Configs.{IsConfig};
-ghost use Rattle.window_lines.specs.window_config.specs.Endpoints.{IsEndpoint, AreEndpoints};
-ghost use Rattle.window_lines.specs.window_config.specs.Limits.{IsWithinLimits};
+ghost use Rattle.window_config.specs.Configs.{IsConfig};
+ghost use Rattle.window_config.specs.Endpoints.{IsEndpoint, AreEndpoints};
+ghost use Rattle.window_config.specs.Limits.{IsWithinLimits};
 
 use bfp_codec::{Format, Method};
 use eaxc_map::Widths;

@@ -1,5 +1,5 @@
 // Fitted windows and what shows that a relation fails, worked out by hand.
-ghost use Rattle.window_lines.specs.window_config.specs.Limits.{IsWithinLimits};
+ghost use Rattle.window_config.specs.Limits.{IsWithinLimits};
 
 use crate::made::range;
 use window_config::{Delays, Relation};

@@ -1,6 +1,6 @@
 // Whole texts: worked by hand, and of documents whose texts another program wrote.
-ghost use Rattle.window_lines.specs.window_config.specs.Configs.{IsConfig};
-ghost use Rattle.window_lines.specs.window_config.specs.Limits.{IsWithinLimits};
+ghost use Rattle.window_config.specs.Configs.{IsConfig};
+ghost use Rattle.window_config.specs.Limits.{IsWithinLimits};
 
 use crate::made::{config, range};
 use eaxc_map::Widths;

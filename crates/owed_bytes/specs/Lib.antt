@@ -1,3 +1,2 @@
-pub use Rattle.fh_base
 pub mod CarriedLaws
 pub mod Owed

@@ -7,7 +7,7 @@ use Rattle.std.specs.Fmt.{signed_decimal}
 use Rattle.std.proofs.lemmas.List.Concat.{flat_map-cons}
 use Rattle.std.proofs.lemmas.List.Elements.{All-nil, All-cons, All-tail, All-take, All-drop}
 use Rattle.air_source.specs.declared.events.Side.{Side}
-use Rattle.line_laws.specs.fh_document.specs.Document.{document_of}
+use Rattle.fh_document.specs.Document.{document_of}
 use Rattle.line_laws.specs.Joined.{fed}
 use Rattle.line_laws.specs.Words.{frame_word}
 use Rattle.line_laws.specs.Lines.{inject_text, document_with}

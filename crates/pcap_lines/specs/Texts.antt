@@ -3,7 +3,7 @@ use Rattle.std.specs.Prelude.{ℕ, ℤ, pos, ◌*ℤ◌, List, ◌++◌, codes}
 use Rattle.std.specs.List.{flat_map}
 use Rattle.std.specs.Fmt.{signed_decimal}
 use Rattle.air_source.specs.declared.events.Side.{Side}
-use Rattle.line_laws.specs.fh_document.specs.declared.document.Injection.{Injection}
+use Rattle.fh_document.specs.declared.document.Injection.{Injection}
 use Rattle.line_laws.specs.Words.{frame_word}
 use Rattle.capture_records.specs.Records.{Arrived}
 use Rattle.pcap_frames.specs.Frames.{Timed}

@@ -4,7 +4,7 @@ ghost use Rattle.std.specs.Io.KnownBytes.{append_known};
 ghost use Rattle.fh_base.specs.Causes.{HasSinkCause};
 ghost use Rattle.fh_base.specs.Told.{WritesFront, WritesPart};
 ghost use Rattle.owed_bytes.specs.Owed.{Carried};
-ghost use Rattle.line_laws.specs.fh_document.specs.Document.{document_of};
+ghost use Rattle.fh_document.specs.Document.{document_of};
 ghost use Rattle.line_laws.specs.Lines.{document_with};
 ghost use Rattle.pcap_frames.specs.Checked.{checked};
 ghost use Rattle.pcap_frames.specs.Frames.{timed_of, frames_of};

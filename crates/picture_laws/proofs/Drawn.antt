@@ -12,8 +12,7 @@ use Rattle.grid_lines.specs.declared.endpoints.Endpoint.{Endpoint}
 use Rattle.svg_elements.specs.declared.rects.Area.{Area}
 use Rattle.grid_picture.specs.Areas.{area_of}
 use Rattle.grid_picture.specs.Bands.{head_text, foot_text}
-use Rattle.grid_picture.specs.Looks.{cell_text, line_text, looks_text}
-use Rattle.grid_picture.specs.Looks.{cells_text as drawn_of}
+use Rattle.grid_picture.specs.Looks.{cell_text, line_text, looks_text, cells_text as drawn_of}
 use Rattle.grid_picture.specs.Picture.{cells_text, grid_picture}
 use Rattle.grid_picture.specs.Spans.{is_in}
 use Rattle.grid_picture.specs.declared.spans.Span.{Span}

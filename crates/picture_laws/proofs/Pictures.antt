@@ -8,10 +8,8 @@ use Rattle.arrival_lines.specs.declared.arrivals.Arrival.{Arrival}
 use Rattle.arrival_lines.specs.declared.windows.Windows.{Windows}
 use Rattle.grid_lines.specs.Text.{grid_of}
 use Rattle.grid_lines.specs.declared.endpoints.Endpoint.{Endpoint}
-use Rattle.grid_picture.specs.Picture.{grid_picture}
-use Rattle.grid_picture.specs.Picture.{picture_for as grid_for}
-use Rattle.window_picture.specs.Picture.{windows_picture}
-use Rattle.window_picture.specs.Picture.{picture_for as windows_for}
+use Rattle.grid_picture.specs.Picture.{grid_picture, picture_for as grid_for}
+use Rattle.window_picture.specs.Picture.{windows_picture, picture_for as windows_for}
 use Rattle.picture_laws.specs.Laws.{GridsArePlain, WindowsArePlain, WindowsHavePanels}
 use Rattle.picture_laws.specs.Parts.{HasPanels}
 use Rattle.picture_laws.specs.Plain.{IsPlain}

@@ -20,8 +20,7 @@ use Rattle.svg_elements.specs.declared.texts.Anchor.TheVariants.{Start, End}
 use Rattle.grid_picture.specs.Areas.{area_of}
 use Rattle.grid_picture.specs.Bands.{band_text, bands_text, block_text, column_text, columns_text, entry_text, first_text, foot_text, from_text, head_text, hint_text, label_text, legend_text, lines_text, note_text, scs_name, second_text, slot_name, slot_text, slots_text, span_title, third_text, title_text}
 use Rattle.grid_picture.specs.Frames.{slot_begin}
-use Rattle.grid_picture.specs.Looks.{line_text, looks_text, shown_name, title_of}
-use Rattle.grid_picture.specs.Looks.{cells_text as drawn_of}
+use Rattle.grid_picture.specs.Looks.{line_text, looks_text, shown_name, title_of, cells_text as drawn_of}
 use Rattle.grid_picture.specs.Picture.{cells_text, grid_picture}
 use Rattle.grid_picture.specs.Sizes.{block_of, height_of, legend_of, step_of}
 use Rattle.grid_picture.specs.Spans.{begin_of, is_in, x_after}

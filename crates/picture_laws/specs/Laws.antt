@@ -5,8 +5,7 @@ use Rattle.line_words.specs.Words.{without_last_feed}
 use Rattle.grid_lines.specs.declared.endpoints.Endpoint.{Endpoint}
 use Rattle.grid_picture.specs.Bands.{head_text, foot_text}
 use Rattle.grid_picture.specs.Looks.{line_text}
-use Rattle.grid_picture.specs.Picture.{grid_picture}
-use Rattle.grid_picture.specs.Picture.{drawn as grid_drawn}
+use Rattle.grid_picture.specs.Picture.{grid_picture, drawn as grid_drawn}
 use Rattle.grid_picture.specs.Spans.{IsSpan}
 use Rattle.grid_picture.specs.declared.spans.Span.{Span}
 use Rattle.window_picture.specs.Picture.{drawn as windows_drawn}

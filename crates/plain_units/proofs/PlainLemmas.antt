@@ -8,7 +8,7 @@ use Rattle.fault_counters.specs.declared.kinds.Counter.{Counter}
 use Rattle.fault_counters.specs.declared.kinds.Counter.TheVariants as counter
 use Rattle.fault_counters.specs.Counts.{capped, once, times}
 use Rattle.unit_model.specs.Terms.{Side, Config, Delays, EndpointConfig, Class}
-use Rattle.unit_model.specs.window_config.specs.declared.verdicts.Class.TheVariants as class
+use Rattle.window_config.specs.declared.verdicts.Class.TheVariants as class
 use Rattle.ecpri_fragments.specs.Generations.{Fragment}
 use Rattle.ecpri_fragments.specs.declared.assembly.Assembly.{Assembly}
 use Rattle.ecpri_fragments.specs.declared.verdict.Verdict.{Verdict}
@@ -17,13 +17,12 @@ use Rattle.ecpri_fragments.specs.Verdicts.{Message, verdict_on, whole_now}
 use Rattle.ecpri_frames.specs.Messages.{Message as WholeMessage, pdu}
 use Rattle.unit_model.specs.Blocks.{timely, data_class, data_verdict, data_verdicts, with_timely}
 use Rattle.unit_model.specs.Commands.{accepted, command_verdict, command_verdicts, with_accepted}
-use Rattle.unit_model.specs.Counts.{data_counter, refusal_counted, decoded_counted, fragment_counter, piece_counted, messages_counted, frames_counted, commands_counted, data_counted}
+use Rattle.unit_model.specs.Counts.{data_counter, refusal_counted, decoded_counted, fragment_counter, piece_counted, messages_counted, frames_counted, commands_counted, data_counted, counted_of}
 use Rattle.unit_model.specs.Lists.{onto}
 use Rattle.unit_model.specs.Decoding.{Decoded, decode, sections_of, data_told, decoded_now, data_now, data_sections}
 use Rattle.unit_model.specs.Meetings.{Arrival, Meeting, met_in, Ignored, Commands, Piece, commands, fragments}
 use Rattle.plain_units.specs.Owned.{owned, IsTaken}
 use Rattle.plain_units.specs.Plain.{PlainHolds, PlainStands}
-use Rattle.unit_model.specs.Counts.{counted_of}
 use Rattle.unit_model.specs.Reports.{hold_of}
 use Rattle.plain_units.specs.declared.taking.OwnedMessage.{OwnedMessage}
 use Rattle.unit_model.specs.Proper.{IsProperAllocation, IsProperData, IsTime}

@@ -4,11 +4,11 @@ use Rattle.std.proofs.lemmas.List.{append-nil, take-append-drop, take_all}
 use Rattle.std.proofs.Math.Seq.{take-add}
 use Rattle.fh_time.specs.declared.values.Shape.{Shape}
 use Rattle.bfp_codec.specs.declared.methods.Format.{Format}
-use Rattle.unit_model.specs.uplane_sections.specs.declared.walking.UWalker.{UWalker}
+use Rattle.uplane_sections.specs.declared.walking.UWalker.{UWalker}
 use Rattle.unit_model.specs.Terms.{URefusal, UFeed}
-use Rattle.unit_model.specs.uplane_sections.specs.Messages.{Item, Telling, refused, after, told}
-use Rattle.unit_model.specs.uplane_sections.specs.Phases.{feed_told}
-use Rattle.unit_model.specs.uplane_sections.specs.States.{tells, StandsBehind}
+use Rattle.uplane_sections.specs.Messages.{Item, Telling, refused, after, told}
+use Rattle.uplane_sections.specs.Phases.{feed_told}
+use Rattle.uplane_sections.specs.States.{tells, StandsBehind}
 use Rattle.unit_model.specs.Decoding.{Gathering, nothing_told, gathered}
 use Rattle.unit_model.proofs.GatheringLemmas.{gathered-append}
 

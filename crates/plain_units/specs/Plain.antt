@@ -7,7 +7,7 @@ use Rattle.fault_counters.specs.declared.kinds.Counter.{Counter}
 use Rattle.fault_counters.specs.Counts.{capped, times, count_of}
 use Rattle.unit_model.specs.Blocks.{timely, data_verdicts}
 use Rattle.unit_model.specs.Commands.{accepted, command_verdicts}
-use Rattle.unit_model.specs.Counts.{commands_counted, data_counted}
+use Rattle.unit_model.specs.Counts.{commands_counted, data_counted, counted_of}
 use Rattle.unit_model.specs.Decoding.{data_sections}
 use Rattle.unit_model.specs.Meetings.{Arrival, Meeting, commands, fragments}
 use Rattle.unit_model.specs.Proper.{IsProperAllocation, IsProperData, IsTime}
@@ -16,7 +16,6 @@ use Rattle.unit_model.specs.declared.decoded.ControlSection.{ControlSection}
 use Rattle.unit_model.specs.declared.decoded.UserSection.{UserSection}
 use Rattle.plain_units.specs.declared.plain.Plain.{Plain}
 use Rattle.plain_units.specs.declared.report.TimedFrame.{TimedFrame}
-use Rattle.unit_model.specs.Counts.{counted_of}
 
 -- It stands for these fragments, sections of commands and sections of data, the newest first, and has counted so much beside
 -- the verdicts on the sections.

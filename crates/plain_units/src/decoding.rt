@@ -2,7 +2,7 @@
 ghost use Rattle.std.specs.Prelude.{◌≡◌, List as Items, All, IfOk, map};
 ghost use Rattle.bfp_codec.specs.Layout.{HasWidth};
 ghost use Rattle.fh_time.specs.Numbering.{shape_of};
-ghost use Rattle.unit_model.specs.uplane_sections.specs.Messages.{told};
+ghost use Rattle.uplane_sections.specs.Messages.{told};
 ghost use Rattle.unit_model.specs.Terms.{EndpointConfig as SpecEndpoint};
 ghost use Rattle.unit_model.specs.Decoding.{nothing_told, gathered, data_with, decoded_with, decode as decoded, sections_of};
 ghost use Rattle.plain_units.specs.DecodedWords.{decoded_of};

@@ -71,8 +71,8 @@ fn lengthen_first(parts: &mut Vec<Part>, samples: [Wide; 12]) -> Result<(), NoMe
 
 impl Gathered {
     ghost use Rattle.unit_model.specs.Decoding.{nothing_told, gathered, with_item};
-    ghost use Rattle.unit_model.specs.uplane_sections.specs.Messages.{Section, Block};
-    ghost use Rattle.unit_model.specs.uplane_sections.specs.Phases.{feed_told};
+    ghost use Rattle.uplane_sections.specs.Messages.{Section, Block};
+    ghost use Rattle.uplane_sections.specs.Phases.{feed_told};
 
     /// Nothing.
     pub(crate) fn new(alloc: Global) -> Gathered

@@ -3,19 +3,19 @@ use Rattle.std.proofs.Common.{◌≡◌, ℕ, ◌+◌, ◌<◌, ◌≤◌, inl, 
 use Rattle.std.specs.List.{list_any}
 use Rattle.std.proofs.lemmas.Bool.{cases_Bool, or_cases, and_parts, and_from, or_left, or_right, eq-eqb, eqb-true}
 use Rattle.std.specs.Cmp.{both_ways}
-use Rattle.slot_rings.specs.unit_model.specs.Lists.{some}
-use Rattle.slot_rings.specs.unit_model.specs.declared.allocations.Allocation.{Allocation}
-use Rattle.slot_rings.specs.unit_model.specs.declared.cells.Cell.{Cell}
-use Rattle.slot_rings.specs.unit_model.specs.declared.cells.Claim.{Claim}
-use Rattle.slot_rings.specs.unit_model.specs.Claims.{same_slot, same_way, first_prb, prb_count, covers, in_mask, names, claim_of, claim_at, cell_of, some_cell, is_under, is_other, is_claimed, is_overlapped, repeats, overlaps}
-use Rattle.plan_parts.specs.fragment_laws.specs.Apart.{IsIn}
-use Rattle.plan_parts.specs.plan_model.specs.Validity.{ranges_meet, share_cell, share_bit, clash, IsProper}
-use Rattle.plan_parts.specs.plan_model.proofs.ListLemmas.{any_in, among}
-use Rattle.plan_parts.specs.plan_model.proofs.RangeLemmas.{found, common}
-use Rattle.plan_parts.specs.plan_model.proofs.SlotLemmas.{eqb_swap}
-use Rattle.plan_parts.specs.plan_model.proofs.ClashLemmas.{bit_of, name_one, cell_at_start, overlap_of}
+use Rattle.unit_model.specs.Lists.{some}
+use Rattle.unit_model.specs.declared.allocations.Allocation.{Allocation}
+use Rattle.unit_model.specs.declared.cells.Cell.{Cell}
+use Rattle.unit_model.specs.declared.cells.Claim.{Claim}
+use Rattle.unit_model.specs.Claims.{same_slot, same_way, first_prb, prb_count, covers, in_mask, names, claim_of, claim_at, cell_of, some_cell, is_under, is_other, is_claimed, is_overlapped, repeats, overlaps}
+use Rattle.fragment_laws.specs.Apart.{IsIn}
+use Rattle.plan_model.specs.Validity.{ranges_meet, share_cell, share_bit, clash, IsProper}
+use Rattle.plan_model.proofs.ListLemmas.{any_in, among}
+use Rattle.plan_model.proofs.RangeLemmas.{found, common}
+use Rattle.plan_model.proofs.SlotLemmas.{eqb_swap}
+use Rattle.plan_model.proofs.ClashLemmas.{bit_of, name_one, cell_at_start, overlap_of}
 use Rattle.plan_check.specs.Slots.{AreProper, AreClear}
-use Rattle.slot_rings.specs.unit_model.proofs.ClaimLemmas.{same_way_is as way_is, same_slot_is as slot_is, way_self as way_own, slot_self as slot_own, every_at, some_one}
+use Rattle.unit_model.proofs.ClaimLemmas.{same_way_is as way_is, same_slot_is as slot_is, way_self as way_own, slot_self as slot_own, every_at, some_one}
 
 -- ---- a cell that both cover
 

@@ -6,14 +6,14 @@ use Rattle.std.proofs.lemmas.Bool.{and_parts, eq-eqb, eqb-true, cases_eq}
 use Rattle.std.proofs.lemmas.Option.{slice_get_within}
 use Rattle.window_config.specs.Endpoints.{IsEndpoint}
 use Rattle.window_config.specs.declared.endpoints.EndpointConfig.{EndpointConfig}
-use Rattle.slot_rings.specs.unit_model.specs.declared.allocations.Allocation.{Allocation}
-use Rattle.plan_parts.specs.fragment_laws.specs.Apart.{IsIn}
-use Rattle.plan_parts.specs.plan_model.specs.Lines.{line_allocation}
-use Rattle.plan_parts.specs.plan_model.specs.Validity.{why_claimed}
-use Rattle.plan_parts.specs.plan_model.specs.declared.lines.PlannedLine.{PlannedLine}
-use Rattle.plan_parts.specs.plan_model.specs.declared.refusals.PlanWhy.{PlanWhy}
-use Rattle.plan_parts.specs.plan_model.proofs.ListLemmas.{of_filter, in_filter, all_in, all_from, filter_same, endpoint_is}
-use Rattle.plan_parts.specs.plan_model.proofs.SizeLemmas.{some_prbs}
+use Rattle.unit_model.specs.declared.allocations.Allocation.{Allocation}
+use Rattle.fragment_laws.specs.Apart.{IsIn}
+use Rattle.plan_model.specs.Lines.{line_allocation}
+use Rattle.plan_model.specs.Validity.{why_claimed}
+use Rattle.plan_model.specs.declared.lines.PlannedLine.{PlannedLine}
+use Rattle.plan_model.specs.declared.refusals.PlanWhy.{PlanWhy}
+use Rattle.plan_model.proofs.ListLemmas.{of_filter, in_filter, all_in, all_from, filter_same, endpoint_is}
+use Rattle.plan_model.proofs.SizeLemmas.{some_prbs}
 use Rattle.plan_parts.specs.Placing.{ArePlaced, IsPlaced}
 use Rattle.plan_check.specs.Judging.{Covers, IsBefore, IsLineOf, ep_of}
 use Rattle.plan_check.specs.Slots.{IsFrom, AreProper, is_of_slot, judged, judged_in, of_home, lesser_refusal, least_along, entry_of, numbered_lines, refused_along, refused_in, why_judged}

@@ -7,30 +7,30 @@ use Rattle.fh_time.specs.Carrier.{is_outside}
 use Rattle.fh_time.specs.Numbering.{symbols_of}
 use Rattle.fh_time.specs.declared.values.Slot.{Slot}
 use Rattle.window_config.specs.declared.endpoints.EndpointConfig.{EndpointConfig}
-use Rattle.slot_rings.specs.unit_model.specs.Claims.{same_slot, claim_at, covers, names, repeats, overlaps, claim_of}
-use Rattle.slot_rings.specs.unit_model.specs.Commands.{is_uplink, uplink_in, is_full, timely_verdict}
-use Rattle.slot_rings.specs.unit_model.specs.Proper.{IsSlot}
-use Rattle.slot_rings.specs.unit_model.specs.declared.allocations.Allocation.{Allocation}
-use Rattle.slot_rings.specs.unit_model.specs.declared.cells.Cell.{Cell}
-use Rattle.slot_rings.specs.unit_model.specs.declared.cells.Claim.{Claim}
-use Rattle.slot_rings.specs.unit_model.specs.declared.verdicts.CommandVerdict.{CommandVerdict}
-use Rattle.slot_rings.specs.unit_model.specs.declared.verdicts.CommandVerdict.TheVariants as verdict
-use Rattle.plan_parts.specs.unit_laws.proofs.LookupLemmas.{repeats_by_lookup, overlaps_by_lookup}
+use Rattle.unit_model.specs.Claims.{same_slot, claim_at, covers, names, repeats, overlaps, claim_of}
+use Rattle.unit_model.specs.Commands.{is_uplink, uplink_in, is_full, timely_verdict}
+use Rattle.unit_model.specs.Proper.{IsSlot}
+use Rattle.unit_model.specs.declared.allocations.Allocation.{Allocation}
+use Rattle.unit_model.specs.declared.cells.Cell.{Cell}
+use Rattle.unit_model.specs.declared.cells.Claim.{Claim}
+use Rattle.unit_model.specs.declared.verdicts.CommandVerdict.{CommandVerdict}
+use Rattle.unit_model.specs.declared.verdicts.CommandVerdict.TheVariants as verdict
+use Rattle.unit_laws.proofs.LookupLemmas.{repeats_by_lookup, overlaps_by_lookup}
 use Rattle.slot_rings.specs.Places.{PlaceValue, blank, is_place_of}
 use Rattle.slot_rings.specs.Rings.{RingValue, IsRingCell, place_index, place_of, has_slot, ring_claim, ring_uplink, SameClaims, SameUplink, TouchesOnly}
 use Rattle.slot_rings.specs.Verdicts.{repeats_by, overlaps_by, verdict_by, claim_after, uplink_after}
 use Rattle.slot_rings.proofs.PlaceLemmas.{of_is}
 use Rattle.slot_rings.proofs.RingLemmas.{index_within}
-use Rattle.plan_parts.specs.plan_model.specs.Lines.{line_allocation}
-use Rattle.plan_parts.specs.plan_model.specs.Validity.{is_out_of_range}
-use Rattle.plan_parts.specs.plan_model.specs.declared.lines.PlannedLine.{PlannedLine}
-use Rattle.plan_parts.specs.plan_model.specs.declared.refusals.PlanWhy.{PlanWhy}
-use Rattle.plan_parts.specs.plan_model.specs.declared.refusals.PlanWhy.TheVariants.{Overlap, TooManySections}
+use Rattle.plan_model.specs.Lines.{line_allocation}
+use Rattle.plan_model.specs.Validity.{is_out_of_range}
+use Rattle.plan_model.specs.declared.lines.PlannedLine.{PlannedLine}
+use Rattle.plan_model.specs.declared.refusals.PlanWhy.{PlanWhy}
+use Rattle.plan_model.specs.declared.refusals.PlanWhy.TheVariants.{Overlap, TooManySections}
 use Rattle.plan_parts.proofs.InsideLemmas.{inside_is, slot_inside}
 use Rattle.plan_check.specs.Judging.{IsLineOf, IsLineAt, Knows, why_in}
 use Rattle.plan_check.specs.Slots.{why_judged}
-use Rattle.slot_rings.specs.unit_model.specs.declared.uplink.TheConstants.{SLOT_SECTIONS}
-use Rattle.slot_rings.specs.unit_model.proofs.ClaimLemmas.{within_carrier, slot_self as slot_own, from_within, covers_is}
+use Rattle.unit_model.specs.declared.uplink.TheConstants.{SLOT_SECTIONS}
+use Rattle.unit_model.proofs.ClaimLemmas.{within_carrier, slot_self as slot_own, from_within, covers_is}
 
 -- ---- what it is to be in range
 

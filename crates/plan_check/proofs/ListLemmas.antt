@@ -1,13 +1,13 @@
 -- Slots that are full, and lines that are tested one after the other.
 use Rattle.std.proofs.Common.{◌≡◌, Bool, true, false, ◌||◌, if◌then◌else◌, List, Option, Some, None, refl}
 use Rattle.std.specs.List.{list_any}
-use Rattle.slot_rings.specs.unit_model.specs.declared.allocations.Allocation.{Allocation}
-use Rattle.slot_rings.specs.unit_model.specs.Claims.{repeats, overlaps}
-use Rattle.slot_rings.specs.unit_model.specs.Commands.{is_full}
-use Rattle.plan_parts.specs.plan_model.specs.Validity.{clash, why_claimed, IsProper}
-use Rattle.plan_parts.specs.plan_model.specs.declared.refusals.PlanWhy.{PlanWhy}
+use Rattle.unit_model.specs.declared.allocations.Allocation.{Allocation}
+use Rattle.unit_model.specs.Claims.{repeats, overlaps}
+use Rattle.unit_model.specs.Commands.{is_full}
+use Rattle.plan_model.specs.Validity.{clash, why_claimed, IsProper}
+use Rattle.plan_model.specs.declared.refusals.PlanWhy.{PlanWhy}
 use Rattle.plan_check.specs.Slots.{AreProper, AreClear, why_judged}
-use Rattle.plan_parts.specs.plan_model.specs.declared.refusals.PlanWhy.TheVariants.{Overlap, TooManySections}
+use Rattle.plan_model.specs.declared.refusals.PlanWhy.TheVariants.{Overlap, TooManySections}
 use Rattle.plan_check.proofs.ClashLemmas.{verdict_is}
 
 -- ---- line by line

@@ -1,11 +1,11 @@
 -- Messages part by part are the packs of the definition, with their numbers and times.
 use Rattle.std.proofs.Common.{◌≡◌, ℕ, ℤ, pos, ◌+◌, ◌*◌, ◌+ℤ◌, Bool, true, false, min, if◌then◌else◌, List, [], ◌∷◌, length, map, refl, ap, ap₂, sym, ◌∙◌, arith}
 use Rattle.window_config.specs.declared.config.Config.{Config}
-use Rattle.plan_parts.specs.plan_model.specs.Dense.{sending_of}
-use Rattle.plan_parts.specs.plan_model.specs.Departures.{departures_of, start_of_part}
-use Rattle.plan_parts.specs.plan_model.specs.Packs.{Message, alone as message_alone, with_part, size_of, takes, packs_behind, packs, frames_before, numbered_behind, numbered}
-use Rattle.plan_parts.specs.plan_model.specs.Streams.{Part, part_fields}
-use Rattle.plan_parts.specs.plan_model.specs.declared.dense.Sending.{Sending}
+use Rattle.plan_model.specs.Dense.{sending_of}
+use Rattle.plan_model.specs.Departures.{departures_of, start_of_part}
+use Rattle.plan_model.specs.Packs.{Message, alone as message_alone, with_part, size_of, takes, packs_behind, packs, frames_before, numbered_behind, numbered}
+use Rattle.plan_model.specs.Streams.{Part, part_fields}
+use Rattle.plan_model.specs.declared.dense.Sending.{Sending}
 use Rattle.plan_parts.proofs.OpenLemmas.{IsOpenOf, first_is, grown_is, next_is, takes_is}
 use Rattle.plan_parts.specs.OpenMessages.{alone, grown, takes_more}
 use Rattle.plan_check.specs.Walks.{stream_of, dense_limits_of, sending_next_to, open_sending, sending_walk, sendings_walked}
@@ -13,7 +13,7 @@ use Rattle.plan_parts.specs.Parts.{timed}
 use Rattle.plan_parts.specs.declared.parts.TimedPart.{TimedPart}
 use Rattle.plan_check.specs.declared.walking.Limits.{Limits}
 use Rattle.plan_parts.specs.declared.open_messages.OpenMessage.{OpenMessage}
-use Rattle.slot_rings.specs.unit_model.specs.Terms.{piece_count}
+use Rattle.unit_model.specs.Terms.{piece_count}
 
 -- ---- the messages, one after the other
 

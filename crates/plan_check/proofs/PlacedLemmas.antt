@@ -4,14 +4,14 @@ use Rattle.std.specs.Prelude.{slice_get}
 use Rattle.std.proofs.lemmas.List.{append-nil, drop_all}
 use Rattle.window_config.specs.declared.endpoints.EndpointConfig.{EndpointConfig}
 use Rattle.window_config.specs.declared.plan.PlanLine.{PlanLine}
-use Rattle.slot_rings.specs.unit_model.specs.Lists.{or_else}
-use Rattle.slot_rings.specs.unit_model.specs.declared.allocations.Allocation.{Allocation}
-use Rattle.slot_rings.specs.unit_model.specs.Meetings.{find_endpoint}
-use Rattle.plan_parts.specs.plan_model.specs.Lines.{line_allocation, planned_with, planned_at, planned_from}
-use Rattle.plan_parts.specs.plan_model.specs.Validity.{is_out_of_range, why_claimed, why_found, refused_at, with_line, refused_from}
-use Rattle.plan_parts.specs.plan_model.specs.declared.lines.PlannedLine.{PlannedLine}
-use Rattle.plan_parts.specs.plan_model.specs.declared.refusals.PlanWhy.{PlanWhy}
-use Rattle.plan_parts.specs.plan_model.specs.declared.refusals.PlanWhy.TheVariants.{Range}
+use Rattle.unit_model.specs.Lists.{or_else}
+use Rattle.unit_model.specs.declared.allocations.Allocation.{Allocation}
+use Rattle.unit_model.specs.Meetings.{find_endpoint}
+use Rattle.plan_model.specs.Lines.{line_allocation, planned_with, planned_at, planned_from}
+use Rattle.plan_model.specs.Validity.{is_out_of_range, why_claimed, why_found, refused_at, with_line, refused_from}
+use Rattle.plan_model.specs.declared.lines.PlannedLine.{PlannedLine}
+use Rattle.plan_model.specs.declared.refusals.PlanWhy.{PlanWhy}
+use Rattle.plan_model.specs.declared.refusals.PlanWhy.TheVariants.{Range}
 use Rattle.std.specs.Option.{option_to_list}
 use Rattle.plan_check.specs.Placed.{why_alone, placing, placed_on, placed_from, stopped_from}
 use Rattle.plan_check.specs.Slots.{refused_along, numbered_lines, entry_of}

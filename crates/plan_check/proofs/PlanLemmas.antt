@@ -9,17 +9,17 @@ use Rattle.window_config.specs.Plans.{IsPlanLine}
 use Rattle.window_config.specs.declared.config.Config.{Config}
 use Rattle.window_config.specs.declared.endpoints.EndpointConfig.{EndpointConfig}
 use Rattle.window_config.specs.declared.plan.PlanLine.{PlanLine}
-use Rattle.slot_rings.specs.unit_model.specs.Lists.{or_else}
-use Rattle.slot_rings.specs.unit_model.specs.Meetings.{find_from, find_endpoint}
-use Rattle.slot_rings.specs.unit_model.specs.Proper.{IsAt}
-use Rattle.plan_parts.specs.plan_model.specs.Dense.{dense, dense_from, dense_in, lesser, sendings}
-use Rattle.plan_parts.specs.plan_model.specs.Lines.{line_allocation, planned, planned_with, planned_at}
-use Rattle.plan_parts.specs.plan_model.specs.Streams.{messages_of, parts_in, frames_in}
-use Rattle.plan_parts.specs.plan_model.specs.Valid.{dense_refused, plan_refusal}
-use Rattle.plan_parts.specs.plan_model.specs.Validity.{first_refused, is_out_of_range, why_claimed}
-use Rattle.plan_parts.specs.plan_model.specs.declared.dense.Dense.{Dense}
-use Rattle.plan_parts.specs.plan_model.specs.declared.lines.PlannedLine.{PlannedLine}
-use Rattle.plan_parts.specs.plan_model.specs.declared.refusals.PlanWhy.{PlanWhy}
+use Rattle.unit_model.specs.Lists.{or_else}
+use Rattle.unit_model.specs.Meetings.{find_from, find_endpoint}
+use Rattle.unit_model.specs.Proper.{IsAt}
+use Rattle.plan_model.specs.Dense.{dense, dense_from, dense_in, lesser, sendings}
+use Rattle.plan_model.specs.Lines.{line_allocation, planned, planned_with, planned_at}
+use Rattle.plan_model.specs.Streams.{messages_of, parts_in, frames_in}
+use Rattle.plan_model.specs.Valid.{dense_refused, plan_refusal}
+use Rattle.plan_model.specs.Validity.{first_refused, is_out_of_range, why_claimed}
+use Rattle.plan_model.specs.declared.dense.Dense.{Dense}
+use Rattle.plan_model.specs.declared.lines.PlannedLine.{PlannedLine}
+use Rattle.plan_model.specs.declared.refusals.PlanWhy.{PlanWhy}
 use Rattle.plan_check.specs.Answers.{distance_of}
 use Rattle.plan_parts.specs.Placing.{IsPlaced}
 use Rattle.plan_parts.specs.Parts.{timed}

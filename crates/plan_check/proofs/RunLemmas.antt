@@ -10,19 +10,17 @@ use Rattle.std.proofs.lemmas.Cmp.{nat_cmp_total, int_cmp_total, on_total, then_t
 use Rattle.std.proofs.lemmas.List.{append-nil}
 use Rattle.std.proofs.lemmas.List.Elements.{filter-append}
 use Rattle.fh_time.specs.declared.values.Slot.{Slot}
-use Rattle.slot_rings.specs.unit_model.specs.Claims.{same_slot}
-use Rattle.plan_parts.specs.fragment_laws.specs.Apart.{IsIn}
-use Rattle.plan_parts.specs.plan_model.specs.Lines.{line_allocation}
-use Rattle.plan_parts.specs.plan_model.specs.declared.lines.PlannedLine.{PlannedLine}
-use Rattle.plan_parts.specs.plan_model.specs.declared.refusals.PlanWhy.{PlanWhy}
-use Rattle.plan_parts.specs.plan_model.proofs.ListLemmas.{all_in, all_from, all_map, filter_all, filter_none}
+use Rattle.unit_model.specs.Claims.{same_slot}
+use Rattle.fragment_laws.specs.Apart.{IsIn}
+use Rattle.plan_model.specs.Lines.{line_allocation}
+use Rattle.plan_model.specs.declared.lines.PlannedLine.{PlannedLine}
+use Rattle.plan_model.specs.declared.refusals.PlanWhy.{PlanWhy}
+use Rattle.plan_model.proofs.ListLemmas.{all_in, all_from, all_map, filter_all, filter_none}
 use Rattle.plan_check.specs.Order.{slot_cmp, comes_first, ArePlannedInOrder}
 use Rattle.plan_check.specs.Slots.{is_of_slot, of_home, judged, judged_in, lesser_refusal, least_along}
-use Rattle.plan_parts.proofs.OrderLemmas.{nat_equal}
-use Rattle.plan_parts.proofs.OrderLemmas.{int_equal}
-use Rattle.plan_parts.proofs.OrderLemmas.{then_equal}
+use Rattle.plan_parts.proofs.OrderLemmas.{nat_equal, int_equal, then_equal}
 use Rattle.fh_time.proofs.Order.{same_fields as same_slot_fields}
-use Rattle.slot_rings.specs.unit_model.proofs.ClaimLemmas.{same_slot_is as slot_is, slot_self as slot_own}
+use Rattle.unit_model.proofs.ClaimLemmas.{same_slot_is as slot_is, slot_self as slot_own}
 
 -- ---- the order of slots
 

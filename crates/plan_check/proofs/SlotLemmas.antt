@@ -4,17 +4,17 @@ use Rattle.std.specs.Prelude.{⊤}
 use Rattle.std.specs.List.{list_any}
 use Rattle.std.proofs.lemmas.Bool.{cases_Bool, and_parts, and_from, eq-eqb, eqb-true}
 use Rattle.fh_time.specs.declared.values.Slot.{Slot}
-use Rattle.slot_rings.specs.unit_model.specs.declared.allocations.Allocation.{Allocation}
-use Rattle.slot_rings.specs.unit_model.specs.Claims.{same_slot, same_way}
-use Rattle.slot_rings.specs.unit_model.specs.Commands.{is_uplink, uplink_in, is_full}
-use Rattle.plan_parts.specs.fragment_laws.specs.Apart.{IsIn}
-use Rattle.plan_parts.specs.plan_model.specs.Validity.{share_cell, clash, why_claimed, refused_at}
-use Rattle.plan_parts.specs.plan_model.specs.declared.refusals.PlanWhy.{PlanWhy}
+use Rattle.unit_model.specs.declared.allocations.Allocation.{Allocation}
+use Rattle.unit_model.specs.Claims.{same_slot, same_way}
+use Rattle.unit_model.specs.Commands.{is_uplink, uplink_in, is_full}
+use Rattle.fragment_laws.specs.Apart.{IsIn}
+use Rattle.plan_model.specs.Validity.{share_cell, clash, why_claimed, refused_at}
+use Rattle.plan_model.specs.declared.refusals.PlanWhy.{PlanWhy}
 use Rattle.plan_check.specs.Slots.{AreProper, AreClear, why_judged, refused_along, refused_in, is_of_slot, IsFrom, IsLeastSlot}
-use Rattle.plan_parts.specs.plan_model.specs.declared.refusals.PlanWhy.TheVariants.{Overlap, TooManySections}
+use Rattle.plan_model.specs.declared.refusals.PlanWhy.TheVariants.{Overlap, TooManySections}
 use Rattle.plan_check.proofs.ListLemmas.{why_is, none_is}
-use Rattle.slot_rings.specs.unit_model.specs.declared.uplink.TheConstants.{SLOT_SECTIONS}
-use Rattle.slot_rings.specs.unit_model.proofs.ClaimLemmas.{same_slot_is as slot_is, slot_self as slot_own}
+use Rattle.unit_model.specs.declared.uplink.TheConstants.{SLOT_SECTIONS}
+use Rattle.unit_model.proofs.ClaimLemmas.{same_slot_is as slot_is, slot_self as slot_own}
 
 -- the words of a line that is refused, of one that is not
 abbrev pub chosen : Bool → Bool → Option PlanWhy

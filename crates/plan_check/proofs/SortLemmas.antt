@@ -8,15 +8,14 @@ use Rattle.std.proofs.lemmas.Bool.{and_parts, and_from, not-true}
 use Rattle.std.proofs.lemmas.Cmp.{tied_itself}
 use Rattle.std.proofs.lemmas.List.Sorted.{ranks_by, sorted_far}
 use Rattle.fh_time.specs.declared.values.Slot.{Slot}
-use Rattle.slot_rings.specs.unit_model.specs.Claims.{same_slot}
-use Rattle.plan_parts.specs.plan_model.specs.declared.lines.PlannedLine.{PlannedLine}
-use Rattle.plan_parts.specs.plan_model.proofs.ListLemmas.{filter_same}
+use Rattle.unit_model.specs.Claims.{same_slot}
+use Rattle.plan_model.specs.declared.lines.PlannedLine.{PlannedLine}
+use Rattle.plan_model.proofs.ListLemmas.{filter_same}
 use Rattle.plan_check.specs.Order.{slot_cmp, comes_first, ArePlannedInOrder}
 use Rattle.plan_check.specs.Slots.{of_home}
 use Rattle.plan_check.proofs.RunLemmas.{slot_total, tie_is}
-use Rattle.plan_parts.proofs.ListLemmas.{all_index}
-use Rattle.plan_parts.proofs.ListLemmas.{filter_and}
-use Rattle.slot_rings.specs.unit_model.proofs.ClaimLemmas.{same_slot_is as slot_is, slot_self as slot_own}
+use Rattle.plan_parts.proofs.ListLemmas.{all_index, filter_and}
+use Rattle.unit_model.proofs.ClaimLemmas.{same_slot_is as slot_is, slot_self as slot_own}
 
 pub first_ranks : IsStrictWeakOrder comes_first
 first_ranks = ranks_by slot_total (λ (p : PlannedLine). p.line.slot)

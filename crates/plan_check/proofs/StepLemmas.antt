@@ -4,19 +4,19 @@ use Rattle.std.specs.List.{AllByRecursion}
 use Rattle.std.proofs.lemmas.List.{take_more, drop_all, map-append}
 use Rattle.fh_time.specs.declared.values.Slot.{Slot}
 use Rattle.window_config.specs.declared.endpoints.EndpointConfig.{EndpointConfig}
-use Rattle.slot_rings.specs.unit_model.specs.Lists.{onto}
-use Rattle.slot_rings.specs.unit_model.specs.Proper.{IsSlot}
-use Rattle.slot_rings.specs.unit_model.specs.declared.allocations.Allocation.{Allocation}
-use Rattle.slot_rings.specs.unit_model.specs.declared.cells.Cell.{Cell}
-use Rattle.slot_rings.specs.unit_model.specs.declared.verdicts.CommandVerdict.{CommandVerdict}
-use Rattle.slot_rings.specs.unit_model.specs.declared.verdicts.CommandVerdict.TheVariants as verdict
-use Rattle.slot_rings.specs.unit_model.proofs.OntoLemmas.{onto-append}
+use Rattle.unit_model.specs.Lists.{onto}
+use Rattle.unit_model.specs.Proper.{IsSlot}
+use Rattle.unit_model.specs.declared.allocations.Allocation.{Allocation}
+use Rattle.unit_model.specs.declared.cells.Cell.{Cell}
+use Rattle.unit_model.specs.declared.verdicts.CommandVerdict.{CommandVerdict}
+use Rattle.unit_model.specs.declared.verdicts.CommandVerdict.TheVariants as verdict
+use Rattle.unit_model.proofs.OntoLemmas.{onto-append}
 use Rattle.slot_rings.specs.Rings.{RingValue, IsRingCell, has_slot, ring_claim, ring_uplink, SameClaims, SameUplink, TouchesOnly}
 use Rattle.slot_rings.specs.Verdicts.{verdict_by, claim_after, uplink_after}
-use Rattle.plan_parts.specs.plan_model.specs.Lines.{line_allocation}
-use Rattle.plan_parts.specs.plan_model.specs.Validity.{refused_at}
-use Rattle.plan_parts.specs.plan_model.specs.declared.lines.PlannedLine.{PlannedLine}
-use Rattle.plan_parts.specs.plan_model.specs.declared.refusals.PlanWhy.{PlanWhy}
+use Rattle.plan_model.specs.Lines.{line_allocation}
+use Rattle.plan_model.specs.Validity.{refused_at}
+use Rattle.plan_model.specs.declared.lines.PlannedLine.{PlannedLine}
+use Rattle.plan_model.specs.declared.refusals.PlanWhy.{PlanWhy}
 use Rattle.plan_check.specs.Judging.{IsLineAt, Knows, behind, why_of, why_in}
 use Rattle.plan_check.specs.Slots.{why_judged, refused_of, entry_of, judged}
 use Rattle.plan_check.proofs.KnowLemmas.{slot_of_line, verdict_known, why_known, knows_more, knows_none}

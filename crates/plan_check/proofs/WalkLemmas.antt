@@ -3,20 +3,20 @@ use Rattle.std.proofs.Common.{◌≡◌, ℕ, zero, suc, ◌+◌, ◌<◌, ◌�
 use Rattle.std.specs.List.{AllByRecursion}
 use Rattle.std.proofs.lemmas.Bool.{cases_eq}
 use Rattle.std.proofs.lemmas.List.{get_or_default, take-append-drop}
-use Rattle.slot_rings.specs.unit_model.specs.Claims.{same_slot}
+use Rattle.unit_model.specs.Claims.{same_slot}
 use Rattle.std.proofs.Math.Seq.{drop-nil}
 use Rattle.fh_time.specs.declared.values.Slot.{Slot}
 use Rattle.window_config.specs.declared.endpoints.EndpointConfig.{EndpointConfig}
-use Rattle.plan_parts.specs.fragment_laws.specs.Apart.{IsIn}
+use Rattle.fragment_laws.specs.Apart.{IsIn}
 use Rattle.slot_rings.specs.Rings.{RingValue, has_slot}
-use Rattle.plan_parts.specs.plan_model.specs.declared.lines.PlannedLine.{PlannedLine}
-use Rattle.plan_parts.specs.plan_model.specs.declared.refusals.PlanWhy.{PlanWhy}
-use Rattle.plan_parts.specs.plan_model.proofs.ListLemmas.{all_in, all_from, all_map, in_right}
+use Rattle.plan_model.specs.declared.lines.PlannedLine.{PlannedLine}
+use Rattle.plan_model.specs.declared.refusals.PlanWhy.{PlanWhy}
+use Rattle.plan_model.proofs.ListLemmas.{all_in, all_from, all_map, in_right}
 use Rattle.plan_check.specs.Judging.{IsFirstRun, IsLineOf, IsLineAt}
 use Rattle.plan_check.specs.Order.{ArePlannedInOrder}
 use Rattle.plan_check.specs.Slots.{judged, judged_in, of_home, lesser_refusal, least_along}
 use Rattle.plan_check.proofs.RunLemmas.{IsRun, run_is, home_of_run, home_of_others, least_of_run, order_behind}
-use Rattle.slot_rings.specs.unit_model.proofs.ClaimLemmas.{same_slot_is as slot_is, slot_self as slot_own}
+use Rattle.unit_model.proofs.ClaimLemmas.{same_slot_is as slot_is, slot_self as slot_own}
 
 -- ---- the first slot of what is left
 

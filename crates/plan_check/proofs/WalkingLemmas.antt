@@ -2,7 +2,7 @@
 use Rattle.std.proofs.Common.{◌≡◌, ℕ, suc, ◌+◌, ◌<◌, ◌≤◌, ◌^◌, Bool, true, false, ◌==◌, if◌then◌else◌, List, [], ◌∷◌, ◌++◌, length, get_or, drop, drop-cons, append_assoc, refl, ap, ap₂, sym, ◌∙◌, arith}
 use Rattle.std.proofs.lemmas.Bool.{eqb-true}
 use Rattle.std.proofs.lemmas.List.{append-nil, drop_all}
-use Rattle.plan_parts.specs.plan_model.specs.declared.dense.Sending.{Sending}
+use Rattle.plan_model.specs.declared.dense.Sending.{Sending}
 use Rattle.plan_parts.proofs.OpenLemmas.{takes_short}
 use Rattle.plan_parts.specs.OpenMessages.{alone, grown, takes_more}
 use Rattle.plan_check.specs.Walks.{IsOpenSending, sending_next_to, open_sending, sending_walk, sendings_walked}

@@ -1,8 +1,8 @@
 -- What the tests answer.
 use Rattle.std.specs.Prelude.{◌≡◌, ℕ, ℤ, Bool, true, false, Option, Some, None, Result, Ok, Err}
 use Rattle.window_config.specs.declared.delays.Delays.{Delays}
-use Rattle.plan_parts.specs.plan_model.specs.Dense.{down_distance, up_distance}
-use Rattle.plan_parts.specs.plan_model.specs.declared.refusals.PlanWhy.{PlanWhy}
+use Rattle.plan_model.specs.Dense.{down_distance, up_distance}
+use Rattle.plan_model.specs.declared.refusals.PlanWhy.{PlanWhy}
 use Rattle.plan_check.specs.declared.testing.PlanRefusal.{PlanRefusal}
 use Rattle.plan_check.specs.declared.testing.PlanRefusal.TheVariants.{At, NoMemory}
 

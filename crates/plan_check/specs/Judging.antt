@@ -3,20 +3,20 @@ use Rattle.std.specs.Prelude.{◌≡◌, ℕ, ◌<◌, ◌≤◌, false, true, L
 use Rattle.fh_time.specs.declared.values.Slot.{Slot}
 use Rattle.window_config.specs.Plans.{IsPlanLine}
 use Rattle.window_config.specs.declared.endpoints.EndpointConfig.{EndpointConfig}
-use Rattle.slot_rings.specs.unit_model.specs.Claims.{claim_at}
-use Rattle.slot_rings.specs.unit_model.specs.Commands.{uplink_in}
-use Rattle.slot_rings.specs.unit_model.specs.Lists.{onto}
-use Rattle.slot_rings.specs.unit_model.specs.declared.allocations.Allocation.{Allocation}
-use Rattle.slot_rings.specs.unit_model.specs.declared.cells.Cell.{Cell}
-use Rattle.slot_rings.specs.unit_model.specs.declared.verdicts.CommandVerdict.{CommandVerdict}
-use Rattle.slot_rings.specs.unit_model.specs.declared.verdicts.CommandVerdict.TheVariants as verdict
-use Rattle.plan_parts.specs.fragment_laws.specs.Apart.{IsIn}
+use Rattle.unit_model.specs.Claims.{claim_at}
+use Rattle.unit_model.specs.Commands.{uplink_in}
+use Rattle.unit_model.specs.Lists.{onto}
+use Rattle.unit_model.specs.declared.allocations.Allocation.{Allocation}
+use Rattle.unit_model.specs.declared.cells.Cell.{Cell}
+use Rattle.unit_model.specs.declared.verdicts.CommandVerdict.{CommandVerdict}
+use Rattle.unit_model.specs.declared.verdicts.CommandVerdict.TheVariants as verdict
+use Rattle.fragment_laws.specs.Apart.{IsIn}
 use Rattle.slot_rings.specs.Rings.{RingValue, IsRingCell, has_slot, ring_claim, ring_uplink}
-use Rattle.plan_parts.specs.plan_model.specs.Lines.{line_allocation}
-use Rattle.plan_parts.specs.plan_model.specs.Validity.{is_out_of_range}
-use Rattle.plan_parts.specs.plan_model.specs.declared.lines.PlannedLine.{PlannedLine}
-use Rattle.plan_parts.specs.plan_model.specs.declared.refusals.PlanWhy.{PlanWhy}
-use Rattle.plan_parts.specs.plan_model.specs.declared.refusals.PlanWhy.TheVariants.{Range, Overlap, TooManySections}
+use Rattle.plan_model.specs.Lines.{line_allocation}
+use Rattle.plan_model.specs.Validity.{is_out_of_range}
+use Rattle.plan_model.specs.declared.lines.PlannedLine.{PlannedLine}
+use Rattle.plan_model.specs.declared.refusals.PlanWhy.{PlanWhy}
+use Rattle.plan_model.specs.declared.refusals.PlanWhy.TheVariants.{Range, Overlap, TooManySections}
 use Rattle.plan_check.specs.Slots.{IsFrom, judged_in}
 
 -- a line of this endpoint, in its ranges

@@ -1,6 +1,3 @@
-pub use Rattle.slot_rings.specs.air_source
-pub use Rattle.plan_parts.specs.plan_model
-pub use Rattle.slot_rings.specs.unit_model
 pub mod Slots
 pub mod Placed
 pub mod Judging

@@ -3,11 +3,11 @@
 use Rattle.std.specs.Prelude.{ℕ, ◌+◌, if◌then◌else◌, List, [], ◌∷◌, Option, Some, None, Result, Ok, Err}
 use Rattle.window_config.specs.declared.endpoints.EndpointConfig.{EndpointConfig}
 use Rattle.window_config.specs.declared.plan.PlanLine.{PlanLine}
-use Rattle.plan_parts.specs.plan_model.specs.Lines.{planned_at}
-use Rattle.plan_parts.specs.plan_model.specs.Validity.{is_out_of_range, refused_at}
-use Rattle.plan_parts.specs.plan_model.specs.declared.lines.PlannedLine.{PlannedLine}
-use Rattle.plan_parts.specs.plan_model.specs.declared.refusals.PlanWhy.{PlanWhy}
-use Rattle.plan_parts.specs.plan_model.specs.declared.refusals.PlanWhy.TheVariants.{UnknownEndpoint, Range}
+use Rattle.plan_model.specs.Lines.{planned_at}
+use Rattle.plan_model.specs.Validity.{is_out_of_range, refused_at}
+use Rattle.plan_model.specs.declared.lines.PlannedLine.{PlannedLine}
+use Rattle.plan_model.specs.declared.refusals.PlanWhy.{PlanWhy}
+use Rattle.plan_model.specs.declared.refusals.PlanWhy.TheVariants.{UnknownEndpoint, Range}
 
 -- why a line is refused by itself
 abbrev pub why_alone : Option PlannedLine → Option PlanWhy

@@ -1,16 +1,16 @@
 -- Messages part by part (this project's means).
 use Rattle.std.specs.Prelude.{pos, neg_ℤ, ◌<◌, ◌≤◌, ◌^◌, ◌+ℤ◌, ◌≤ℤ◌, Bool, true, false, if◌then◌else◌, List, [], ◌∷◌}
 use Rattle.window_config.specs.declared.config.Config.{Config}
-use Rattle.plan_parts.specs.plan_model.specs.Departures.{departures_of}
-use Rattle.plan_parts.specs.plan_model.specs.declared.dense.Sending.{Sending}
-use Rattle.plan_parts.specs.plan_model.specs.declared.streams.Stream.{Stream}
-use Rattle.plan_parts.specs.plan_model.specs.declared.streams.Stream.TheVariants.{DownData, UpData}
+use Rattle.plan_model.specs.Departures.{departures_of}
+use Rattle.plan_model.specs.declared.dense.Sending.{Sending}
+use Rattle.plan_model.specs.declared.streams.Stream.{Stream}
+use Rattle.plan_model.specs.declared.streams.Stream.TheVariants.{DownData, UpData}
 use Rattle.plan_parts.specs.declared.parts.TimedPart.{TimedPart}
 use Rattle.plan_check.specs.declared.walking.Limits.{Limits}
 use Rattle.plan_parts.specs.OpenMessages.{alone, grown, next_to, takes_more}
 use Rattle.plan_parts.specs.declared.open_messages.OpenMessage.{OpenMessage}
 use Rattle.window_config.specs.declared.config.TheConstants.{MESSAGE_SECTIONS}
-use Rattle.slot_rings.specs.unit_model.specs.Terms.{piece_count}
+use Rattle.unit_model.specs.Terms.{piece_count}
 
 abbrev pub stream_of : Bool → Stream
 stream_of true = UpData

@@ -1,7 +1,7 @@
 // The tests of a line by itself.
 ghost use Rattle.std.specs.Prelude.{◌≡◌, ◌<◌, length, slice_get, IfOk, Some};
 ghost use Rattle.plan_check.specs.Placed.{placed_from, placing, stopped_from};
-ghost use Rattle.plan_parts.specs.plan_model.specs.Lines.{planned_at};
+ghost use Rattle.plan_model.specs.Lines.{planned_at};
 
 use fh_base::{List, NoMemory};
 use plan_model::{PlanWhy, PlannedLine, is_out_of_range, planned_line};

@@ -1,7 +1,7 @@
 // Lines in the order of their slots.
 ghost use Rattle.std.specs.Prelude.{◌≡◌, ℕ, length, take, get_or, ◌<◌, ◌≤◌, false, filter, ◌==◌, List as SpecList, IfOk, OnOk};
 ghost use Rattle.std.specs.List.{AllByRecursion};
-ghost use Rattle.plan_parts.specs.plan_model.specs.declared.lines.PlannedLine.{PlannedLine as SpecLine};
+ghost use Rattle.plan_model.specs.declared.lines.PlannedLine.{PlannedLine as SpecLine};
 ghost use Rattle.plan_check.specs.Order.{ArePlannedInOrder, comes_first, slot_cmp};
 ghost use Rattle.plan_check.specs.Slots.{of_home};
 

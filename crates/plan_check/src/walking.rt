@@ -1,7 +1,7 @@
 // When the first frames of data messages leave.
 ghost use Rattle.std.specs.Prelude.{◌≡◌, All, ◌∷◌, ◌++◌, IfOk, OnOk, List as SpecParts};
 ghost use Rattle.std.specs.List.{AllByRecursion};
-ghost use Rattle.plan_parts.specs.plan_model.specs.Dense.{IsSending};
+ghost use Rattle.plan_model.specs.Dense.{IsSending};
 ghost use Rattle.plan_check.specs.Walks.{AreDenseLimits, IsOpenSending, open_sending, sending_walk, sendings_walked};
 ghost use Rattle.plan_parts.specs.Parts.{IsTimed};
 ghost use Rattle.plan_parts.specs.declared.parts.TimedPart.{TimedPart as SpecPart};

@@ -1,5 +1,3 @@
-pub use Rattle.fragment_laws
-pub use Rattle.unit_model
 pub mod Lines
 pub mod Validity
 pub mod Packs

@@ -6,7 +6,7 @@ use Rattle.fh_time.specs.Carrier.{is_outside}
 use Rattle.fh_time.specs.Numbering.{slots_of, symbols_of}
 use Rattle.window_config.specs.Endpoints.{IsEndpoint}
 use Rattle.window_config.specs.Plans.{IsPlanLine}
-use Rattle.unit_laws.specs.unit_model.specs.Proper.{IsSlot}
+use Rattle.unit_model.specs.Proper.{IsSlot}
 use Rattle.plan_model.specs.Streams.{section_size}
 use Rattle.plan_model.specs.Validity.{is_out_of_range}
 use Rattle.plan_model.specs.declared.lines.PlannedLine.{PlannedLine}

@@ -2,7 +2,7 @@
 use Rattle.std.proofs.Common.{◌≡◌, ℕ, suc, ◌<◌, Bool, true, false, ◌&&◌, if◌then◌else◌, List, [], ◌∷◌, length, filter, get_or, refl, ap, arith}
 use Rattle.std.specs.List.{AllByRecursion}
 use Rattle.plan_model.proofs.ListLemmas.{all_in, all_from, filter_has}
-use Rattle.unit_laws.specs.unit_model.specs.Lists.{AreRelated}
+use Rattle.unit_model.specs.Lists.{AreRelated}
 
 pub all_index : {X : Type 0} (P : X → Type 0) (xs : List X) → ((k : ℕ) (d : X) → k < length xs → P (get_or xs k d)) → AllByRecursion P xs
 all_index P [] h = tt

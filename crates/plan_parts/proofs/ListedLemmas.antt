@@ -9,16 +9,16 @@ use Rattle.std.proofs.lemmas.List.Elements.{filter-append}
 use Rattle.fh_time.specs.Numbering.{symbols_of}
 use Rattle.fh_time.proofs.Orders.{all_three}
 use Rattle.window_config.specs.Endpoints.{IsEndpoint}
-use Rattle.unit_laws.specs.unit_model.specs.Proper.{IsSlot}
-use Rattle.unit_laws.specs.unit_model.proofs.SweepLaws.{each_split}
+use Rattle.unit_model.specs.Proper.{IsSlot}
+use Rattle.unit_model.proofs.SweepLaws.{each_split}
 use Rattle.plan_model.specs.declared.streams.Stream.{Stream}
 use Rattle.plan_model.specs.declared.streams.Stream.TheVariants.{DownCommands, UpCommands, DownData, UpData}
 use Rattle.plan_parts.specs.Placing.{ArePlaced}
 use Rattle.plan_parts.proofs.InsideLemmas.{inside_is, slot_inside}
-use Rattle.unit_laws.specs.unit_model.specs.Claims.{is_from}
-use Rattle.unit_laws.specs.unit_model.specs.Lists.{each}
-use Rattle.unit_laws.specs.unit_model.specs.Sweeps.{slot_at}
-use Rattle.plan_model.specs.fragment_laws.specs.Apart.{IsIn}
+use Rattle.unit_model.specs.Claims.{is_from}
+use Rattle.unit_model.specs.Lists.{each}
+use Rattle.unit_model.specs.Sweeps.{slot_at}
+use Rattle.fragment_laws.specs.Apart.{IsIn}
 use Rattle.plan_model.specs.Lines.{line_allocation}
 use Rattle.plan_model.specs.Streams.{Part, part_in, has_part}
 use Rattle.plan_model.specs.declared.lines.PlannedLine.{PlannedLine}

@@ -5,8 +5,8 @@ use Rattle.std.specs.List.Sorted.{IsSortedBy, ties}
 use Rattle.std.specs.Cmp.{IsStrictWeakOrder}
 use Rattle.std.proofs.lemmas.Bool.{and_from, and_parts, not-true, not_from_false}
 use Rattle.std.proofs.lemmas.List.Sorted.{sorted_far}
-use Rattle.unit_laws.specs.unit_model.specs.Lists.{put_in, in_order}
-use Rattle.plan_model.specs.fragment_laws.specs.Apart.{IsIn}
+use Rattle.unit_model.specs.Lists.{put_in, in_order}
+use Rattle.fragment_laws.specs.Apart.{IsIn}
 use Rattle.plan_model.proofs.ListLemmas.{of_filter, in_filter, all_in, all_from, own_tie, kept_first}
 use Rattle.plan_parts.specs.Parts.{AreOrderedBy}
 use Rattle.plan_parts.proofs.ListLemmas.{all_index}

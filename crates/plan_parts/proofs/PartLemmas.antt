@@ -17,13 +17,13 @@ use Rattle.fh_time.specs.Kinds.{kind_start}
 use Rattle.fh_time.specs.Numbering.{IsSlotOf, slots_of, symbols_of}
 use Rattle.fh_time.proofs.Kept.{offsets_short}
 use Rattle.window_config.specs.declared.endpoints.EndpointConfig.{EndpointConfig}
-use Rattle.unit_laws.specs.unit_model.specs.Lists.{each, each_tick, in_order}
-use Rattle.unit_laws.specs.unit_model.specs.Radiated.{first_clock}
-use Rattle.unit_laws.specs.unit_model.specs.Sweeps.{slot_at, first_swept, of_slot, of_subframe, of_frame, of_endpoint as swept}
-use Rattle.unit_laws.specs.unit_model.specs.Times.{end_of_time, tick_count}
-use Rattle.unit_laws.specs.unit_model.proofs.SweepLaws.{gap_is}
+use Rattle.unit_model.specs.Lists.{each, each_tick, in_order}
+use Rattle.unit_model.specs.Radiated.{first_clock}
+use Rattle.unit_model.specs.Sweeps.{slot_at, first_swept, of_slot, of_subframe, of_frame, of_endpoint as swept}
+use Rattle.unit_model.specs.Times.{end_of_time, tick_count}
+use Rattle.unit_model.proofs.SweepLaws.{gap_is}
 use Rattle.unit_laws.proofs.FrameLemmas.{frames_of_symbol, symbol_short}
-use Rattle.plan_model.specs.fragment_laws.specs.Apart.{IsIn}
+use Rattle.fragment_laws.specs.Apart.{IsIn}
 use Rattle.plan_model.specs.Lines.{line_allocation}
 use Rattle.plan_model.specs.Streams.{part_in, has_part, line_before, symbol_parts, parts_in}
 use Rattle.plan_model.specs.declared.lines.PlannedLine.{PlannedLine}

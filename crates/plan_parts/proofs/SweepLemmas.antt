@@ -5,8 +5,8 @@ use Rattle.std.specs.Ordering.{int_eq}
 use Rattle.std.proofs.lemmas.Int.{ints}
 use Rattle.std.proofs.lemmas.Bool.{cases_eq, eq-eqb, ne_eqb}
 use Rattle.std.proofs.lemmas.Bool.Decides.{Decides-int_eq}
-use Rattle.unit_laws.specs.unit_model.specs.Lists.{each, each_tick}
-use Rattle.unit_laws.specs.unit_model.proofs.SweepLaws.{each_none, ticks_none}
+use Rattle.unit_model.specs.Lists.{each, each_tick}
+use Rattle.unit_model.proofs.SweepLaws.{each_none, ticks_none}
 use Rattle.unit_laws.proofs.ListLemmas.{each_same}
 use Rattle.plan_model.proofs.ListLemmas.{all_map, filter_none}
 use Rattle.plan_model.proofs.TickLemmas.{int_cases, int_below, int_above, same_not, ticks_same}

@@ -8,8 +8,8 @@ use Rattle.std.proofs.lemmas.Bool.{cases_eq, eq-eqb, ne_eqb, eqb-true, and_parts
 use Rattle.std.proofs.lemmas.Bool.Decides.{Decides-int_eq}
 use Rattle.std.proofs.Math.Bool.{and_comm}
 use Rattle.fh_time.proofs.Orders.{same_z, not_eq}
-use Rattle.unit_laws.specs.unit_model.specs.Lists.{each}
-use Rattle.unit_laws.specs.unit_model.proofs.SweepLaws.{each_same, gap_is}
+use Rattle.unit_model.specs.Lists.{each}
+use Rattle.unit_model.proofs.SweepLaws.{each_same, gap_is}
 use Rattle.plan_model.proofs.ListLemmas.{all_from, all_map, filter_none, filter_same, filter_has}
 use Rattle.plan_model.proofs.TickLemmas.{ticks_same}
 use Rattle.plan_parts.specs.Sweeping.{of_key, timed_at, Clock, is_at, parts_of_symbol, parts_of_endpoint, IsPart, Precedes, AreOrdered, SweepsFindAll}

@@ -3,10 +3,10 @@ use Rattle.std.specs.Prelude.{◌≡◌, ℕ, pos, neg_ℤ, ◌^◌, ◌≤◌, 
 use Rattle.std.specs.Ordering.{nat_cmp, int_cmp, on, then_cmp, is_lt}
 use Rattle.std.specs.declared.cmp.Ordering.{Ordering}
 use Rattle.window_config.specs.declared.endpoints.EndpointConfig.{EndpointConfig}
-use Rattle.unit_laws.specs.unit_model.specs.Commands.{is_uplink}
-use Rattle.unit_laws.specs.unit_model.specs.Lists.{each, AreRelated}
-use Rattle.unit_laws.specs.unit_model.specs.declared.allocations.Allocation.{Allocation}
-use Rattle.plan_model.specs.fragment_laws.specs.Apart.{IsIn}
+use Rattle.unit_model.specs.Commands.{is_uplink}
+use Rattle.unit_model.specs.Lists.{each, AreRelated}
+use Rattle.unit_model.specs.declared.allocations.Allocation.{Allocation}
+use Rattle.fragment_laws.specs.Apart.{IsIn}
 use Rattle.plan_model.specs.Departures.{start_of_part}
 use Rattle.plan_model.specs.Lines.{line_allocation}
 use Rattle.plan_model.specs.Streams.{Part, part_in, section_size}

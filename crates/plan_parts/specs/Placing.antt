@@ -3,8 +3,8 @@ use Rattle.std.specs.Prelude.{◌≡◌, false, List}
 use Rattle.window_config.specs.Endpoints.{IsEndpoint}
 use Rattle.window_config.specs.Plans.{IsPlanLine}
 use Rattle.window_config.specs.declared.endpoints.EndpointConfig.{EndpointConfig}
-use Rattle.unit_laws.specs.unit_model.specs.Proper.{IsAt}
-use Rattle.plan_model.specs.fragment_laws.specs.Apart.{IsIn}
+use Rattle.unit_model.specs.Proper.{IsAt}
+use Rattle.fragment_laws.specs.Apart.{IsIn}
 use Rattle.plan_model.specs.Validity.{is_out_of_range}
 use Rattle.plan_model.specs.declared.lines.PlannedLine.{PlannedLine}
 

@@ -5,8 +5,8 @@ use Rattle.std.specs.Ordering.{int_eq}
 use Rattle.fh_time.specs.Air.{air_of}
 use Rattle.fh_time.specs.Numbering.{slots_of, symbols_of}
 use Rattle.window_config.specs.declared.endpoints.EndpointConfig.{EndpointConfig}
-use Rattle.unit_laws.specs.unit_model.specs.Lists.{each, each_tick, AreRelated}
-use Rattle.unit_laws.specs.unit_model.specs.Sweeps.{first_swept, slot_at}
+use Rattle.unit_model.specs.Lists.{each, each_tick, AreRelated}
+use Rattle.unit_model.specs.Sweeps.{first_swept, slot_at}
 use Rattle.plan_parts.specs.declared.parts.TimedPart.{TimedPart}
 
 -- no key falls along the list

@@ -5,7 +5,7 @@ ghost use Rattle.std.specs.List.Sorted.{IsStableBy};
 ghost use Rattle.fh_time.specs.Numbering.{symbols_of};
 ghost use Rattle.window_config.specs.Endpoints.{IsEndpoint};
 ghost use Rattle.window_config.specs.declared.endpoints.EndpointConfig.{EndpointConfig as SpecEndpoint};
-ghost use Rattle.unit_laws.specs.unit_model.specs.Proper.{IsSlot};
+ghost use Rattle.unit_model.specs.Proper.{IsSlot};
 ghost use Rattle.plan_model.specs.Streams.{part_in, parts_in};
 ghost use Rattle.plan_parts.specs.Placing.{ArePlaced};
 ghost use Rattle.plan_parts.specs.Keys.{key_of};

@@ -2,12 +2,12 @@
 use Rattle.std.proofs.Common.{◌≡◌, ℕ, ℤ, pos, ◌+◌, ◌*◌, ◌+ℤ◌, Bool, true, false, min, if◌then◌else◌, List, [], ◌∷◌, length, map, refl, ap, ap₂, sym, ◌∙◌, arith}
 use Rattle.window_config.specs.declared.config.Config.{Config}
 use Rattle.window_config.specs.declared.endpoints.EndpointConfig.{EndpointConfig}
-use Rattle.plan_parts.specs.plan_model.specs.declared.lines.PlannedLine.{PlannedLine}
-use Rattle.plan_parts.specs.plan_model.specs.Departures.{departures_of, start_of_part}
-use Rattle.plan_parts.specs.plan_model.specs.Packs.{Message, alone as message_alone, parts_of, with_part, size_of, takes, packs_behind, packs, frames_before, numbered_behind, numbered}
-use Rattle.plan_parts.specs.plan_model.specs.Streams.{Part, frames_in, most_parts, part_fields, messages_of, parts_in}
-use Rattle.plan_parts.specs.plan_model.specs.declared.streams.Stream.{Stream}
-use Rattle.plan_parts.specs.plan_model.specs.declared.streams.Stream.TheVariants.{DownCommands, UpCommands, DownData, UpData}
+use Rattle.plan_model.specs.declared.lines.PlannedLine.{PlannedLine}
+use Rattle.plan_model.specs.Departures.{departures_of, start_of_part}
+use Rattle.plan_model.specs.Packs.{Message, alone as message_alone, parts_of, with_part, size_of, takes, packs_behind, packs, frames_before, numbered_behind, numbered}
+use Rattle.plan_model.specs.Streams.{Part, frames_in, most_parts, part_fields, messages_of, parts_in}
+use Rattle.plan_model.specs.declared.streams.Stream.{Stream}
+use Rattle.plan_model.specs.declared.streams.Stream.TheVariants.{DownCommands, UpCommands, DownData, UpData}
 use Rattle.plan_model.proofs.PackLemmas.{length_more}
 use Rattle.plan_parts.proofs.OpenLemmas.{IsOpenOf, first_is, grown_is, next_is, takes_is}
 use Rattle.plan_parts.specs.OpenMessages.{alone, grown, takes_more}

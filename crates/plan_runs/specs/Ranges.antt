@@ -4,7 +4,7 @@ use Rattle.plan_parts.specs.Parts.{IsTimed}
 use Rattle.plan_runs.specs.declared.limits.Limits.{Limits}
 use Rattle.plan_parts.specs.declared.open_messages.OpenMessage.{OpenMessage}
 use Rattle.window_config.specs.declared.config.TheConstants.{MESSAGE_SECTIONS, MOST_FRAGMENT, LEAST_FRAGMENT}
-use Rattle.plan_parts.specs.unit_model.specs.Terms.{MESSAGE_BYTES}
+use Rattle.unit_model.specs.Terms.{MESSAGE_BYTES}
 
 abbrev pub IsFragment : Option ℕ → Type 0
 IsFragment None = ⊤

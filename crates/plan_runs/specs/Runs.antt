@@ -2,12 +2,12 @@
 use Rattle.std.specs.Prelude.{◌≡◌, ℕ, ◌+◌, List, [], ◌∷◌, length, map, Option, Some, None}
 use Rattle.window_config.specs.declared.config.Config.{Config}
 use Rattle.window_config.specs.declared.endpoints.EndpointConfig.{EndpointConfig}
-use Rattle.plan_parts.specs.plan_model.specs.Departures.{departures_of}
-use Rattle.plan_parts.specs.plan_model.specs.Packs.{Message, packs, parts_of}
-use Rattle.plan_parts.specs.plan_model.specs.Streams.{part_fields, most_parts, parts_in}
-use Rattle.plan_parts.specs.plan_model.specs.declared.lines.PlannedLine.{PlannedLine}
-use Rattle.plan_parts.specs.plan_model.specs.declared.streams.Stream.{Stream}
-use Rattle.plan_parts.specs.plan_model.specs.declared.streams.Stream.TheVariants.{DownCommands, UpCommands, DownData, UpData}
+use Rattle.plan_model.specs.Departures.{departures_of}
+use Rattle.plan_model.specs.Packs.{Message, packs, parts_of}
+use Rattle.plan_model.specs.Streams.{part_fields, most_parts, parts_in}
+use Rattle.plan_model.specs.declared.lines.PlannedLine.{PlannedLine}
+use Rattle.plan_model.specs.declared.streams.Stream.{Stream}
+use Rattle.plan_model.specs.declared.streams.Stream.TheVariants.{DownCommands, UpCommands, DownData, UpData}
 use Rattle.sent_order.specs.Runs.{stream_runs}
 use Rattle.plan_parts.specs.Parts.{timed}
 use Rattle.plan_runs.specs.Walks.{walked}

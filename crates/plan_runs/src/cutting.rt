@@ -3,14 +3,14 @@ ghost use Rattle.std.specs.Prelude.{◌≡◌, ℕ, ◌+◌, ◌<◌, ◌≤◌,
 ghost use Rattle.std.specs.List.{AllByRecursion};
 ghost use Rattle.window_config.specs.declared.config.Config.{Config as SpecConfig};
 ghost use Rattle.window_config.specs.declared.endpoints.EndpointConfig.{EndpointConfig as SpecEndpoint};
-ghost use Rattle.plan_parts.specs.plan_model.specs.Streams.{parts_in};
-ghost use Rattle.plan_parts.specs.plan_model.specs.declared.lines.PlannedLine.{PlannedLine as SpecLine};
-ghost use Rattle.plan_parts.specs.plan_model.specs.declared.streams.Stream.{Stream as SpecStream};
+ghost use Rattle.plan_model.specs.Streams.{parts_in};
+ghost use Rattle.plan_model.specs.declared.lines.PlannedLine.{PlannedLine as SpecLine};
+ghost use Rattle.plan_model.specs.declared.streams.Stream.{Stream as SpecStream};
 ghost use Rattle.sent_order.specs.Runs.{stream_runs};
 ghost use Rattle.plan_parts.specs.Parts.{IsTimed, timed};
 ghost use Rattle.plan_runs.specs.Runs.{limits_of, stream_begins};
 ghost use Rattle.plan_runs.specs.Ranges.{IsFragment, IsLimits, IsOpenMessage};
-ghost use Rattle.plan_parts.specs.unit_model.specs.Terms.{MESSAGE_BYTES};
+ghost use Rattle.unit_model.specs.Terms.{MESSAGE_BYTES};
 ghost use Rattle.plan_runs.specs.Walks.{begins, frames_needed, later_begins, run_from, walk, walked};
 ghost use Rattle.plan_parts.specs.declared.parts.TimedPart.{TimedPart as SpecPart};
 

@@ -5,11 +5,11 @@ use Rattle.std.proofs.lemmas.List.{length-append, length-map, take-map, drop-map
 use Rattle.window_config.specs.declared.config.Config.{Config}
 use Rattle.window_config.specs.declared.endpoints.EndpointConfig.{EndpointConfig}
 use Rattle.fragment_laws.specs.Apart.{IsIn}
-use Rattle.plan_runs.specs.plan_model.specs.Packs.{PartFields, Message, Numbered, alone, parts_of, with_part, takes, packs_behind, packs, numbered_behind}
-use Rattle.plan_runs.specs.plan_model.specs.Streams.{Part, frames_in, messages_of, most_parts, part_fields, parts_in}
-use Rattle.plan_runs.specs.plan_model.specs.declared.lines.PlannedLine.{PlannedLine}
-use Rattle.plan_runs.specs.plan_model.specs.declared.streams.Stream.{Stream}
-use Rattle.plan_runs.specs.plan_parts.specs.Parts.{timed}
+use Rattle.plan_model.specs.Packs.{PartFields, Message, Numbered, alone, parts_of, with_part, takes, packs_behind, packs, numbered_behind}
+use Rattle.plan_model.specs.Streams.{Part, frames_in, messages_of, most_parts, part_fields, parts_in}
+use Rattle.plan_model.specs.declared.lines.PlannedLine.{PlannedLine}
+use Rattle.plan_model.specs.declared.streams.Stream.{Stream}
+use Rattle.plan_parts.specs.Parts.{timed}
 use Rattle.plan_runs.specs.Runs.{first_sections, stream_begins}
 use Rattle.plan_table.specs.Kept.{placed_line_of, placed_line, IsStreamParts, message_in, HasMessage}
 use Rattle.plan_table.specs.declared.kept.PlacedLine.{PlacedLine}

@@ -6,16 +6,16 @@ use Rattle.window_config.specs.Configs.{IsConfig}
 use Rattle.window_config.specs.declared.config.Config.{Config}
 use Rattle.window_config.specs.declared.endpoints.EndpointConfig.{EndpointConfig}
 use Rattle.window_config.specs.declared.plan.PlanLine.{PlanLine}
-use Rattle.plan_runs.specs.unit_model.specs.Meetings.{find_endpoint}
-use Rattle.plan_runs.specs.unit_model.specs.Proper.{IsAt}
-use Rattle.plan_runs.specs.plan_parts.specs.unit_laws.proofs.FarLemmas.{endpoints_equal}
+use Rattle.unit_model.specs.Meetings.{find_endpoint}
+use Rattle.unit_model.specs.Proper.{IsAt}
+use Rattle.unit_laws.proofs.FarLemmas.{endpoints_equal}
 use Rattle.fragment_laws.specs.Apart.{IsIn}
-use Rattle.plan_runs.specs.plan_model.specs.Lines.{planned, planned_from, planned_with}
-use Rattle.plan_runs.specs.plan_model.specs.declared.lines.PlannedLine.{PlannedLine}
-use Rattle.plan_runs.specs.plan_parts.specs.Parts.{HasEndpoint}
-use Rattle.plan_runs.specs.plan_parts.specs.Placing.{ArePlaced}
-use Rattle.plan_runs.specs.schedule_laws.proofs.LineLemmas.{IsGoodLine, good}
-use Rattle.plan_runs.specs.schedule_laws.proofs.PlanLemmas.{in_range, valid_tested}
+use Rattle.plan_model.specs.Lines.{planned, planned_from, planned_with}
+use Rattle.plan_model.specs.declared.lines.PlannedLine.{PlannedLine}
+use Rattle.plan_parts.specs.Parts.{HasEndpoint}
+use Rattle.plan_parts.specs.Placing.{ArePlaced}
+use Rattle.schedule_laws.proofs.LineLemmas.{IsGoodLine, good}
+use Rattle.schedule_laws.proofs.PlanLemmas.{in_range, valid_tested}
 use Rattle.plan_table.specs.Plans.{IsTabledPlan}
 use Rattle.window_config.specs.declared.plan.TheConstants.{PLAN_LINES}
 

@@ -7,22 +7,21 @@ use Rattle.std.proofs.lemmas.Option.{slice_get-get_or, slice_get_within}
 use Rattle.window_config.specs.Configs.{IsConfig}
 use Rattle.window_config.specs.declared.config.Config.{Config}
 use Rattle.window_config.specs.declared.endpoints.EndpointConfig.{EndpointConfig}
-use Rattle.plan_runs.specs.unit_model.specs.Proper.{IsAt}
+use Rattle.unit_model.specs.Proper.{IsAt}
 use Rattle.fragment_laws.specs.Apart.{IsIn}
-use Rattle.plan_runs.specs.plan_model.specs.Packs.{Message, parts_of}
-use Rattle.plan_runs.specs.plan_model.specs.Sent.{SentFrame, sent}
-use Rattle.plan_runs.specs.plan_model.specs.Streams.{Part}
-use Rattle.plan_runs.specs.plan_model.specs.declared.lines.PlannedLine.{PlannedLine}
-use Rattle.plan_runs.specs.plan_model.specs.declared.streams.Stream.{Stream}
-use Rattle.plan_runs.specs.plan_model.specs.declared.streams.Stream.TheVariants.{DownCommands, UpCommands, DownData, UpData}
-use Rattle.frame_order.specs.Turns.{IsRun}
+use Rattle.plan_model.specs.Packs.{Message, parts_of}
+use Rattle.plan_model.specs.Sent.{SentFrame, sent}
+use Rattle.plan_model.specs.Streams.{Part}
+use Rattle.plan_model.specs.declared.lines.PlannedLine.{PlannedLine}
+use Rattle.plan_model.specs.declared.streams.Stream.{Stream}
+use Rattle.plan_model.specs.declared.streams.Stream.TheVariants.{DownCommands, UpCommands, DownData, UpData}
+use Rattle.frame_order.specs.Turns.{IsRun, stream_place}
 use Rattle.frame_order.specs.declared.turns.Run.{Run}
 use Rattle.frame_order.specs.declared.turns.Turn.{Turn}
-use Rattle.plan_runs.specs.schedule_laws.proofs.SentLemmas.{IsSentStream, sent_is}
-use Rattle.frame_order.specs.Turns.{stream_place}
-use Rattle.plan_runs.specs.sent_order.specs.Runs.{IsOrderOf, endpoint_runs, gap_ticks, rests_of, runs_from, runs_of, turn_of}
-use Rattle.plan_runs.specs.sent_order.proofs.OrderLemmas.{in_order}
-use Rattle.plan_runs.specs.sent_order.proofs.ProperLemmas.{are_runs}
+use Rattle.schedule_laws.proofs.SentLemmas.{IsSentStream, sent_is}
+use Rattle.sent_order.specs.Runs.{IsOrderOf, endpoint_runs, gap_ticks, rests_of, runs_from, runs_of, turn_of}
+use Rattle.sent_order.proofs.OrderLemmas.{in_order}
+use Rattle.sent_order.proofs.ProperLemmas.{are_runs}
 use Rattle.plan_table.specs.Kept.{placed_line, HasMessage, message_in}
 use Rattle.plan_table.specs.Plans.{IsTabledPlan}
 use Rattle.plan_table.specs.Tables.{IsKeptInTable, IsTable, AddsEndpoint}

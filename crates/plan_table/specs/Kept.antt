@@ -2,10 +2,10 @@
 use Rattle.std.specs.Prelude.{◌≡◌, ℕ, ◌+◌, ◌-◌, ◌<◌, ◌≤◌, List, length, map, take, drop, get_or}
 use Rattle.window_config.specs.declared.config.Config.{Config}
 use Rattle.window_config.specs.declared.endpoints.EndpointConfig.{EndpointConfig}
-use Rattle.plan_runs.specs.plan_model.specs.Streams.{Part, parts_in}
-use Rattle.plan_runs.specs.plan_model.specs.declared.lines.PlannedLine.{PlannedLine}
-use Rattle.plan_runs.specs.plan_model.specs.declared.streams.Stream.{Stream}
-use Rattle.plan_runs.specs.plan_parts.specs.declared.parts.TimedPart.{TimedPart}
+use Rattle.plan_model.specs.Streams.{Part, parts_in}
+use Rattle.plan_model.specs.declared.lines.PlannedLine.{PlannedLine}
+use Rattle.plan_model.specs.declared.streams.Stream.{Stream}
+use Rattle.plan_parts.specs.declared.parts.TimedPart.{TimedPart}
 use Rattle.plan_runs.specs.Runs.{stream_begins}
 use Rattle.plan_table.specs.declared.kept.PlacedLine.{PlacedLine}
 use Rattle.plan_table.specs.declared.kept.StreamParts.{StreamParts}

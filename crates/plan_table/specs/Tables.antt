@@ -2,15 +2,15 @@
 use Rattle.std.specs.Prelude.{◌≡◌, ℕ, ◌+◌, ◌*◌, ◌<◌, List, [], ◌∷◌, ◌++◌, slice_get, Some}
 use Rattle.window_config.specs.declared.config.Config.{Config}
 use Rattle.window_config.specs.declared.endpoints.EndpointConfig.{EndpointConfig}
-use Rattle.plan_runs.specs.unit_model.specs.Proper.{IsAt}
+use Rattle.unit_model.specs.Proper.{IsAt}
 use Rattle.fragment_laws.specs.Apart.{IsIn}
-use Rattle.plan_runs.specs.plan_model.specs.Sent.{SentFrame, sent}
-use Rattle.plan_runs.specs.plan_model.specs.declared.lines.PlannedLine.{PlannedLine}
-use Rattle.plan_runs.specs.plan_model.specs.declared.streams.Stream.{Stream}
-use Rattle.plan_runs.specs.plan_model.specs.declared.streams.Stream.TheVariants.{DownCommands, UpCommands, DownData}
+use Rattle.plan_model.specs.Sent.{SentFrame, sent}
+use Rattle.plan_model.specs.declared.lines.PlannedLine.{PlannedLine}
+use Rattle.plan_model.specs.declared.streams.Stream.{Stream}
+use Rattle.plan_model.specs.declared.streams.Stream.TheVariants.{DownCommands, UpCommands, DownData}
 use Rattle.frame_order.specs.declared.turns.Turn.{Turn}
 use Rattle.frame_order.specs.Turns.{stream_place}
-use Rattle.plan_runs.specs.sent_order.specs.Runs.{turn_of}
+use Rattle.sent_order.specs.Runs.{turn_of}
 use Rattle.plan_table.specs.Kept.{IsStreamParts}
 use Rattle.plan_table.specs.declared.kept.StreamParts.{StreamParts}
 use Rattle.plan_table.specs.declared.tables.Table.{Table}

@@ -2,8 +2,8 @@
 ghost use Rattle.std.specs.Prelude.{◌≡◌, ◌<◌, ◌∷◌, ◌++◌, [], length, IfOk, OnOk};
 ghost use Rattle.window_config.specs.Configs.{IsConfig};
 ghost use Rattle.window_config.specs.declared.endpoints.EndpointConfig.{EndpointConfig as SpecEndpoint};
-ghost use Rattle.plan_runs.specs.unit_model.specs.Proper.{IsAt};
-ghost use Rattle.plan_runs.specs.sent_order.specs.Runs.{endpoint_runs, stream_runs};
+ghost use Rattle.unit_model.specs.Proper.{IsAt};
+ghost use Rattle.sent_order.specs.Runs.{endpoint_runs, stream_runs};
 ghost use Rattle.plan_table.specs.Kept.{IsStreamParts};
 ghost use Rattle.plan_table.specs.Plans.{IsTabledPlan};
 ghost use Rattle.plan_table.specs.Tables.{AddsEndpoint};

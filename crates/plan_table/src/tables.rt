@@ -2,13 +2,13 @@
 ghost use Rattle.std.specs.Prelude.{◌≡◌, ◌≤◌, ◌<◌, ◌^◌, List, map, IfOk};
 ghost use Rattle.window_config.specs.Configs.{IsConfig};
 ghost use Rattle.window_config.specs.declared.config.Config.{Config as SpecConfig};
-ghost use Rattle.plan_runs.specs.plan_model.specs.Packs.{parts_of};
-ghost use Rattle.plan_runs.specs.plan_model.specs.Sent.{SentFrame, sent};
-ghost use Rattle.plan_runs.specs.plan_model.specs.declared.lines.PlannedLine.{PlannedLine as SpecLine};
+ghost use Rattle.plan_model.specs.Packs.{parts_of};
+ghost use Rattle.plan_model.specs.Sent.{SentFrame, sent};
+ghost use Rattle.plan_model.specs.declared.lines.PlannedLine.{PlannedLine as SpecLine};
 ghost use Rattle.frame_order.specs.Queues.{IsQueue, StandsFor, gap_of};
 ghost use Rattle.frame_order.specs.Turns.{stream_place};
 ghost use Rattle.fragment_laws.specs.Apart.{IsIn};
-ghost use Rattle.plan_runs.specs.sent_order.specs.Runs.{gap_ticks, turn_of};
+ghost use Rattle.sent_order.specs.Runs.{gap_ticks, turn_of};
 ghost use Rattle.plan_table.specs.Kept.{placed_line};
 ghost use Rattle.plan_table.specs.Plans.{IsTabledPlan};
 

@@ -19,7 +19,7 @@ use Rattle.unit_model.specs.Lists.{each, some}
 use Rattle.unit_model.specs.Proper.{IsAt, IsProperData, IsSlot}
 use Rattle.unit_model.specs.Radiated.{air_cell, cell_report, first_clock, report_of, symbol_report, used_mask}
 use Rattle.unit_model.specs.Reports.{accepted_of, data_of, ru_known, timely_of}
-use Rattle.unit_model.specs.Standing.{IsCell, IsLiveAt, cell_heard, still_reported}
+use Rattle.unit_model.specs.Standing.{IsCell, IsLiveAt, cell_heard, still_reported, History}
 use Rattle.unit_model.specs.declared.cells.Block.{Block}
 use Rattle.unit_model.specs.declared.cells.Cell.{Cell}
 use Rattle.unit_model.specs.declared.cells.Claim.{Claim}
@@ -45,7 +45,6 @@ use Rattle.unit_memory.specs.declared.memory.UnitMemory.{UnitMemory}
 use Rattle.ru_reports.specs.Symbols.{cell_in, is_left, left_at, left_told}
 use Rattle.symbol_search.specs.Symbols.{IsSymbol}
 use Rattle.radio_laws.specs.Units.{RadioKeeps}
-use Rattle.unit_model.specs.Standing.{History}
 use Rattle.unit_model.proofs.BlockLemmas.{all_timely}
 use Rattle.history_laws.proofs.UnitLemmas.{whole_data}
 use Rattle.history_laws.proofs.ListLemmas.{kept_one, filter_kept, both_nothing, one_unless}

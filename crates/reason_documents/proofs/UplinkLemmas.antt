@@ -9,12 +9,11 @@ use Rattle.fh_time.specs.declared.frames.TheConstants.{FRAME}
 use Rattle.fh_time.specs.declared.nanoseconds.TheConstants.{NANOSECOND}
 use Rattle.air_source.specs.declared.events.Side.TheVariants.{Du}
 use Rattle.fragment_laws.specs.Apart.{IsIn}
-use Rattle.unit_model.specs.Claims.{cell_at, cell_of, covers, in_mask, same_slot}
+use Rattle.unit_model.specs.Claims.{cell_at, cell_of, covers, in_mask, same_slot, claim_at}
 use Rattle.unit_model.specs.Radiated.{first_clock, is_used}
 use Rattle.unit_model.specs.Times.{end_of_time}
 use Rattle.unit_model.specs.declared.allocations.Allocation.{Allocation}
 use Rattle.unit_model.specs.declared.cells.Cell.{Cell}
-use Rattle.unit_model.specs.Claims.{claim_at}
 use Rattle.unit_model.proofs.ClaimLemmas.{from_within, slot_self, way_self, within_carrier}
 use Rattle.plan_model.specs.Lines.{is_down_kind, is_idle_kind, is_up_line, line_allocation, planned, uplink_allocations}
 use Rattle.plan_model.proofs.ListLemmas.{in_filter}

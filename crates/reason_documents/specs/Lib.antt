@@ -1,5 +1,3 @@
-pub use Rattle.document_traffic
-pub use Rattle.explain_reasons
 pub mod Undisturbed
 pub mod Planned
 pub mod Uplink

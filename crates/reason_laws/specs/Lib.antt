@@ -1,4 +1,3 @@
-pub use Rattle.explain_reasons
 pub mod Decoded
 pub mod Blocks
 pub mod Giving

@@ -1,5 +1,3 @@
-pub use Rattle.explain_reasons
-pub use Rattle.line_runs
 pub mod Words
 pub mod Sums
 pub mod Counting

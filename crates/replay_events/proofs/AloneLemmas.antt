@@ -14,28 +14,28 @@ use Rattle.fault_counters.specs.declared.kinds.Counter.{Counter}
 use Rattle.window_config.specs.declared.config.Config.{Config}
 use Rattle.window_config.specs.declared.endpoints.EndpointConfig.{EndpointConfig}
 use Rattle.fh_time.specs.declared.values.Slot.{Slot}
-use Rattle.history_laws.specs.unit_model.specs.Claims.{claim_at}
-use Rattle.history_laws.specs.unit_model.specs.Counts.{cells_counted}
-use Rattle.history_laws.specs.unit_model.specs.Lists.{onto}
-use Rattle.history_laws.specs.unit_model.specs.Meetings.{Arrival}
-use Rattle.history_laws.specs.unit_model.specs.Radiated.{first_clock, reported, symbol_report, wait_of}
-use Rattle.history_laws.specs.unit_model.specs.Reports.{arrivals_counted, du_known}
-use Rattle.history_laws.specs.unit_model.specs.Standing.{due, still_reported}
-use Rattle.history_laws.specs.unit_model.specs.Sweeps.{at_tick}
-use Rattle.history_laws.specs.unit_model.specs.declared.allocations.Allocation.{Allocation}
-use Rattle.history_laws.specs.unit_model.specs.declared.cells.Cell.{Cell}
-use Rattle.history_laws.specs.unit_model.specs.declared.cells.Claim.{Claim}
-use Rattle.history_laws.specs.unit_model.proofs.CountLemmas.{nothing_counted}
-use Rattle.history_laws.specs.unit_laws.proofs.AheadLemmas.{unclaimed_reports_nothing}
-use Rattle.history_laws.specs.unit_laws.proofs.DueLemmas.{unheard}
-use Rattle.history_laws.specs.unit_laws.proofs.SweepLemmas.{tick-nothing}
+use Rattle.unit_model.specs.Claims.{claim_at}
+use Rattle.unit_model.specs.Counts.{cells_counted}
+use Rattle.unit_model.specs.Lists.{onto}
+use Rattle.unit_model.specs.Meetings.{Arrival}
+use Rattle.unit_model.specs.Radiated.{first_clock, reported, symbol_report, wait_of}
+use Rattle.unit_model.specs.Reports.{arrivals_counted, du_known}
+use Rattle.unit_model.specs.Standing.{due, still_reported}
+use Rattle.unit_model.specs.Sweeps.{at_tick}
+use Rattle.unit_model.specs.declared.allocations.Allocation.{Allocation}
+use Rattle.unit_model.specs.declared.cells.Cell.{Cell}
+use Rattle.unit_model.specs.declared.cells.Claim.{Claim}
+use Rattle.unit_model.proofs.CountLemmas.{nothing_counted}
+use Rattle.unit_laws.proofs.AheadLemmas.{unclaimed_reports_nothing}
+use Rattle.unit_laws.proofs.DueLemmas.{unheard}
+use Rattle.unit_laws.proofs.SweepLemmas.{tick-nothing}
 use Rattle.replay_events.specs.Alone.{IdleWithoutPlan}
 use Rattle.replay_events.specs.Events.{all_counted, arrivals_told, count_event, count_events, is_measured, number_of, start_of}
 use Rattle.replay_events.specs.Moments.{all_arrivals, arrivals_in, end_of_time, landing_at}
 use Rattle.replay_events.specs.Passing.{AreLandings}
 use Rattle.replay_events.specs.Traffic.{Traffic}
 use Rattle.replay_events.proofs.ToldLemmas.{none_told}
-use Rattle.history_laws.specs.unit_model.proofs.SweepLaws.{sweep_quiet as sweep-nothing}
+use Rattle.unit_model.proofs.SweepLaws.{sweep_quiet as sweep-nothing}
 pub use Rattle.replay_events.proofs.ToldLemmas.{told_each}
 
 -- ---- of nothing

@@ -7,18 +7,18 @@ use Rattle.std.proofs.lemmas.Bool.Decides.{Decides-int_eq}
 use Rattle.std.proofs.lemmas.Int.{by_lt_z}
 use Rattle.std.proofs.lemmas.List.Elements.{All-nil, All-cons, All-filter, All-head, All-tail, All-weaker, filter_passes}
 use Rattle.std.specs.Int.Signed.{≤ℤ_refl, <ℤ-≤ℤ_trans}
-use Rattle.history_laws.specs.unit_model.specs.Lists.{onto}
-use Rattle.history_laws.specs.unit_model.specs.Meetings.{Arrival}
-use Rattle.history_laws.specs.unit_model.specs.Proper.{IsTime}
-use Rattle.history_laws.specs.unit_model.specs.Radiated.{first_clock}
-use Rattle.history_laws.specs.unit_model.specs.Standing.{AreInTime}
-use Rattle.history_laws.specs.unit_model.proofs.SweepLaws.{gap_is, gap_none}
+use Rattle.unit_model.specs.Lists.{onto}
+use Rattle.unit_model.specs.Meetings.{Arrival}
+use Rattle.unit_model.specs.Proper.{IsTime}
+use Rattle.unit_model.specs.Radiated.{first_clock}
+use Rattle.unit_model.specs.Standing.{AreInTime}
+use Rattle.unit_model.proofs.SweepLaws.{gap_is, gap_none}
 use Rattle.history_laws.proofs.TickLemmas.{last_is_earlier, last_of_next}
 use Rattle.replay_events.specs.Moments.{arrivals_before, arrivals_in, landing_at}
 use Rattle.replay_events.specs.Passing.{AreLandings, ArrivalsAreInTime, ArrivalsGoOn, CalmAddsNothing, IsCalm}
 use Rattle.replay_events.proofs.TickLemmas.{between, next_gap}
 use Rattle.fh_time.proofs.Orders.{weak, at_most}
-use Rattle.history_laws.specs.unit_model.proofs.InTimeLemmas.{in_time_later}
+use Rattle.unit_model.proofs.InTimeLemmas.{in_time_later}
 
 -- ---- one tick more
 

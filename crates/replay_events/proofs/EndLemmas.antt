@@ -18,23 +18,23 @@ use Rattle.window_config.specs.declared.delays.Delays.{Delays}
 use Rattle.window_config.specs.declared.config.Config.{Config}
 use Rattle.window_config.specs.declared.plan.TheConstants.{LAST_FRAME}
 use Rattle.history_laws.proofs.TickLemmas.{last_of_next}
-use Rattle.history_laws.specs.unit_laws.proofs.AheadLemmas.{unclaimed_reports_nothing}
-use Rattle.history_laws.specs.unit_laws.proofs.DueLemmas.{all_is_due, due_begins, due_in_pieces, filter_nothing}
-use Rattle.history_laws.specs.unit_laws.proofs.EndLemmas.{cells_end, jobs_end}
-use Rattle.history_laws.specs.unit_laws.proofs.SentLemmas.{jobs_begin}
-use Rattle.history_laws.specs.unit_laws.proofs.SweepLemmas.{sweep-append, tick-nothing}
-use Rattle.history_laws.specs.unit_model.proofs.SweepLaws.{sweep_quiet as sweep-nothing}
-use Rattle.history_laws.specs.unit_model.specs.Claims.{cell_at, claim_at, claim_of, covers, in_mask, names, same_slot}
-use Rattle.history_laws.specs.unit_model.specs.Meetings.{Arrival}
-use Rattle.history_laws.specs.unit_model.specs.Radiated.{Known, first_clock, reported, symbol_report, wait_of}
-use Rattle.history_laws.specs.unit_model.specs.Reports.{accepted_of, du_known}
-use Rattle.history_laws.specs.unit_model.specs.Standing.{AreInTime, due}
-use Rattle.history_laws.specs.unit_model.specs.Sweeps.{at_tick, frame_of_tick, sweep}
-use Rattle.history_laws.specs.unit_model.specs.Times.{end_of_time, last_landing}
-use Rattle.history_laws.specs.unit_model.specs.Uplink.{jobs}
-use Rattle.history_laws.specs.unit_model.specs.declared.allocations.Allocation.{Allocation}
-use Rattle.history_laws.specs.unit_model.specs.declared.cells.Cell.{Cell}
-use Rattle.history_laws.specs.unit_model.specs.declared.jobs.UplinkJob.{UplinkJob}
+use Rattle.unit_laws.proofs.AheadLemmas.{unclaimed_reports_nothing}
+use Rattle.unit_laws.proofs.DueLemmas.{all_is_due, due_begins, due_in_pieces, filter_nothing}
+use Rattle.unit_laws.proofs.EndLemmas.{cells_end, jobs_end}
+use Rattle.unit_laws.proofs.SentLemmas.{jobs_begin}
+use Rattle.unit_laws.proofs.SweepLemmas.{sweep-append, tick-nothing}
+use Rattle.unit_model.proofs.SweepLaws.{sweep_quiet as sweep-nothing}
+use Rattle.unit_model.specs.Claims.{cell_at, claim_at, claim_of, covers, in_mask, names, same_slot}
+use Rattle.unit_model.specs.Meetings.{Arrival}
+use Rattle.unit_model.specs.Radiated.{Known, first_clock, reported, symbol_report, wait_of}
+use Rattle.unit_model.specs.Reports.{accepted_of, du_known}
+use Rattle.unit_model.specs.Standing.{AreInTime, due}
+use Rattle.unit_model.specs.Sweeps.{at_tick, frame_of_tick, sweep}
+use Rattle.unit_model.specs.Times.{end_of_time, last_landing}
+use Rattle.unit_model.specs.Uplink.{jobs}
+use Rattle.unit_model.specs.declared.allocations.Allocation.{Allocation}
+use Rattle.unit_model.specs.declared.cells.Cell.{Cell}
+use Rattle.unit_model.specs.declared.jobs.UplinkJob.{UplinkJob}
 use Rattle.replay_events.proofs.CameLemmas.{arrivals_in_time, calm_adds_nothing}
 use Rattle.replay_events.specs.Ending.{AreInPlan, NoCellIsLeft, NoMessageIsLeft, PlannedCellsEnd}
 use Rattle.replay_events.specs.Moments.{all_arrivals, arrivals_before}

@@ -9,9 +9,9 @@ use Rattle.air_source.specs.declared.events.Event.TheVariants as event
 use Rattle.air_source.specs.declared.events.Side.{Side}
 use Rattle.air_source.specs.declared.events.Side.TheVariants.{Ru, Du}
 use Rattle.window_config.specs.declared.config.Config.{Config}
-use Rattle.history_laws.specs.unit_model.specs.Meetings.{Arrival}
-use Rattle.history_laws.specs.unit_model.specs.Radiated.{first_clock, symbol_report, wait_of}
-use Rattle.history_laws.specs.unit_model.specs.Sweeps.{at_tick}
+use Rattle.unit_model.specs.Meetings.{Arrival}
+use Rattle.unit_model.specs.Radiated.{first_clock, symbol_report, wait_of}
+use Rattle.unit_model.specs.Sweeps.{at_tick}
 use Rattle.history_laws.proofs.TickLemmas.{before_next, last_of_next, next_after, next_is_later}
 use Rattle.replay_events.specs.Events.{arrivals_at, arrivals_told, cells_reported_at, events_at, events_between}
 use Rattle.replay_events.specs.Moments.{all_arrivals, arrivals_before, end_of_time}

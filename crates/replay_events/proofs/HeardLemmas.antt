@@ -11,15 +11,15 @@ use Rattle.fh_time.specs.Air.{air_of}
 use Rattle.fh_time.specs.declared.values.Slot.{Slot}
 use Rattle.window_config.specs.declared.delays.Delays.{Delays}
 use Rattle.window_config.specs.declared.endpoints.EndpointConfig.{EndpointConfig}
-use Rattle.history_laws.specs.unit_model.specs.Claims.{cell_at}
-use Rattle.history_laws.specs.unit_model.specs.Lists.{onto}
-use Rattle.history_laws.specs.unit_model.specs.Meetings.{Arrival}
-use Rattle.history_laws.specs.unit_model.specs.Radiated.{Known, air_cell, cell_report, first_clock, symbol_report, used_mask, wait_of}
-use Rattle.history_laws.specs.unit_model.specs.Standing.{due, still_reported}
-use Rattle.history_laws.specs.unit_model.specs.Sweeps.{at_tick}
-use Rattle.history_laws.specs.unit_laws.proofs.DifferLemmas.{all_kept}
-use Rattle.history_laws.specs.unit_laws.proofs.DueLemmas.{unheard, one_or_none}
-use Rattle.history_laws.specs.unit_laws.proofs.SweepLemmas.{at_tick_related, each_related, sweep_related}
+use Rattle.unit_model.specs.Claims.{cell_at}
+use Rattle.unit_model.specs.Lists.{onto}
+use Rattle.unit_model.specs.Meetings.{Arrival}
+use Rattle.unit_model.specs.Radiated.{Known, air_cell, cell_report, first_clock, symbol_report, used_mask, wait_of}
+use Rattle.unit_model.specs.Standing.{due, still_reported}
+use Rattle.unit_model.specs.Sweeps.{at_tick}
+use Rattle.unit_laws.proofs.DifferLemmas.{all_kept}
+use Rattle.unit_laws.proofs.DueLemmas.{unheard, one_or_none}
+use Rattle.unit_laws.proofs.SweepLemmas.{at_tick_related, each_related, sweep_related}
 use Rattle.replay_events.specs.Events.{arrival_told, arrivals_told, result_event}
 use Rattle.replay_events.specs.Heard.{arrivals_heard, cells_heard, is_of}
 use Rattle.replay_events.specs.Traffic.{DelayResult}

@@ -10,12 +10,12 @@ use Rattle.window_config.specs.Configs.{IsConfig}
 use Rattle.window_config.specs.declared.config.Config.{Config}
 use Rattle.window_config.specs.declared.delays.Delays.{Delays}
 use Rattle.window_config.specs.declared.endpoints.EndpointConfig.{EndpointConfig}
-use Rattle.history_laws.specs.unit_model.specs.Meetings.{Arrival}
-use Rattle.history_laws.specs.unit_model.specs.Radiated.{Known, first_clock, reported, symbol_report, wait_of}
-use Rattle.history_laws.specs.unit_model.specs.Standing.{due, past_of}
-use Rattle.history_laws.specs.unit_model.specs.Sweeps.{at_tick, sweep}
-use Rattle.history_laws.specs.unit_laws.proofs.DueLemmas.{all_is_due, due_in_pieces}
-use Rattle.history_laws.specs.unit_laws.proofs.SweepLemmas.{sweep-append}
+use Rattle.unit_model.specs.Meetings.{Arrival}
+use Rattle.unit_model.specs.Radiated.{Known, first_clock, reported, symbol_report, wait_of}
+use Rattle.unit_model.specs.Standing.{due, past_of}
+use Rattle.unit_model.specs.Sweeps.{at_tick, sweep}
+use Rattle.unit_laws.proofs.DueLemmas.{all_is_due, due_in_pieces}
+use Rattle.unit_laws.proofs.SweepLemmas.{sweep-append}
 use Rattle.history_laws.proofs.TickLemmas.{last_is_earlier, last_reached, next_is_later}
 use Rattle.replay_events.specs.Events.{cells_reported_at}
 use Rattle.replay_events.specs.Moments.{all_arrivals, arrivals_before, end_of_time}

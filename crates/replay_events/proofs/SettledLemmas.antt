@@ -8,13 +8,13 @@ use Rattle.std.proofs.lemmas.Int.{ints}
 use Rattle.window_config.specs.Configs.{IsConfig}
 use Rattle.window_config.specs.Limits.{IsWithinLimits}
 use Rattle.window_config.specs.declared.config.Config.{Config}
-use Rattle.history_laws.specs.unit_model.specs.Lists.{onto}
-use Rattle.history_laws.specs.unit_model.specs.Meetings.{Arrival}
-use Rattle.history_laws.specs.unit_model.specs.Proper.{IsTime}
-use Rattle.history_laws.specs.unit_model.specs.Radiated.{first_clock}
-use Rattle.history_laws.specs.unit_model.specs.Reports.{accepted_of}
-use Rattle.history_laws.specs.unit_model.specs.Standing.{AreInTime, past_of}
-use Rattle.history_laws.specs.unit_model.specs.Uplink.{jobs}
+use Rattle.unit_model.specs.Lists.{onto}
+use Rattle.unit_model.specs.Meetings.{Arrival}
+use Rattle.unit_model.specs.Proper.{IsTime}
+use Rattle.unit_model.specs.Radiated.{first_clock}
+use Rattle.unit_model.specs.Reports.{accepted_of}
+use Rattle.unit_model.specs.Standing.{AreInTime, past_of}
+use Rattle.unit_model.specs.Uplink.{jobs}
 use Rattle.history_laws.specs.Arriving.{IsNextArrival}
 use Rattle.history_laws.proofs.ArrivingLemmas.{arrival_leaves_reported, arrival_leaves_sent}
 use Rattle.history_laws.proofs.TickLemmas.{last_is_earlier, later_then}
@@ -24,7 +24,7 @@ use Rattle.replay_events.specs.Passing.{AreLandings, MessagesAreSettled, Reporte
 use Rattle.replay_events.proofs.CameLemmas.{arrivals_go_on, arrivals_in_time, in_time_next, landed_then, landed_times}
 use Rattle.replay_events.proofs.TickLemmas.{between}
 use Rattle.fh_time.proofs.Orders.{at_most}
-use Rattle.history_laws.specs.unit_model.proofs.InTimeLemmas.{in_time_later}
+use Rattle.unit_model.proofs.InTimeLemmas.{in_time_later}
 
 -- what an arrival of this tick leaves as it was
 abbrev Leaves : {X : Type 0} → Config → (List Arrival → X) → ℤ → Type 0

@@ -4,7 +4,7 @@ use Rattle.std.specs.Prelude.{All, map}
 use Rattle.std.proofs.lemmas.List.Elements.{All-nil, All-cons, All-append}
 use Rattle.air_source.specs.declared.events.Event.{Event}
 use Rattle.air_source.specs.declared.events.Side.{Side}
-use Rattle.history_laws.specs.unit_model.specs.Meetings.{Arrival}
+use Rattle.unit_model.specs.Meetings.{Arrival}
 use Rattle.replay_events.specs.Events.{arrival_event, arrival_told, arrivals_told, result_event}
 use Rattle.replay_events.specs.Traffic.{DelayResult}
 

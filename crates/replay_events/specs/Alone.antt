@@ -3,9 +3,9 @@ use Rattle.std.specs.Prelude.{◌≡◌, ℤ, List, []}
 use Rattle.air_source.specs.declared.events.AirCell.{AirCell}
 use Rattle.air_source.specs.declared.events.Side.TheVariants.{Du}
 use Rattle.window_config.specs.declared.config.Config.{Config}
-use Rattle.history_laws.specs.unit_model.specs.Meetings.{Arrival}
-use Rattle.history_laws.specs.unit_model.specs.Reports.{du_known}
-use Rattle.history_laws.specs.unit_model.specs.Standing.{due}
+use Rattle.unit_model.specs.Meetings.{Arrival}
+use Rattle.unit_model.specs.Reports.{du_known}
+use Rattle.unit_model.specs.Standing.{due}
 use Rattle.replay_events.specs.Events.{arrivals_at, cells_reported_at, count_events}
 use Rattle.replay_events.specs.Moments.{landing_at}
 use Rattle.replay_events.specs.Passing.{AreLandings}

@@ -4,12 +4,12 @@ use Rattle.air_source.specs.declared.events.Side.{Side}
 use Rattle.window_config.specs.Configs.{IsConfig}
 use Rattle.window_config.specs.declared.config.Config.{Config}
 use Rattle.window_config.specs.declared.plan.TheConstants.{LAST_FRAME}
-use Rattle.history_laws.specs.unit_model.specs.Meetings.{Arrival}
-use Rattle.history_laws.specs.unit_model.specs.Reports.{accepted_of, du_reported}
-use Rattle.history_laws.specs.unit_model.specs.Standing.{due, still_given}
-use Rattle.history_laws.specs.unit_model.specs.Times.{end_of_time}
-use Rattle.history_laws.specs.unit_model.specs.Uplink.{jobs}
-use Rattle.history_laws.specs.unit_model.specs.declared.allocations.Allocation.{Allocation}
+use Rattle.unit_model.specs.Meetings.{Arrival}
+use Rattle.unit_model.specs.Reports.{accepted_of, du_reported}
+use Rattle.unit_model.specs.Standing.{due, still_given}
+use Rattle.unit_model.specs.Times.{end_of_time}
+use Rattle.unit_model.specs.Uplink.{jobs}
+use Rattle.unit_model.specs.declared.allocations.Allocation.{Allocation}
 use Rattle.window_config.specs.Limits.{IsWithinLimits}
 use Rattle.replay_events.specs.Moments.{all_arrivals}
 use Rattle.replay_events.specs.Passing.{AreLandings}

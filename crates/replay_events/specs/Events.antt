@@ -13,12 +13,12 @@ use Rattle.fault_counters.specs.Names.{all_counters, index_of}
 use Rattle.fault_counters.specs.declared.kinds.Counter.{Counter}
 use Rattle.window_config.specs.declared.config.Config.{Config}
 use Rattle.window_config.specs.declared.delays.Delays.{Delays}
-use Rattle.history_laws.specs.unit_model.specs.Counts.{cells_counted}
-use Rattle.history_laws.specs.unit_model.specs.Lists.{each_tick}
-use Rattle.history_laws.specs.unit_model.specs.Meetings.{Arrival}
-use Rattle.history_laws.specs.unit_model.specs.Radiated.{first_clock, symbol_report, wait_of}
-use Rattle.history_laws.specs.unit_model.specs.Reports.{arrivals_counted}
-use Rattle.history_laws.specs.unit_model.specs.Sweeps.{at_tick}
+use Rattle.unit_model.specs.Counts.{cells_counted}
+use Rattle.unit_model.specs.Lists.{each_tick}
+use Rattle.unit_model.specs.Meetings.{Arrival}
+use Rattle.unit_model.specs.Radiated.{first_clock, symbol_report, wait_of}
+use Rattle.unit_model.specs.Reports.{arrivals_counted}
+use Rattle.unit_model.specs.Sweeps.{at_tick}
 use Rattle.replay_events.specs.Moments.{all_arrivals, end_of_time, landing_at}
 use Rattle.replay_events.specs.Traffic.{DelayResult, Traffic, known_at, landings_at, reported_at}
 

@@ -4,8 +4,8 @@ use Rattle.air_source.specs.declared.events.AirCell.{AirCell}
 use Rattle.air_source.specs.declared.events.Event.{Event}
 use Rattle.air_source.specs.declared.events.Event.TheVariants as event
 use Rattle.air_source.specs.declared.events.Side.{Side}
-use Rattle.history_laws.specs.unit_model.specs.Claims.{same_way}
-use Rattle.history_laws.specs.unit_model.specs.Meetings.{Arrival}
+use Rattle.unit_model.specs.Claims.{same_way}
+use Rattle.unit_model.specs.Meetings.{Arrival}
 use Rattle.air_source.specs.Units.{is_down}
 
 -- the event is of this unit

@@ -1,9 +1,3 @@
-pub use Rattle.air_source
-pub use Rattle.history_laws.specs.ecpri_fragments
-pub use Rattle.history_laws
-pub use Rattle.history_laws.specs.unit_laws
-pub use Rattle.history_laws.specs.unit_model
-pub use Rattle.history_laws.specs.uplane_sections
 pub mod Moments
 pub mod Traffic
 pub mod Events

@@ -2,10 +2,10 @@
 use Rattle.std.specs.Prelude.{ℕ, zero, suc, ℤ, pos, ◌+ℤ◌, List, [], filter}
 use Rattle.std.specs.Int.{int_gap}
 use Rattle.std.specs.Ordering.{int_eq}
-use Rattle.history_laws.specs.unit_model.specs.Lists.{onto}
-use Rattle.history_laws.specs.unit_model.specs.Meetings.{Arrival}
-use Rattle.history_laws.specs.unit_model.specs.Radiated.{first_clock}
-pub use Rattle.history_laws.specs.unit_model.specs.Times.{end_of_time}
+use Rattle.unit_model.specs.Lists.{onto}
+use Rattle.unit_model.specs.Meetings.{Arrival}
+use Rattle.unit_model.specs.Radiated.{first_clock}
+pub use Rattle.unit_model.specs.Times.{end_of_time}
 
 -- of these frames, listed in any order of their times, those that land at a tick, as they are listed
 abbrev pub landing_at : List Arrival → ℤ → List Arrival

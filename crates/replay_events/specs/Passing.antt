@@ -5,18 +5,18 @@ use Rattle.air_source.specs.declared.events.Side.{Side}
 use Rattle.air_source.specs.declared.events.Side.TheVariants.{Ru, Du}
 use Rattle.window_config.specs.Configs.{IsConfig}
 use Rattle.window_config.specs.declared.config.Config.{Config}
-use Rattle.history_laws.specs.unit_model.specs.Lists.{onto}
-use Rattle.history_laws.specs.unit_model.specs.Meetings.{Arrival}
-use Rattle.history_laws.specs.unit_model.specs.Proper.{IsTime}
-use Rattle.history_laws.specs.unit_model.specs.Radiated.{first_clock}
-use Rattle.history_laws.specs.unit_model.specs.Reports.{accepted_of}
-use Rattle.history_laws.specs.unit_model.specs.Standing.{AreInTime, due, past_of}
-use Rattle.history_laws.specs.unit_model.specs.Times.{last_landing}
-use Rattle.history_laws.specs.unit_model.specs.Uplink.{jobs}
+use Rattle.unit_model.specs.Lists.{onto}
+use Rattle.unit_model.specs.Meetings.{Arrival}
+use Rattle.unit_model.specs.Proper.{IsTime}
+use Rattle.unit_model.specs.Radiated.{first_clock}
+use Rattle.unit_model.specs.Reports.{accepted_of}
+use Rattle.unit_model.specs.Standing.{AreInTime, due, past_of}
+use Rattle.unit_model.specs.Times.{last_landing}
+use Rattle.unit_model.specs.Uplink.{jobs}
 use Rattle.replay_events.specs.Events.{cells_reported_at, events_at, events_between}
 use Rattle.replay_events.specs.Moments.{all_arrivals, arrivals_before, end_of_time, landing_at}
 use Rattle.replay_events.specs.Traffic.{Traffic, known_at, landings_at, reported_at}
-use Rattle.history_laws.specs.unit_model.specs.declared.allocations.Allocation.{Allocation}
+use Rattle.unit_model.specs.declared.allocations.Allocation.{Allocation}
 
 -- frames that may be replayed: what is told of them is told by the end of time
 pub record AreLandings (landings : List Arrival) : Type 0 where

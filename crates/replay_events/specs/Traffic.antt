@@ -3,10 +3,10 @@ use Rattle.std.specs.Prelude.{ℤ, List}
 use Rattle.air_source.specs.declared.events.Side.{Side}
 use Rattle.air_source.specs.declared.events.Side.TheVariants.{Ru, Du}
 use Rattle.fault_counters.specs.declared.kinds.Counter.{Counter}
-use Rattle.history_laws.specs.unit_model.specs.Meetings.{Arrival}
+use Rattle.unit_model.specs.Meetings.{Arrival}
 pub use Rattle.history_laws.specs.Arriving.{known_at, reported_at}
 pub use Rattle.replay_events.specs.declared.results.DelayResult.{DelayResult}
-use Rattle.history_laws.specs.unit_model.specs.declared.allocations.Allocation.{Allocation}
+use Rattle.unit_model.specs.declared.allocations.Allocation.{Allocation}
 
 -- the frames that land at each unit, listed in any order of their times, and the uplink allocations of the plan; and of delay measurement
 -- the results that the frames landing at a unit at a tick give, frame by frame, and what it counted at each unit

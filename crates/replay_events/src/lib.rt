@@ -7,7 +7,7 @@
 
 mod results;
 
-ghost use Rattle.history_laws.specs.unit_laws.specs.Ends.{CellsEnd, JobsEnd};
+ghost use Rattle.unit_laws.specs.Ends.{CellsEnd, JobsEnd};
 ghost use Rattle.replay_events.specs.Ending.{NoCellIsLeft, NoMessageIsLeft, PlannedCellsEnd};
 
 pub use results::DelayResult;

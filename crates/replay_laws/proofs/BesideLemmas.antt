@@ -3,8 +3,8 @@ use Rattle.std.proofs.Common.{◌≡◌, ℕ, ℤ, ◌+◌, Bool, true, false, L
 use Rattle.std.specs.Prelude.{◌==◌, if◌then◌else◌, not, ◌||◌, nat_lt, length, map, All, Option, Some, None, Result, Ok, Err}
 use Rattle.std.proofs.lemmas.List.Elements.{All-nil, All-cons, All-head, All-tail}
 use Rattle.fh_time.specs.Numbering.{shape_of}
-use Rattle.replay_events.specs.air_source.specs.declared.events.Side.{Side}
-use Rattle.replay_events.specs.air_source.specs.declared.events.Side.TheVariants.{Ru, Du}
+use Rattle.air_source.specs.declared.events.Side.{Side}
+use Rattle.air_source.specs.declared.events.Side.TheVariants.{Ru, Du}
 use Rattle.cplane_sections.specs.declared.values.CRefusal.{CRefusal}
 use Rattle.cplane_sections.specs.declared.values.CHead.{CHead}
 use Rattle.cplane_sections.specs.Tests.{checked}
@@ -17,16 +17,14 @@ use Rattle.ecpri_frames.specs.Messages.{Message, pdu}
 use Rattle.fault_counters.specs.declared.kinds.Counter.{Counter}
 use Rattle.fault_counters.specs.declared.kinds.Counter.TheVariants as counter
 use Rattle.window_config.specs.declared.endpoints.EndpointConfig.{EndpointConfig}
-use Rattle.replay_events.specs.unit_model.specs.Counts.{decoded_counted, fragment_counter, frames_counted, meeting_counted, messages_counted, refusal_counted}
-use Rattle.replay_events.specs.unit_model.specs.Decoding.{Decoded, Refused, Backwards, Sections, data_now}
-use Rattle.replay_events.specs.unit_model.specs.Meetings.{Arrival, Meeting, Ignored, Commands, Piece, command_read, control_met, find_endpoint, fragments, meet, meetings, met_by, met_in}
-use Rattle.replay_events.specs.unit_model.proofs.CountLemmas.{times-append}
-use Rattle.replay_events.specs.unit_laws.specs.Totals.{commands_total, data_total}
-use Rattle.replay_events.specs.unit_laws.proofs.OrderLemmas.{All-onto}
+use Rattle.unit_model.specs.Counts.{decoded_counted, fragment_counter, frames_counted, meeting_counted, messages_counted, refusal_counted}
+use Rattle.unit_model.specs.Decoding.{Decoded, Refused, Backwards, Sections, data_now}
+use Rattle.unit_model.specs.Meetings.{Arrival, Meeting, Ignored, Commands, Piece, command_read, control_met, find_endpoint, fragments, meet, meetings, met_by, met_in}
+use Rattle.unit_model.proofs.CountLemmas.{times-append}
+use Rattle.unit_laws.specs.Totals.{commands_total, data_total}
+use Rattle.unit_laws.proofs.OrderLemmas.{All-onto}
 use Rattle.replay_laws.specs.Sums.{cells_total}
-use Rattle.ecpri_frames.specs.declared.heads.TheConstants.{ONE_WAY_DELAY}
-use Rattle.ecpri_frames.specs.declared.heads.TheConstants.{REAL_TIME_CONTROL}
-use Rattle.ecpri_frames.specs.declared.heads.TheConstants.{IQ_DATA}
+use Rattle.ecpri_frames.specs.declared.heads.TheConstants.{ONE_WAY_DELAY, REAL_TIME_CONTROL, IQ_DATA}
 use Rattle.ecpri_fragments.specs.Sequence.{id_of, sequence_of, application, is_fragmented}
 
 -- none of these is a verdict's counter, or a cell's

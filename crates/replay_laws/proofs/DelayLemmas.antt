@@ -5,18 +5,18 @@ use Rattle.std.specs.Int.{int_gap}
 use Rattle.std.specs.List.{flat_map}
 use Rattle.std.proofs.lemmas.Option.{same_Some}
 use Rattle.std.proofs.lemmas.List.Elements.{All-nil, All-cons, All-append, All-head, All-tail, Contains-append_right}
-use Rattle.replay_events.specs.air_source.specs.declared.events.AirCell.{AirCell}
-use Rattle.replay_events.specs.air_source.specs.declared.events.Event.{Event}
-use Rattle.replay_events.specs.air_source.specs.declared.events.Event.TheVariants as event
-use Rattle.replay_events.specs.air_source.specs.declared.events.Side.{Side}
-use Rattle.replay_events.specs.air_source.specs.declared.events.Side.TheVariants.{Ru, Du}
+use Rattle.air_source.specs.declared.events.AirCell.{AirCell}
+use Rattle.air_source.specs.declared.events.Event.{Event}
+use Rattle.air_source.specs.declared.events.Event.TheVariants as event
+use Rattle.air_source.specs.declared.events.Side.{Side}
+use Rattle.air_source.specs.declared.events.Side.TheVariants.{Ru, Du}
 use Rattle.fault_counters.specs.Names.{all_counters}
 use Rattle.fault_counters.specs.declared.kinds.Counter.{Counter}
 use Rattle.window_config.specs.declared.config.Config.{Config}
-use Rattle.replay_events.specs.unit_model.specs.Meetings.{Arrival}
-use Rattle.replay_events.specs.unit_model.specs.Radiated.{first_clock}
-use Rattle.replay_events.specs.unit_laws.proofs.SweepLemmas.{IsKept, each_tick_related}
-use Rattle.replay_events.specs.history_laws.proofs.TickLemmas.{next_is_later}
+use Rattle.unit_model.specs.Meetings.{Arrival}
+use Rattle.unit_model.specs.Radiated.{first_clock}
+use Rattle.unit_laws.proofs.SweepLemmas.{IsKept, each_tick_related}
+use Rattle.history_laws.proofs.TickLemmas.{next_is_later}
 use Rattle.replay_events.specs.Events.{arrival_event, arrival_told, arrivals_at, arrivals_told, cells_reported_at, count_event, count_events, events, events_at, events_between, number_of, result_event}
 use Rattle.replay_events.specs.Moments.{end_of_time, landing_at}
 use Rattle.replay_events.specs.Traffic.{Traffic, landings_at}

@@ -3,15 +3,15 @@ use Rattle.std.proofs.Common.{ℤ, ◌≤ℤ◌, List, [], ◌∷◌, ◌++◌, 
 use Rattle.std.specs.Prelude.{All}
 use Rattle.std.proofs.lemmas.List.Elements.{All-head, All-tail}
 use Rattle.std.specs.Int.Signed.{≤ℤ_refl}
-use Rattle.replay_events.specs.air_source.specs.declared.events.Side.{Side}
+use Rattle.air_source.specs.declared.events.Side.{Side}
 use Rattle.ecpri_fragments.specs.Generations.{Fragment}
 use Rattle.ecpri_frames.specs.Gathering.{whole_messages}
 use Rattle.window_config.specs.declared.endpoints.EndpointConfig.{EndpointConfig}
-use Rattle.replay_events.specs.unit_model.specs.Lists.{onto}
-use Rattle.replay_events.specs.unit_model.specs.Meetings.{Arrival, Meeting, Ignored, Commands, Piece, fragments, meetings, met_in}
-use Rattle.replay_events.specs.unit_model.specs.Standing.{AreInTime}
+use Rattle.unit_model.specs.Lists.{onto}
+use Rattle.unit_model.specs.Meetings.{Arrival, Meeting, Ignored, Commands, Piece, fragments, meetings, met_in}
+use Rattle.unit_model.specs.Standing.{AreInTime}
 use Rattle.fh_time.proofs.Orders.{at_most}
-use Rattle.replay_events.specs.history_laws.proofs.AddedLemmas.{Came, all_came}
+use Rattle.history_laws.proofs.AddedLemmas.{Came, all_came}
 
 -- the newest first, none later than the clock, and none later than a newer one
 abbrev pub AreFalling : ℤ → List Fragment → Type 0

@@ -9,25 +9,25 @@ use Rattle.std.proofs.lemmas.Option.{same_Some}
 use Rattle.std.specs.Int.Signed.{≤ℤ_refl}
 use Rattle.fh_time.specs.Numbering.{shape_of}
 use Rattle.bfp_codec.specs.declared.samples.Wide.{Wide}
-use Rattle.replay_events.specs.air_source.specs.declared.events.Side.{Side}
-use Rattle.replay_events.specs.air_source.specs.declared.events.Side.TheVariants.{Ru, Du}
+use Rattle.air_source.specs.declared.events.Side.{Side}
+use Rattle.air_source.specs.declared.events.Side.TheVariants.{Ru, Du}
 use Rattle.ecpri_fragments.specs.Generations.{Fragment, is_of, seen}
 use Rattle.ecpri_fragments.specs.Verdicts.{Message, end_of, first_of, has_greater, is_whole, message, piece_at, pieces_below, pieces_to, placed, standing, standing_before, verdict_on, whole_of, whole_now}
 use Rattle.ecpri_fragments.specs.declared.verdict.Verdict.{Verdict}
 use Rattle.ecpri_fragments.specs.declared.verdict.Verdict.TheVariants as fragment
 use Rattle.ecpri_fragments.proofs.Ends.{none_beyond}
 use Rattle.ecpri_fragments.proofs.Steps.{whole_placed}
-use Rattle.replay_events.specs.uplane_sections.specs.declared.values.UHead.{UHead}
-use Rattle.replay_events.specs.uplane_sections.specs.declared.values.URefusal.{URefusal}
-use Rattle.replay_events.specs.uplane_sections.specs.Messages.{told}
+use Rattle.uplane_sections.specs.declared.values.UHead.{UHead}
+use Rattle.uplane_sections.specs.declared.values.URefusal.{URefusal}
+use Rattle.uplane_sections.specs.Messages.{told}
 use Rattle.window_config.specs.declared.config.Config.{Config}
 use Rattle.window_config.specs.declared.delays.Delays.{Delays}
 use Rattle.window_config.specs.declared.endpoints.EndpointConfig.{EndpointConfig}
-use Rattle.replay_events.specs.unit_model.specs.Decoding.{Backwards, Decoded, Gathering, SectionBlocks, Refused, Sections, data_now, data_sections, data_told, data_with, decode, decode_message, decoded_from, decoded_now, decoded_with, gathered as all_gathered, has_way, nothing_told, sections_of}
-use Rattle.replay_events.specs.unit_model.specs.Meetings.{Arrival, Meeting, Ignored, Commands, Piece, fragments}
-use Rattle.replay_events.specs.unit_model.specs.Reports.{hold_of, met}
-use Rattle.replay_events.specs.unit_model.specs.Standing.{AreInTime}
-use Rattle.replay_events.specs.unit_model.specs.declared.decoded.UserSection.{UserSection}
+use Rattle.unit_model.specs.Decoding.{Backwards, Decoded, Gathering, SectionBlocks, Refused, Sections, data_now, data_sections, data_told, data_with, decode, decode_message, decoded_from, decoded_now, decoded_with, gathered as all_gathered, has_way, nothing_told, sections_of}
+use Rattle.unit_model.specs.Meetings.{Arrival, Meeting, Ignored, Commands, Piece, fragments}
+use Rattle.unit_model.specs.Reports.{hold_of, met}
+use Rattle.unit_model.specs.Standing.{AreInTime}
+use Rattle.unit_model.specs.declared.decoded.UserSection.{UserSection}
 use Rattle.replay_events.specs.Events.{events}
 use Rattle.replay_events.specs.Heard.{cells_heard}
 use Rattle.replay_events.specs.Moments.{all_arrivals, end_of_time}

@@ -4,27 +4,27 @@ use Rattle.std.specs.Prelude.{◌==◌, if◌then◌else◌, Contains, Option, S
 use Rattle.std.proofs.lemmas.Bool.{and_parts, or_parts, eqb-true}
 use Rattle.std.proofs.lemmas.Option.{same_Some}
 use Rattle.bfp_codec.specs.declared.samples.Wide.{Wide}
-use Rattle.replay_events.specs.air_source.specs.declared.events.Side.{Side}
+use Rattle.air_source.specs.declared.events.Side.{Side}
 use Rattle.window_config.specs.declared.delays.Delays.{Delays}
 use Rattle.window_config.specs.declared.verdicts.Class.TheVariants.{OnTime}
-use Rattle.replay_events.specs.unit_model.specs.Blocks.{block_at, block_in, block_of, data_class, data_covers, timely}
-use Rattle.replay_events.specs.unit_model.specs.Claims.{cell_of, claim_at, claim_of, covers, first_prb, in_mask, is_other, is_overlapped, names, overlaps, prb_count, some_cell}
-use Rattle.replay_events.specs.unit_model.specs.Commands.{accepted, allocation_of, command_verdict}
-use Rattle.replay_events.specs.unit_model.specs.Lists.{or_else, some}
-use Rattle.replay_events.specs.unit_model.specs.Radiated.{samples_under}
-use Rattle.replay_events.specs.unit_model.specs.declared.allocations.Allocation.{Allocation}
-use Rattle.replay_events.specs.unit_model.specs.declared.cells.Block.{Block}
-use Rattle.replay_events.specs.unit_model.specs.declared.cells.Cell.{Cell}
-use Rattle.replay_events.specs.unit_model.specs.declared.cells.Claim.{Claim}
-use Rattle.replay_events.specs.unit_model.specs.declared.decoded.ControlSection.{ControlSection}
-use Rattle.replay_events.specs.unit_model.specs.declared.decoded.UserSection.{UserSection}
-use Rattle.replay_events.specs.unit_model.specs.declared.verdicts.CommandVerdict.TheVariants.{Accepted}
+use Rattle.unit_model.specs.Blocks.{block_at, block_in, block_of, data_class, data_covers, timely}
+use Rattle.unit_model.specs.Claims.{cell_of, claim_at, claim_of, covers, first_prb, in_mask, is_other, is_overlapped, names, overlaps, prb_count, some_cell}
+use Rattle.unit_model.specs.Commands.{accepted, allocation_of, command_verdict}
+use Rattle.unit_model.specs.Lists.{or_else, some}
+use Rattle.unit_model.specs.Radiated.{samples_under}
+use Rattle.unit_model.specs.declared.allocations.Allocation.{Allocation}
+use Rattle.unit_model.specs.declared.cells.Block.{Block}
+use Rattle.unit_model.specs.declared.cells.Cell.{Cell}
+use Rattle.unit_model.specs.declared.cells.Claim.{Claim}
+use Rattle.unit_model.specs.declared.decoded.ControlSection.{ControlSection}
+use Rattle.unit_model.specs.declared.decoded.UserSection.{UserSection}
+use Rattle.unit_model.specs.declared.verdicts.CommandVerdict.TheVariants.{Accepted}
 use Rattle.replay_laws.specs.Shown.{HaveOneId}
-use Rattle.replay_events.specs.unit_laws.proofs.AcceptanceLemmas.{accepted_is_acceptable}
-use Rattle.replay_events.specs.unit_laws.proofs.CellLemmas.{covered_cell, some_false}
-use Rattle.replay_events.specs.unit_laws.proofs.ChangeLemmas.{accepted_more, block-cons, claim-cons, claim_same, either_way, timely_more}
+use Rattle.unit_laws.proofs.AcceptanceLemmas.{accepted_is_acceptable}
+use Rattle.unit_laws.proofs.CellLemmas.{covered_cell, some_false}
+use Rattle.unit_laws.proofs.ChangeLemmas.{accepted_more, block-cons, claim-cons, claim_same, either_way, timely_more}
 use Rattle.fh_time.proofs.Orders.{is_true as not_false}
-use Rattle.replay_events.specs.unit_model.proofs.ClaimLemmas.{starts_before as from_first, from_within, covers_is}
+use Rattle.unit_model.proofs.ClaimLemmas.{starts_before as from_first, from_within, covers_is}
 
 -- ---- where nothing came
 

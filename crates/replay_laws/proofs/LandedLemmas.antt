@@ -6,12 +6,12 @@ use Rattle.std.specs.Ordering.{int_eq}
 use Rattle.std.proofs.lemmas.Int.{by_lt_z, ints}
 use Rattle.std.proofs.lemmas.List.Elements.{All-head, All-tail, All-weaker}
 use Rattle.std.proofs.lemmas.List.Recursion.{is_count_by}
-use Rattle.replay_events.specs.unit_model.specs.Lists.{onto}
-use Rattle.replay_events.specs.unit_model.specs.Meetings.{Arrival}
-use Rattle.replay_events.specs.unit_model.specs.Radiated.{first_clock}
-use Rattle.replay_events.specs.unit_model.proofs.SweepLaws.{gap_is}
-use Rattle.replay_events.specs.unit_model.proofs.CountLemmas.{no_time}
-use Rattle.replay_events.specs.history_laws.proofs.TickLemmas.{next_after, same_tick, clock_begins}
+use Rattle.unit_model.specs.Lists.{onto}
+use Rattle.unit_model.specs.Meetings.{Arrival}
+use Rattle.unit_model.specs.Radiated.{first_clock}
+use Rattle.unit_model.proofs.SweepLaws.{gap_is}
+use Rattle.unit_model.proofs.CountLemmas.{no_time}
+use Rattle.history_laws.proofs.TickLemmas.{next_after, same_tick, clock_begins}
 use Rattle.replay_events.specs.Moments.{all_arrivals, arrivals_in, end_of_time, landing_at}
 use Rattle.replay_events.proofs.CameLemmas.{none_first, next_first}
 use Rattle.replay_events.proofs.EndLemmas.{lands_by_end}

@@ -3,9 +3,9 @@ use Rattle.std.proofs.Common.{◌≡◌, ℕ, zero, suc, ◌+◌, ◌*◌, ◌-�
 use Rattle.std.specs.Prelude.{◌==◌, if◌then◌else◌, Option, Some, None}
 use Rattle.std.proofs.lemmas.Nat.{shr_high}
 use Rattle.std.proofs.lemmas.Bool.{not-true}
-use Rattle.replay_events.specs.unit_model.specs.Claims.{in_mask}
-use Rattle.replay_events.specs.unit_model.specs.Radiated.{cell_id, id_from, id_or, is_used, used_below, used_mask}
-use Rattle.replay_events.specs.unit_model.specs.declared.cells.Claim.{Claim}
+use Rattle.unit_model.specs.Claims.{in_mask}
+use Rattle.unit_model.specs.Radiated.{cell_id, id_from, id_or, is_used, used_below, used_mask}
+use Rattle.unit_model.specs.declared.cells.Claim.{Claim}
 use Rattle.fh_time.proofs.Orders.{bit_small}
 
 -- ---- the bits of the mask

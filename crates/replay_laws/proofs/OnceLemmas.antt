@@ -4,23 +4,23 @@ use Rattle.std.specs.Prelude.{map, ◌==◌, if◌then◌else◌, Bool, true, fa
 use Rattle.std.specs.Int.{int_gap}
 use Rattle.std.specs.List.{flat_map}
 use Rattle.std.proofs.lemmas.Int.{ints}
-use Rattle.replay_events.specs.air_source.specs.declared.events.AirCell.{AirCell}
-use Rattle.replay_events.specs.air_source.specs.declared.events.Event.{Event}
-use Rattle.replay_events.specs.air_source.specs.declared.events.Event.TheVariants as event
-use Rattle.replay_events.specs.air_source.specs.declared.events.Side.{Side}
-use Rattle.replay_events.specs.air_source.specs.declared.events.Side.TheVariants.{Ru, Du}
+use Rattle.air_source.specs.declared.events.AirCell.{AirCell}
+use Rattle.air_source.specs.declared.events.Event.{Event}
+use Rattle.air_source.specs.declared.events.Event.TheVariants as event
+use Rattle.air_source.specs.declared.events.Side.{Side}
+use Rattle.air_source.specs.declared.events.Side.TheVariants.{Ru, Du}
 use Rattle.fault_counters.specs.Names.{all_counters}
 use Rattle.fault_counters.specs.declared.kinds.Counter.{Counter}
 use Rattle.window_config.specs.declared.config.Config.{Config}
 use Rattle.window_config.specs.declared.endpoints.EndpointConfig.{EndpointConfig}
-use Rattle.replay_events.specs.unit_model.specs.Lists.{each_tick}
-use Rattle.replay_events.specs.unit_model.specs.Radiated.{Known, first_clock, reported, symbol_report, wait_of}
-use Rattle.replay_events.specs.unit_model.specs.Sweeps.{OfSymbol, at_tick, sweep}
-use Rattle.replay_events.specs.unit_model.proofs.SweepLaws.{gap_is}
-use Rattle.replay_events.specs.unit_laws.specs.Due.{AreDifferent}
-use Rattle.replay_events.specs.unit_laws.proofs.DueLemmas.{reported_differ}
-use Rattle.replay_events.specs.unit_laws.proofs.SweepLemmas.{IsKept, each_tick_related}
-use Rattle.replay_events.specs.history_laws.proofs.TickLemmas.{clock_begins}
+use Rattle.unit_model.specs.Lists.{each_tick}
+use Rattle.unit_model.specs.Radiated.{Known, first_clock, reported, symbol_report, wait_of}
+use Rattle.unit_model.specs.Sweeps.{OfSymbol, at_tick, sweep}
+use Rattle.unit_model.proofs.SweepLaws.{gap_is}
+use Rattle.unit_laws.specs.Due.{AreDifferent}
+use Rattle.unit_laws.proofs.DueLemmas.{reported_differ}
+use Rattle.unit_laws.proofs.SweepLemmas.{IsKept, each_tick_related}
+use Rattle.history_laws.proofs.TickLemmas.{clock_begins}
 use Rattle.replay_events.specs.Events.{arrivals_at, cells_reported_at, count_event, count_events, events, events_at, events_between, number_of, start_of}
 use Rattle.replay_events.specs.Heard.{cells_heard}
 use Rattle.replay_events.specs.Moments.{all_arrivals, end_of_time, landing_at}

@@ -3,7 +3,7 @@ use Rattle.std.proofs.Common.{◌≡◌, ◌≢◌, ℕ, ℤ, zero, suc, ◌+◌
 use Rattle.std.specs.Prelude.{◌==◌, if◌then◌else◌, Option, None, is_some}
 use Rattle.std.proofs.lemmas.Bool.{and_parts, cases_eq, eqb-true}
 use Rattle.fh_time.specs.declared.values.Slot.{Slot}
-use Rattle.replay_events.specs.air_source.specs.declared.events.Side.{Side}
+use Rattle.air_source.specs.declared.events.Side.{Side}
 use Rattle.ecpri_fragments.specs.Generations.{Fragment, Generation, begins, begun, generations, generations_of, held_in, is_first, is_of, is_within, joined, of_id, with_fragment}
 use Rattle.ecpri_fragments.specs.Verdicts.{Message, Rests, is_whole, placed, refused, standing, standing_before, verdict, verdict_on, with_one, whole_of}
 use Rattle.ecpri_fragments.specs.declared.verdict.Verdict.{Verdict}
@@ -11,26 +11,26 @@ use Rattle.ecpri_fragments.specs.declared.verdict.Verdict.TheVariants as fragmen
 use Rattle.window_config.specs.declared.delays.Delays.{Delays}
 use Rattle.window_config.specs.declared.verdicts.Class.{Class}
 use Rattle.window_config.specs.declared.verdicts.Class.TheVariants as class
-use Rattle.replay_events.specs.unit_model.specs.Blocks.{block_at, block_in, data_class, data_covers, data_prb_count, data_slot, data_verdict, data_verdict_in, every_data_cell, first_data_prb, has_all, timely, with_timely}
-use Rattle.replay_events.specs.unit_model.specs.Claims.{cell_at}
-use Rattle.replay_events.specs.unit_model.specs.Commands.{accepted, allocation_of, command_verdict, with_accepted}
-use Rattle.replay_events.specs.unit_model.specs.Decoding.{data_sections, data_told, decoded_now}
-use Rattle.replay_events.specs.unit_model.specs.Lists.{every, onto, or_else}
-use Rattle.replay_events.specs.unit_model.specs.Meetings.{Meeting, Ignored, Commands, Piece, commands, fragments}
-use Rattle.replay_events.specs.unit_model.specs.Reports.{hold_of}
-use Rattle.replay_events.specs.unit_model.specs.declared.allocations.Allocation.{Allocation}
-use Rattle.replay_events.specs.unit_model.specs.declared.cells.Block.{Block}
-use Rattle.replay_events.specs.unit_model.specs.declared.cells.Cell.{Cell}
-use Rattle.replay_events.specs.unit_model.specs.declared.decoded.ControlSection.{ControlSection}
-use Rattle.replay_events.specs.unit_model.specs.declared.decoded.UserSection.{UserSection}
-use Rattle.replay_events.specs.unit_model.specs.declared.verdicts.CommandVerdict.TheVariants.{Accepted}
-use Rattle.replay_events.specs.unit_model.specs.declared.verdicts.DataVerdict.TheVariants.{Repeat, Taken}
-use Rattle.replay_events.specs.unit_model.proofs.BlockLemmas.{newer_found}
-use Rattle.replay_events.specs.unit_laws.proofs.CellLemmas.{DataCovers, data_covers_is}
-use Rattle.replay_events.specs.unit_laws.proofs.ChangeLemmas.{accepted-cons, accepted_more, block-cons, block_same, either_way, timely-cons, timely_more}
+use Rattle.unit_model.specs.Blocks.{block_at, block_in, data_class, data_covers, data_prb_count, data_slot, data_verdict, data_verdict_in, every_data_cell, first_data_prb, has_all, timely, with_timely}
+use Rattle.unit_model.specs.Claims.{cell_at}
+use Rattle.unit_model.specs.Commands.{accepted, allocation_of, command_verdict, with_accepted}
+use Rattle.unit_model.specs.Decoding.{data_sections, data_told, decoded_now}
+use Rattle.unit_model.specs.Lists.{every, onto, or_else}
+use Rattle.unit_model.specs.Meetings.{Meeting, Ignored, Commands, Piece, commands, fragments}
+use Rattle.unit_model.specs.Reports.{hold_of}
+use Rattle.unit_model.specs.declared.allocations.Allocation.{Allocation}
+use Rattle.unit_model.specs.declared.cells.Block.{Block}
+use Rattle.unit_model.specs.declared.cells.Cell.{Cell}
+use Rattle.unit_model.specs.declared.decoded.ControlSection.{ControlSection}
+use Rattle.unit_model.specs.declared.decoded.UserSection.{UserSection}
+use Rattle.unit_model.specs.declared.verdicts.CommandVerdict.TheVariants.{Accepted}
+use Rattle.unit_model.specs.declared.verdicts.DataVerdict.TheVariants.{Repeat, Taken}
+use Rattle.unit_model.proofs.BlockLemmas.{newer_found}
+use Rattle.unit_laws.proofs.CellLemmas.{DataCovers, data_covers_is}
+use Rattle.unit_laws.proofs.ChangeLemmas.{accepted-cons, accepted_more, block-cons, block_same, either_way, timely-cons, timely_more}
 use Rattle.replay_laws.specs.Refused.{EachRefusedChangesNothing, IsRefusedMessage}
 use Rattle.ecpri_fragments.proofs.Steps.{refuses, no_first}
-use Rattle.replay_events.specs.unit_model.proofs.ClaimLemmas.{starts_before as from_first, from_within}
+use Rattle.unit_model.proofs.ClaimLemmas.{starts_before as from_first, from_within}
 
 -- ---- a section of a command
 

@@ -6,34 +6,34 @@ use Rattle.std.proofs.lemmas.List.Elements.{All-contains}
 use Rattle.fh_time.specs.Air.{air_of}
 use Rattle.fh_time.specs.declared.values.Slot.{Slot}
 use Rattle.bfp_codec.specs.declared.samples.Wide.{Wide}
-use Rattle.replay_events.specs.air_source.specs.declared.events.AirCell.{AirCell}
-use Rattle.replay_events.specs.air_source.specs.declared.events.Side.{Side}
-use Rattle.replay_events.specs.air_source.specs.declared.events.Side.TheVariants.{Ru, Du}
+use Rattle.air_source.specs.declared.events.AirCell.{AirCell}
+use Rattle.air_source.specs.declared.events.Side.{Side}
+use Rattle.air_source.specs.declared.events.Side.TheVariants.{Ru, Du}
 use Rattle.window_config.specs.Windows.{data_window_of}
 use Rattle.window_config.specs.declared.config.Config.{Config}
 use Rattle.window_config.specs.declared.endpoints.EndpointConfig.{EndpointConfig}
 use Rattle.window_config.specs.declared.delays.Delays.{Delays}
 use Rattle.window_config.specs.declared.verdicts.Class.TheVariants.{OnTime}
 use Rattle.window_config.proofs.Timing.{class_on_time, class_up_on_time}
-use Rattle.replay_events.specs.unit_model.specs.Blocks.{block_at, data_class, data_covers, data_prb_count, data_slot, data_start, first_data_prb}
-use Rattle.replay_events.specs.unit_model.specs.Claims.{cell_at, claim_at, in_mask, is_from}
-use Rattle.replay_events.specs.unit_model.specs.Meetings.{Arrival}
-use Rattle.replay_events.specs.unit_model.specs.Proper.{IsAt, IsProperData, IsTime}
-use Rattle.replay_events.specs.unit_model.specs.Radiated.{Known, air_cell, cell_id, cell_report, first_clock, reported, samples_under, symbol_report, used_mask, wait_of}
-use Rattle.replay_events.specs.unit_model.specs.Reports.{accepted_of, commands_of, data_of, timely_of}
-use Rattle.replay_events.specs.unit_model.specs.Standing.{AreInTime}
-use Rattle.replay_events.specs.unit_model.specs.declared.allocations.Allocation.{Allocation}
-use Rattle.replay_events.specs.unit_model.specs.declared.cells.Block.{Block}
-use Rattle.replay_events.specs.unit_model.specs.declared.cells.Cell.{Cell}
-use Rattle.replay_events.specs.unit_model.specs.declared.cells.Claim.{Claim}
-use Rattle.replay_events.specs.unit_model.specs.declared.decoded.UserSection.{UserSection}
-use Rattle.replay_events.specs.unit_laws.specs.Far.{IsHeardData}
-use Rattle.replay_events.specs.unit_laws.proofs.AcceptanceLemmas.{accepted_is_acceptable}
-use Rattle.replay_events.specs.unit_laws.proofs.CellLemmas.{data_covers_is}
-use Rattle.replay_events.specs.unit_laws.proofs.FarLemmas.{endpoints_equal}
-use Rattle.replay_events.specs.unit_laws.proofs.HistoryLemmas.{data_are_heard, data_are_proper}
-use Rattle.replay_events.specs.unit_laws.proofs.DifferLemmas.{all_kept}
-use Rattle.replay_events.specs.unit_laws.proofs.SweepLemmas.{each_related, sweep_related}
+use Rattle.unit_model.specs.Blocks.{block_at, data_class, data_covers, data_prb_count, data_slot, data_start, first_data_prb}
+use Rattle.unit_model.specs.Claims.{cell_at, claim_at, in_mask, is_from}
+use Rattle.unit_model.specs.Meetings.{Arrival}
+use Rattle.unit_model.specs.Proper.{IsAt, IsProperData, IsTime}
+use Rattle.unit_model.specs.Radiated.{Known, air_cell, cell_id, cell_report, first_clock, reported, samples_under, symbol_report, used_mask, wait_of}
+use Rattle.unit_model.specs.Reports.{accepted_of, commands_of, data_of, timely_of}
+use Rattle.unit_model.specs.Standing.{AreInTime}
+use Rattle.unit_model.specs.declared.allocations.Allocation.{Allocation}
+use Rattle.unit_model.specs.declared.cells.Block.{Block}
+use Rattle.unit_model.specs.declared.cells.Cell.{Cell}
+use Rattle.unit_model.specs.declared.cells.Claim.{Claim}
+use Rattle.unit_model.specs.declared.decoded.UserSection.{UserSection}
+use Rattle.unit_laws.specs.Far.{IsHeardData}
+use Rattle.unit_laws.proofs.AcceptanceLemmas.{accepted_is_acceptable}
+use Rattle.unit_laws.proofs.CellLemmas.{data_covers_is}
+use Rattle.unit_laws.proofs.FarLemmas.{endpoints_equal}
+use Rattle.unit_laws.proofs.HistoryLemmas.{data_are_heard, data_are_proper}
+use Rattle.unit_laws.proofs.DifferLemmas.{all_kept}
+use Rattle.unit_laws.proofs.SweepLemmas.{each_related, sweep_related}
 use Rattle.replay_events.proofs.CameLemmas.{arrivals_in_time}
 use Rattle.replay_events.specs.Moments.{all_arrivals, end_of_time}
 use Rattle.replay_events.specs.Passing.{AreLandings}
@@ -42,9 +42,9 @@ use Rattle.replay_laws.specs.Shown.{ElementIsGiven, GaveElement, GaveSamples, Ha
 use Rattle.replay_laws.proofs.GivenLemmas.{IsGiven, IsUnder, block_given, claim_given, one_id, planned_given, samples_are_under}
 use Rattle.replay_laws.proofs.MaskLemmas.{cell_id_is, in_use, used_is_busy}
 use Rattle.replay_laws.proofs.OnceLemmas.{cells_are_reported}
-use Rattle.replay_events.specs.unit_model.proofs.ClaimLemmas.{starts_before as from_first, from_within}
-use Rattle.replay_events.specs.unit_laws.proofs.DueLemmas.{one_or_none}
-use Rattle.replay_events.specs.air_source.specs.Units.{is_down}
+use Rattle.unit_model.proofs.ClaimLemmas.{starts_before as from_first, from_within}
+use Rattle.unit_laws.proofs.DueLemmas.{one_or_none}
+use Rattle.air_source.specs.Units.{is_down}
 
 -- ---- PRBs
 

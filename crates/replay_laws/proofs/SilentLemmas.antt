@@ -3,7 +3,7 @@ use Rattle.std.proofs.Common.{◌≡◌, ℕ, ℤ, ◌+◌, ◌≤ℤ◌, Bool, 
 use Rattle.std.specs.Prelude.{◌==◌, if◌then◌else◌, Option, Some, None, length, nat_lt}
 use Rattle.std.proofs.lemmas.Bool.{and_parts, eqb-true}
 use Rattle.std.proofs.lemmas.Int.{ints}
-use Rattle.replay_events.specs.air_source.specs.declared.events.Side.{Side}
+use Rattle.air_source.specs.declared.events.Side.{Side}
 use Rattle.ecpri_fragments.specs.Generations.{Fragment, Generation, begun, generations, generations_of, held_in, is_of, is_within, joined, of_id, start_in, with_fragment}
 use Rattle.ecpri_fragments.specs.Verdicts.{answer, is_stray, is_whole, refused, size, standing, standing_before, stands, verdict, verdict_on, with_one, whole_of}
 use Rattle.ecpri_fragments.specs.declared.verdict.Verdict.{Verdict}
@@ -11,12 +11,12 @@ use Rattle.ecpri_fragments.specs.declared.verdict.Verdict.TheVariants as fragmen
 use Rattle.ecpri_fragments.proofs.Steps.{whole_placed}
 use Rattle.fault_counters.specs.declared.kinds.Counter.{Counter}
 use Rattle.window_config.specs.declared.endpoints.EndpointConfig.{EndpointConfig}
-use Rattle.replay_events.specs.unit_model.specs.Decoding.{Backwards, Decoded, Refused, Sections, data_now, data_sections, data_told, decoded_now}
-use Rattle.replay_events.specs.unit_model.specs.Meetings.{Meeting, Ignored, Commands, Piece, commands, fragments}
-use Rattle.replay_events.specs.unit_model.specs.Lists.{onto}
-use Rattle.replay_events.specs.unit_model.specs.declared.decoded.ControlSection.{ControlSection}
-use Rattle.replay_events.specs.unit_model.specs.declared.decoded.UserSection.{UserSection}
-use Rattle.replay_events.specs.unit_laws.proofs.ChangeLemmas.{either_way}
+use Rattle.unit_model.specs.Decoding.{Backwards, Decoded, Refused, Sections, data_now, data_sections, data_told, decoded_now}
+use Rattle.unit_model.specs.Meetings.{Meeting, Ignored, Commands, Piece, commands, fragments}
+use Rattle.unit_model.specs.Lists.{onto}
+use Rattle.unit_model.specs.declared.decoded.ControlSection.{ControlSection}
+use Rattle.unit_model.specs.declared.decoded.UserSection.{UserSection}
+use Rattle.unit_laws.proofs.ChangeLemmas.{either_way}
 use Rattle.replay_laws.specs.Silent.{IsSilent, began}
 use Rattle.replay_laws.proofs.FallingLemmas.{AreFalling}
 use Rattle.ecpri_fragments.proofs.Ids.{same_id}

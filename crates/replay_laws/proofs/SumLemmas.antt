@@ -5,33 +5,33 @@ use Rattle.std.specs.Int.{int_gap}
 use Rattle.std.specs.List.{flat_map}
 use Rattle.std.proofs.lemmas.List.Elements.{All-nil, All-cons, All-append, Contains-append_left, Contains-append_right}
 use Rattle.bfp_codec.specs.declared.samples.Wide.{Wide}
-use Rattle.replay_events.specs.air_source.specs.declared.events.AirCell.{AirCell}
-use Rattle.replay_events.specs.air_source.specs.declared.events.Event.{Event}
-use Rattle.replay_events.specs.air_source.specs.declared.events.Event.TheVariants as event
-use Rattle.replay_events.specs.air_source.specs.declared.events.Side.{Side}
-use Rattle.replay_events.specs.air_source.specs.declared.events.Side.TheVariants.{Ru, Du}
+use Rattle.air_source.specs.declared.events.AirCell.{AirCell}
+use Rattle.air_source.specs.declared.events.Event.{Event}
+use Rattle.air_source.specs.declared.events.Event.TheVariants as event
+use Rattle.air_source.specs.declared.events.Side.{Side}
+use Rattle.air_source.specs.declared.events.Side.TheVariants.{Ru, Du}
 use Rattle.fault_counters.specs.Counts.{capped, times}
 use Rattle.fault_counters.specs.Names.{all_counters}
 use Rattle.fault_counters.specs.declared.kinds.Counter.{Counter}
 use Rattle.fault_counters.specs.declared.kinds.Counter.TheVariants as counter
 use Rattle.window_config.specs.declared.config.Config.{Config}
 use Rattle.window_config.specs.declared.delays.Delays.{Delays}
-use Rattle.replay_events.specs.unit_model.specs.Blocks.{data_verdicts}
-use Rattle.replay_events.specs.unit_model.specs.Commands.{command_verdicts}
-use Rattle.replay_events.specs.unit_model.specs.Counts.{block_counter, cells_counted, commands_counted, data_counted, frames_counted, messages_counted}
-use Rattle.replay_events.specs.unit_model.specs.Meetings.{Arrival}
-use Rattle.replay_events.specs.unit_model.specs.Radiated.{first_clock}
-use Rattle.replay_events.specs.unit_model.specs.Reports.{commands_of, data_of, hold_of, met}
-use Rattle.replay_events.specs.unit_model.specs.declared.decoded.ControlSection.{ControlSection}
-use Rattle.replay_events.specs.unit_model.specs.declared.decoded.UserSection.{UserSection}
-use Rattle.replay_events.specs.unit_model.specs.declared.verdicts.CommandVerdict.{CommandVerdict}
-use Rattle.replay_events.specs.unit_model.specs.declared.verdicts.CommandVerdict.TheVariants as control
-use Rattle.replay_events.specs.unit_model.specs.declared.verdicts.DataVerdict.{DataVerdict}
-use Rattle.replay_events.specs.unit_model.specs.declared.verdicts.DataVerdict.TheVariants as user
-use Rattle.replay_events.specs.unit_laws.specs.Totals.{commands_total, data_total}
-use Rattle.replay_events.specs.unit_laws.proofs.DifferLemmas.{all_kept}
-use Rattle.replay_events.specs.unit_laws.proofs.SweepLemmas.{each_tick_related}
-use Rattle.replay_events.specs.unit_laws.proofs.TotalLemmas.{commands_add_up, data_add_up}
+use Rattle.unit_model.specs.Blocks.{data_verdicts}
+use Rattle.unit_model.specs.Commands.{command_verdicts}
+use Rattle.unit_model.specs.Counts.{block_counter, cells_counted, commands_counted, data_counted, frames_counted, messages_counted}
+use Rattle.unit_model.specs.Meetings.{Arrival}
+use Rattle.unit_model.specs.Radiated.{first_clock}
+use Rattle.unit_model.specs.Reports.{commands_of, data_of, hold_of, met}
+use Rattle.unit_model.specs.declared.decoded.ControlSection.{ControlSection}
+use Rattle.unit_model.specs.declared.decoded.UserSection.{UserSection}
+use Rattle.unit_model.specs.declared.verdicts.CommandVerdict.{CommandVerdict}
+use Rattle.unit_model.specs.declared.verdicts.CommandVerdict.TheVariants as control
+use Rattle.unit_model.specs.declared.verdicts.DataVerdict.{DataVerdict}
+use Rattle.unit_model.specs.declared.verdicts.DataVerdict.TheVariants as user
+use Rattle.unit_laws.specs.Totals.{commands_total, data_total}
+use Rattle.unit_laws.proofs.DifferLemmas.{all_kept}
+use Rattle.unit_laws.proofs.SweepLemmas.{each_tick_related}
+use Rattle.unit_laws.proofs.TotalLemmas.{commands_add_up, data_add_up}
 use Rattle.replay_events.specs.Events.{additions_of, arrivals_at, arrivals_told, cells_reported_at, count_event, count_events, events, events_at, events_between, number_of}
 use Rattle.replay_events.specs.Moments.{all_arrivals, end_of_time, landing_at}
 use Rattle.replay_events.specs.Traffic.{Traffic, landings_at, reported_at}

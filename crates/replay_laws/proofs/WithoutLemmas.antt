@@ -2,20 +2,20 @@
 use Rattle.std.proofs.Common.{◌≡◌, ℕ, ℤ, pos, ◌+ℤ◌, ◌-ℤ◌, ◌≤ℤ◌, Bool, true, false, ◌&&◌, List, [], ◌∷◌, ◌++◌, ◌⊎◌, inl, inr, refl, sym, ap, ap₂, ◌∙◌, subst}
 use Rattle.std.specs.Prelude.{◌==◌, if◌then◌else◌}
 use Rattle.std.proofs.lemmas.Bool.{and_parts, eqb-true}
-use Rattle.replay_events.specs.air_source.specs.declared.events.Side.{Side}
+use Rattle.air_source.specs.declared.events.Side.{Side}
 use Rattle.ecpri_fragments.specs.Generations.{Fragment, Generation, begins, begun, generations_of, held_in, is_of, is_within, joined, start_in, with_fragment}
 use Rattle.ecpri_fragments.specs.Verdicts.{standing, standing_before, verdict, whole_of}
 use Rattle.ecpri_fragments.specs.declared.verdict.Verdict.{Verdict}
 use Rattle.window_config.specs.declared.config.Config.{Config}
 use Rattle.window_config.specs.declared.endpoints.EndpointConfig.{EndpointConfig}
-use Rattle.replay_events.specs.unit_model.specs.Decoding.{data_now, data_sections, data_told, decoded_now}
-use Rattle.replay_events.specs.unit_model.specs.Lists.{onto}
-use Rattle.replay_events.specs.unit_model.specs.Meetings.{Arrival, Meeting, Ignored, Commands, Piece, commands, fragments}
-use Rattle.replay_events.specs.unit_model.specs.Reports.{hold_of, met}
-use Rattle.replay_events.specs.unit_model.specs.Standing.{AreInTime}
-use Rattle.replay_events.specs.unit_model.specs.declared.decoded.ControlSection.{ControlSection}
-use Rattle.replay_events.specs.unit_model.specs.declared.decoded.UserSection.{UserSection}
-use Rattle.replay_events.specs.unit_laws.proofs.ChangeLemmas.{either_way}
+use Rattle.unit_model.specs.Decoding.{data_now, data_sections, data_told, decoded_now}
+use Rattle.unit_model.specs.Lists.{onto}
+use Rattle.unit_model.specs.Meetings.{Arrival, Meeting, Ignored, Commands, Piece, commands, fragments}
+use Rattle.unit_model.specs.Reports.{hold_of, met}
+use Rattle.unit_model.specs.Standing.{AreInTime}
+use Rattle.unit_model.specs.declared.decoded.ControlSection.{ControlSection}
+use Rattle.unit_model.specs.declared.decoded.UserSection.{UserSection}
+use Rattle.unit_laws.proofs.ChangeLemmas.{either_way}
 use Rattle.replay_events.specs.Moments.{all_arrivals, end_of_time}
 use Rattle.replay_events.proofs.CameLemmas.{arrivals_in_time}
 use Rattle.replay_laws.specs.Silent.{EachSilentChangesNothing, IsSilent, SilentChangesNothing, began, is_with, without}

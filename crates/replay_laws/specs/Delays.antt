@@ -1,11 +1,11 @@
 -- The delays that a replay tells: the results of the frames that land, each behind its frame (this project's profile).
 use Rattle.std.specs.Prelude.{◌≡◌, ℕ, ℤ, ◌≤ℤ◌, All, Contains, List, [], ◌∷◌, ◌++◌, map, Some, slice_get, slice_index_or}
-use Rattle.replay_events.specs.air_source.specs.declared.events.Event.{Event}
-use Rattle.replay_events.specs.air_source.specs.declared.events.Event.TheVariants as event
-use Rattle.replay_events.specs.air_source.specs.declared.events.Side.{Side}
+use Rattle.air_source.specs.declared.events.Event.{Event}
+use Rattle.air_source.specs.declared.events.Event.TheVariants as event
+use Rattle.air_source.specs.declared.events.Side.{Side}
 use Rattle.window_config.specs.declared.config.Config.{Config}
-use Rattle.replay_events.specs.unit_model.specs.Meetings.{Arrival}
-use Rattle.replay_events.specs.unit_model.specs.Radiated.{first_clock}
+use Rattle.unit_model.specs.Meetings.{Arrival}
+use Rattle.unit_model.specs.Radiated.{first_clock}
 use Rattle.replay_events.specs.Events.{arrival_event, events, result_event}
 use Rattle.replay_events.specs.Moments.{end_of_time, landing_at}
 use Rattle.replay_events.specs.Traffic.{Traffic, landings_at}

@@ -3,17 +3,17 @@
 -- this project's profile).
 use Rattle.std.specs.Prelude.{◌≡◌, ℕ, ℤ, ◌+◌, ◌≤◌, ◌≤ℤ◌, true, All, Contains, List, ◌∷◌, ◌++◌, Some, length, slice_get}
 use Rattle.bfp_codec.specs.declared.samples.Wide.{Wide}
-use Rattle.replay_events.specs.air_source.specs.declared.events.AirCell.{AirCell}
-use Rattle.replay_events.specs.air_source.specs.declared.events.Side.{Side}
+use Rattle.air_source.specs.declared.events.AirCell.{AirCell}
+use Rattle.air_source.specs.declared.events.Side.{Side}
 use Rattle.ecpri_fragments.specs.Generations.{Fragment, seen}
 use Rattle.ecpri_fragments.specs.Verdicts.{Message, standing_before, whole_now}
 use Rattle.window_config.specs.declared.config.Config.{Config}
 use Rattle.window_config.specs.declared.endpoints.EndpointConfig.{EndpointConfig}
-use Rattle.replay_events.specs.unit_model.specs.Decoding.{Sections, decode_message}
-use Rattle.replay_events.specs.unit_model.specs.Meetings.{Arrival, Meeting, Piece, fragments}
-use Rattle.replay_events.specs.unit_model.specs.Reports.{hold_of, met}
-use Rattle.replay_events.specs.unit_model.specs.declared.cells.Cell.{Cell}
-use Rattle.replay_events.specs.unit_model.specs.declared.decoded.UserSection.{UserSection}
+use Rattle.unit_model.specs.Decoding.{Sections, decode_message}
+use Rattle.unit_model.specs.Meetings.{Arrival, Meeting, Piece, fragments}
+use Rattle.unit_model.specs.Reports.{hold_of, met}
+use Rattle.unit_model.specs.declared.cells.Cell.{Cell}
+use Rattle.unit_model.specs.declared.decoded.UserSection.{UserSection}
 use Rattle.replay_events.specs.Events.{events}
 use Rattle.replay_events.specs.Heard.{cells_heard}
 use Rattle.replay_events.specs.Moments.{all_arrivals}

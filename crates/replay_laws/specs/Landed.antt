@@ -1,6 +1,6 @@
 -- The frames that the laws of a replay speak of are those that land, each as often as it is listed (this project's profile).
 use Rattle.std.specs.Prelude.{◌≡◌, Bool, List, count_by}
-use Rattle.replay_events.specs.unit_model.specs.Meetings.{Arrival}
+use Rattle.unit_model.specs.Meetings.{Arrival}
 use Rattle.replay_events.specs.Moments.{all_arrivals}
 use Rattle.replay_events.specs.Passing.{AreLandings}
 

@@ -1,7 +1,3 @@
-pub use Rattle.replay_events.specs.history_laws
-pub use Rattle.replay_events
-pub use Rattle.replay_events.specs.unit_laws
-pub use Rattle.replay_events.specs.unit_model
 pub mod Once
 pub mod Shown
 pub mod Sums

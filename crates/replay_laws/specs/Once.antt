@@ -1,8 +1,8 @@
 -- The cells that each unit reports in a replay: none twice (this project's profile).
-use Rattle.replay_events.specs.air_source.specs.declared.events.Side.{Side}
+use Rattle.air_source.specs.declared.events.Side.{Side}
 use Rattle.window_config.specs.Configs.{IsConfig}
 use Rattle.window_config.specs.declared.config.Config.{Config}
-use Rattle.replay_events.specs.unit_laws.specs.Due.{AreDifferent}
+use Rattle.unit_laws.specs.Due.{AreDifferent}
 use Rattle.replay_events.specs.Events.{events}
 use Rattle.replay_events.specs.Heard.{cells_heard}
 use Rattle.replay_events.specs.Traffic.{Traffic}

@@ -1,20 +1,20 @@
 -- A message that is refused as it comes, a fragment that does not stand and a section that is refused change nothing but counters (this
 -- project's profile). A message of data that is whole and then refused is none of these: its fragments keep their places.
 use Rattle.std.specs.Prelude.{◌≡◌, ◌≢◌, ℤ, List, ◌∷◌, ◌++◌}
-use Rattle.replay_events.specs.air_source.specs.declared.events.Side.{Side}
+use Rattle.air_source.specs.declared.events.Side.{Side}
 use Rattle.ecpri_fragments.specs.Generations.{is_first}
 use Rattle.ecpri_fragments.specs.Verdicts.{Rests, verdict_on}
 use Rattle.window_config.specs.declared.config.Config.{Config}
-use Rattle.replay_events.specs.unit_model.specs.Blocks.{block_at, data_verdict, timely}
-use Rattle.replay_events.specs.unit_model.specs.Commands.{accepted, command_verdict}
-use Rattle.replay_events.specs.unit_model.specs.Decoding.{data_sections}
-use Rattle.replay_events.specs.unit_model.specs.Meetings.{Arrival, Meeting, Ignored, Commands, Piece, commands, fragments}
-use Rattle.replay_events.specs.unit_model.specs.Reports.{commands_of, data_of, hold_of, met, timely_of}
-use Rattle.replay_events.specs.unit_model.specs.declared.cells.Cell.{Cell}
-use Rattle.replay_events.specs.unit_model.specs.declared.decoded.ControlSection.{ControlSection}
-use Rattle.replay_events.specs.unit_model.specs.declared.decoded.UserSection.{UserSection}
-use Rattle.replay_events.specs.unit_model.specs.declared.verdicts.CommandVerdict.TheVariants.{Accepted}
-use Rattle.replay_events.specs.unit_model.specs.declared.verdicts.DataVerdict.TheVariants.{Taken}
+use Rattle.unit_model.specs.Blocks.{block_at, data_verdict, timely}
+use Rattle.unit_model.specs.Commands.{accepted, command_verdict}
+use Rattle.unit_model.specs.Decoding.{data_sections}
+use Rattle.unit_model.specs.Meetings.{Arrival, Meeting, Ignored, Commands, Piece, commands, fragments}
+use Rattle.unit_model.specs.Reports.{commands_of, data_of, hold_of, met, timely_of}
+use Rattle.unit_model.specs.declared.cells.Cell.{Cell}
+use Rattle.unit_model.specs.declared.decoded.ControlSection.{ControlSection}
+use Rattle.unit_model.specs.declared.decoded.UserSection.{UserSection}
+use Rattle.unit_model.specs.declared.verdicts.CommandVerdict.TheVariants.{Accepted}
+use Rattle.unit_model.specs.declared.verdicts.DataVerdict.TheVariants.{Taken}
 
 -- a message that is refused as it comes, after these earlier ones: it is counted and no more, or it is a fragment that stands
 -- nowhere and begins no generation

@@ -8,33 +8,33 @@
 use Rattle.std.specs.Prelude.{◌≡◌, ℕ, ℤ, ◌-◌, ◌<◌, ◌≤ℤ◌, true, false, All, Contains, List, ◌∷◌, ◌++◌, Some, slice_get}
 use Rattle.fh_time.specs.Air.{air_of}
 use Rattle.bfp_codec.specs.declared.samples.Wide.{Wide}
-use Rattle.replay_events.specs.air_source.specs.declared.events.AirCell.{AirCell}
-use Rattle.replay_events.specs.air_source.specs.declared.events.Side.{Side}
-use Rattle.replay_events.specs.air_source.specs.declared.events.Side.TheVariants.{Ru, Du}
+use Rattle.air_source.specs.declared.events.AirCell.{AirCell}
+use Rattle.air_source.specs.declared.events.Side.{Side}
+use Rattle.air_source.specs.declared.events.Side.TheVariants.{Ru, Du}
 use Rattle.window_config.specs.Classes.{IsOnTime, IsOnTimeUp}
 use Rattle.window_config.specs.Windows.{data_window_of}
 use Rattle.window_config.specs.declared.config.Config.{Config}
 use Rattle.window_config.specs.declared.delays.Delays.{Delays}
 use Rattle.window_config.specs.declared.endpoints.EndpointConfig.{EndpointConfig}
 use Rattle.window_config.specs.declared.verdicts.Class.TheVariants.{OnTime}
-use Rattle.replay_events.specs.unit_model.specs.Blocks.{block_of, data_class, data_covers, first_data_prb}
-use Rattle.replay_events.specs.unit_model.specs.Claims.{cell_at, claim_at, in_mask, names}
-use Rattle.replay_events.specs.unit_model.specs.Commands.{accepted, allocation_of, command_class, command_verdict}
-use Rattle.replay_events.specs.unit_model.specs.Meetings.{Arrival}
-use Rattle.replay_events.specs.unit_model.specs.Proper.{IsAt}
-use Rattle.replay_events.specs.unit_model.specs.Reports.{commands_of, data_of}
-use Rattle.replay_events.specs.unit_model.specs.declared.allocations.Allocation.{Allocation}
-use Rattle.replay_events.specs.unit_model.specs.declared.cells.Cell.{Cell}
-use Rattle.replay_events.specs.unit_model.specs.declared.cells.Claim.{Claim}
-use Rattle.replay_events.specs.unit_model.specs.declared.decoded.ControlSection.{ControlSection}
-use Rattle.replay_events.specs.unit_model.specs.declared.decoded.UserSection.{UserSection}
-use Rattle.replay_events.specs.unit_model.specs.declared.verdicts.CommandVerdict.TheVariants.{Accepted}
+use Rattle.unit_model.specs.Blocks.{block_of, data_class, data_covers, first_data_prb}
+use Rattle.unit_model.specs.Claims.{cell_at, claim_at, in_mask, names}
+use Rattle.unit_model.specs.Commands.{accepted, allocation_of, command_class, command_verdict}
+use Rattle.unit_model.specs.Meetings.{Arrival}
+use Rattle.unit_model.specs.Proper.{IsAt}
+use Rattle.unit_model.specs.Reports.{commands_of, data_of}
+use Rattle.unit_model.specs.declared.allocations.Allocation.{Allocation}
+use Rattle.unit_model.specs.declared.cells.Cell.{Cell}
+use Rattle.unit_model.specs.declared.cells.Claim.{Claim}
+use Rattle.unit_model.specs.declared.decoded.ControlSection.{ControlSection}
+use Rattle.unit_model.specs.declared.decoded.UserSection.{UserSection}
+use Rattle.unit_model.specs.declared.verdicts.CommandVerdict.TheVariants.{Accepted}
 use Rattle.replay_events.specs.Events.{events}
 use Rattle.replay_events.specs.Heard.{cells_heard}
 use Rattle.replay_events.specs.Moments.{all_arrivals}
 use Rattle.replay_events.specs.Passing.{AreLandings}
 use Rattle.replay_events.specs.Traffic.{Traffic, landings_at}
-use Rattle.replay_events.specs.air_source.specs.Units.{is_down}
+use Rattle.air_source.specs.Units.{is_down}
 
 -- the cell that a unit reported, of the endpoint with this index
 abbrev pub cell_shown : Side → ℕ → AirCell → Cell

@@ -1,16 +1,16 @@
 -- A message of data that comes whole and says nothing changes no claim, no block and no uplink section, though its fragments keep their
 -- places. A message that is only counted begins no generation of fragments (this project's profile).
 use Rattle.std.specs.Prelude.{◌≡◌, ℤ, Bool, true, ◌&&◌, if◌then◌else◌, List, [], ◌∷◌, ◌++◌, Option, Some, None}
-use Rattle.replay_events.specs.air_source.specs.declared.events.Side.{Side}
+use Rattle.air_source.specs.declared.events.Side.{Side}
 use Rattle.ecpri_fragments.specs.Generations.{Fragment, generations_of, is_of, is_within, start_in}
 use Rattle.ecpri_fragments.specs.Verdicts.{verdict_on}
 use Rattle.ecpri_fragments.specs.declared.verdict.Verdict.TheVariants.{Repeat, Whole}
 use Rattle.fault_counters.specs.declared.kinds.Counter.{Counter}
 use Rattle.window_config.specs.declared.config.Config.{Config}
 use Rattle.window_config.specs.declared.endpoints.EndpointConfig.{EndpointConfig}
-use Rattle.replay_events.specs.unit_model.specs.Decoding.{Backwards, Decoded, Refused, Sections, data_now, data_sections}
-use Rattle.replay_events.specs.unit_model.specs.Meetings.{Arrival, Meeting, Ignored, Commands, Piece, commands, fragments}
-use Rattle.replay_events.specs.unit_model.specs.Reports.{commands_of, data_of, hold_of, met}
+use Rattle.unit_model.specs.Decoding.{Backwards, Decoded, Refused, Sections, data_now, data_sections}
+use Rattle.unit_model.specs.Meetings.{Arrival, Meeting, Ignored, Commands, Piece, commands, fragments}
+use Rattle.unit_model.specs.Reports.{commands_of, data_of, hold_of, met}
 use Rattle.replay_events.specs.Moments.{all_arrivals}
 use Rattle.replay_events.specs.Passing.{AreLandings}
 

@@ -1,14 +1,14 @@
 -- The counters of a replay add up (this project's profile).
 use Rattle.std.specs.Prelude.{◌≡◌, ℕ, ◌+◌, ◌<◌, ◌^◌, All, Contains, List, length}
-use Rattle.replay_events.specs.air_source.specs.declared.events.Event.{Event}
-use Rattle.replay_events.specs.air_source.specs.declared.events.Event.TheVariants as event
-use Rattle.replay_events.specs.air_source.specs.declared.events.Side.{Side}
+use Rattle.air_source.specs.declared.events.Event.{Event}
+use Rattle.air_source.specs.declared.events.Event.TheVariants as event
+use Rattle.air_source.specs.declared.events.Side.{Side}
 use Rattle.fault_counters.specs.Counts.{capped, times}
 use Rattle.fault_counters.specs.declared.kinds.Counter.{Counter}
 use Rattle.fault_counters.specs.declared.kinds.Counter.TheVariants.{Cells, Missing}
 use Rattle.window_config.specs.declared.config.Config.{Config}
-use Rattle.replay_events.specs.unit_model.specs.Reports.{commands_of, data_of}
-use Rattle.replay_events.specs.unit_laws.specs.Totals.{commands_total, data_total}
+use Rattle.unit_model.specs.Reports.{commands_of, data_of}
+use Rattle.unit_laws.specs.Totals.{commands_total, data_total}
 use Rattle.replay_events.specs.Events.{additions_of, all_counted, events}
 use Rattle.replay_events.specs.Heard.{cells_heard}
 use Rattle.replay_events.specs.Moments.{all_arrivals}

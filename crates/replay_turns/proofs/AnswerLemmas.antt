@@ -3,49 +3,49 @@ use Rattle.std.proofs.Common.{◌≡◌, ℤ, pos, ◌+ℤ◌, ◌-ℤ◌, ◌�
 use Rattle.std.specs.Prelude.{Err, Ok, OnOk, Result}
 use Rattle.std.proofs.Math.Seq.{drop-length}
 use Rattle.std.specs.Int.Signed.{≤ℤ_refl}
-use Rattle.send_queue.specs.air_source.specs.Answers.{AnswersBy}
-use Rattle.send_queue.specs.air_source.specs.declared.events.Side.TheVariants.{Ru as AtRu, Du as AtDu}
-use Rattle.send_queue.specs.air_source.specs.declared.links.LinkFrame.{LinkFrame}
-use Rattle.send_queue.specs.air_source.specs.Kept.{IsKept, closure_of}
-use Rattle.send_queue.specs.air_source.specs.declared.places.RePlace.{RePlace}
-use Rattle.send_queue.specs.air_source.specs.declared.samples.Samples.{Samples}
+use Rattle.air_source.specs.Answers.{AnswersBy}
+use Rattle.air_source.specs.declared.events.Side.TheVariants.{Ru as AtRu, Du as AtDu}
+use Rattle.air_source.specs.declared.links.LinkFrame.{LinkFrame}
+use Rattle.air_source.specs.Kept.{IsKept, closure_of}
+use Rattle.air_source.specs.declared.places.RePlace.{RePlace}
+use Rattle.air_source.specs.declared.samples.Samples.{Samples}
 use Rattle.bfp_codec.specs.declared.samples.Wide.{Wide}
-use Rattle.measured_traffic.specs.document_traffic.specs.Landing.{antenna_for}
-use Rattle.measured_traffic.specs.document_traffic.specs.Sending.{Leaving}
-use Rattle.measured_traffic.specs.fh_document.specs.declared.document.Document.{Document}
+use Rattle.document_traffic.specs.Landing.{antenna_for}
+use Rattle.document_traffic.specs.Sending.{Leaving}
+use Rattle.fh_document.specs.declared.document.Document.{Document}
 use Rattle.measured_traffic.specs.Replayed.{all_leaving, landings_for, leaving_with}
 use Rattle.measured_traffic.proofs.LeaveLemmas.{uplink_alike}
 use Rattle.measured_traffic.proofs.ReplayedLemmas.{landings_are_replayed}
 use Rattle.frame_ways.specs.declared.way.Way.{Way}
-use Rattle.send_queue.specs.plan_model.specs.Packs.{Message}
+use Rattle.plan_model.specs.Packs.{Message}
 use Rattle.replay_turns.proofs.StepLemmas.{arrivals_stay, cells_stay, intake_own, next_events}
 use Rattle.replay_turns.specs.Turns.{AtRadioTurn, IsRadioInStep, IsRadioLanded, events_before, intake_events, radio_events}
-use Rattle.measured_traffic.specs.replay_events.specs.Heard.{arrivals_heard, cells_heard}
-use Rattle.measured_traffic.specs.replay_events.specs.Moments.{arrivals_before, end_of_time}
+use Rattle.replay_events.specs.Heard.{arrivals_heard, cells_heard}
+use Rattle.replay_events.specs.Moments.{arrivals_before, end_of_time}
 use Rattle.ru_buffers.specs.Calls.{StandsFor}
-use Rattle.ru_buffers.specs.radio_laws.specs.Reporting.{due_of}
+use Rattle.radio_laws.specs.Reporting.{due_of}
 use Rattle.ru_buffers.specs.declared.unit.Ru.{Ru}
 use Rattle.send_queue.specs.Queues.{LeaveFrom, WaitsFor}
-use Rattle.send_queue.specs.unit_model.proofs.OntoLemmas.{onto-append, onto_none}
-use Rattle.send_queue.specs.unit_model.specs.Lists.{onto}
-use Rattle.send_queue.specs.unit_model.specs.Radiated.{first_clock}
-use Rattle.send_queue.specs.unit_model.specs.Reports.{accepted_of, ru_reported}
-use Rattle.send_queue.specs.unit_model.specs.Standing.{History, owed_until}
-use Rattle.send_queue.specs.unit_model.specs.Uplink.{jobs}
-use Rattle.send_queue.specs.unit_model.specs.declared.jobs.UplinkJob.{UplinkJob}
-use Rattle.du_intake.specs.history_laws.proofs.TickLemmas.{last_of_next}
+use Rattle.unit_model.proofs.OntoLemmas.{onto-append, onto_none}
+use Rattle.unit_model.specs.Lists.{onto}
+use Rattle.unit_model.specs.Radiated.{first_clock}
+use Rattle.unit_model.specs.Reports.{accepted_of, ru_reported}
+use Rattle.unit_model.specs.Standing.{History, owed_until}
+use Rattle.unit_model.specs.Uplink.{jobs}
+use Rattle.unit_model.specs.declared.jobs.UplinkJob.{UplinkJob}
+use Rattle.history_laws.proofs.TickLemmas.{last_of_next}
 use Rattle.fh_time.proofs.Orders.{before_it, next_later, next_order}
-use Rattle.send_queue.specs.uplink_model.specs.Frames.{frames_behind}
-use Rattle.send_queue.specs.uplink_model.specs.Messages.{uplink_messages_of}
-use Rattle.send_queue.specs.uplink_model.specs.SentLaws.{AreOf}
+use Rattle.uplink_model.specs.Frames.{frames_behind}
+use Rattle.uplink_model.specs.Messages.{uplink_messages_of}
+use Rattle.uplink_model.specs.SentLaws.{AreOf}
 use Rattle.uplink_path.specs.Emitting.{MaySend, AreNumbered, SentAll, given_too}
 use Rattle.uplink_path.specs.declared.uplink.Uplink.{Uplink}
-use Rattle.measured_traffic.specs.uplink_turns.specs.Given.{HasSeen}
-use Rattle.measured_traffic.specs.uplink_turns.specs.Turns.{handed_at, handed_until, jobs_of_tick, jobs_until, messages_of_tick, messages_until}
-use Rattle.measured_traffic.specs.uplink_turns.proofs.GivenLemmas.{gives_tick, owes_tick}
-use Rattle.measured_traffic.specs.uplink_turns.proofs.HandedLemmas.{handed_behind_are_of, handed_go_on, handed_leave_later, none_handed_before}
-use Rattle.measured_traffic.specs.uplink_turns.proofs.JobLemmas.{jobs_settled, no_jobs_before}
-use Rattle.measured_traffic.specs.uplink_turns.proofs.MessageLemmas.{messages_go_on}
+use Rattle.uplink_turns.specs.Given.{HasSeen}
+use Rattle.uplink_turns.specs.Turns.{handed_at, handed_until, jobs_of_tick, jobs_until, messages_of_tick, messages_until}
+use Rattle.uplink_turns.proofs.GivenLemmas.{gives_tick, owes_tick}
+use Rattle.uplink_turns.proofs.HandedLemmas.{handed_behind_are_of, handed_go_on, handed_leave_later, none_handed_before}
+use Rattle.uplink_turns.proofs.JobLemmas.{jobs_settled, no_jobs_before}
+use Rattle.uplink_turns.proofs.MessageLemmas.{messages_go_on}
 use Rattle.replay_turns.specs.Answering.{IsDueAt, MayAnswer}
 use Rattle.replay_turns.specs.IntakeTurns.{heard_before}
 use Rattle.replay_turns.specs.Waiting.{Waits}

@@ -10,12 +10,12 @@ use Rattle.air_source.specs.declared.places.RePlace.{RePlace}
 use Rattle.bfp_codec.specs.declared.samples.Wide.{Wide}
 use Rattle.du_scheduler.specs.Plans.{HasToSend, IsPlan, plane_of}
 use Rattle.du_scheduler.specs.declared.plans.Plan.{Plan}
-use Rattle.du_scheduler.specs.plan_model.specs.Sent.{SentFrame}
-use Rattle.du_scheduler.specs.plan_model.specs.declared.streams.Stream.{Stream}
-use Rattle.du_scheduler.specs.plan_model.specs.declared.streams.Stream.TheVariants.{DownCommands, UpCommands, DownData, UpData}
+use Rattle.plan_model.specs.Sent.{SentFrame}
+use Rattle.plan_model.specs.declared.streams.Stream.{Stream}
+use Rattle.plan_model.specs.declared.streams.Stream.TheVariants.{DownCommands, UpCommands, DownData, UpData}
 use Rattle.fh_time.proofs.Orders.{beyond_next}
 use Rattle.frame_deliveries.specs.Leaving.{Leaving}
-use Rattle.frame_deliveries.specs.fh_document.specs.declared.delivered.TrafficClass.{TrafficClass}
+use Rattle.fh_document.specs.declared.delivered.TrafficClass.{TrafficClass}
 use Rattle.frame_sending.specs.Due as due
 use Rattle.frame_sending.specs.Due.{AreSentFrom, HasSentDue, MaySend, leaving_by}
 use Rattle.frame_ways.specs.Ways.{IsCalmTo, StandsFor, having_sent_all, landings_on}
@@ -25,15 +25,15 @@ use Rattle.measured_traffic.proofs.TurnLemmas.{flights_wait, made_leave}
 use Rattle.measured_traffic.specs.Measured.{exchanges}
 use Rattle.measured_traffic.specs.Replayed.{all_leaving, leaving_from, leaving_made, made_at}
 use Rattle.measured_traffic.specs.Turns.{IsQuietBetween}
-use Rattle.measured_traffic.specs.delay_laws.specs.Ticks.{Flight}
-use Rattle.measured_traffic.specs.document_traffic.specs.Laws.{IsReplayable}
-use Rattle.measured_traffic.specs.document_traffic.specs.Sending.{class_of, leaving_of, sent_for, source_for}
-use Rattle.measured_traffic.specs.fh_document.specs.declared.document.Document.{Document}
-use Rattle.measured_traffic.specs.replay_events.specs.Moments.{end_of_time}
-use Rattle.measured_traffic.specs.replay_events.specs.history_laws.proofs.TickLemmas.{last_reached}
-use Rattle.measured_traffic.specs.tone_source.specs.Tones.{tone_of}
-use Rattle.measured_traffic.specs.unit_model.specs.Radiated.{first_clock}
-use Rattle.measured_traffic.specs.document_traffic.specs.sent_frames.specs.Frames.{sent_bytes}
+use Rattle.delay_laws.specs.Ticks.{Flight}
+use Rattle.document_traffic.specs.Laws.{IsReplayable}
+use Rattle.document_traffic.specs.Sending.{class_of, leaving_of, sent_for, source_for}
+use Rattle.fh_document.specs.declared.document.Document.{Document}
+use Rattle.replay_events.specs.Moments.{end_of_time}
+use Rattle.history_laws.proofs.TickLemmas.{last_reached}
+use Rattle.tone_source.specs.Tones.{tone_of}
+use Rattle.unit_model.specs.Radiated.{first_clock}
+use Rattle.sent_frames.specs.Frames.{sent_bytes}
 use Rattle.unit_moments.specs.Made.{made_as}
 use Rattle.replay_turns.specs.Down.{HasLandedDown, HasSentDown, WaitsDown, left_down}
 use Rattle.replay_turns.specs.Waiting.{LandsAfter, Waits, on_way}

@@ -10,17 +10,17 @@ use Rattle.du_intake.specs.Units.{intake_due_of}
 use Rattle.du_intake.specs.declared.unit.Intake.{Intake}
 use Rattle.fh_time.proofs.Orders.{next_later}
 use Rattle.measured_traffic.specs.Replayed.{landings_for, traffic_of}
-use Rattle.measured_traffic.specs.document_traffic.specs.Laws.{IsReplayable}
-use Rattle.measured_traffic.specs.fh_document.specs.declared.document.Document.{Document}
-use Rattle.measured_traffic.specs.replay_events.specs.Events.{arrivals_at, cells_reported_at}
-use Rattle.measured_traffic.specs.replay_events.specs.Moments.{end_of_time, landing_at}
-use Rattle.measured_traffic.specs.unit_model.specs.Reports.{du_known}
-use Rattle.measured_traffic.specs.unit_model.specs.Standing.{History, at_clock, heard}
+use Rattle.document_traffic.specs.Laws.{IsReplayable}
+use Rattle.fh_document.specs.declared.document.Document.{Document}
+use Rattle.replay_events.specs.Events.{arrivals_at, cells_reported_at}
+use Rattle.replay_events.specs.Moments.{end_of_time, landing_at}
+use Rattle.unit_model.specs.Reports.{du_known}
+use Rattle.unit_model.specs.Standing.{History, at_clock, heard}
 use Rattle.replay_turns.specs.Turns.{intake_events}
 use Rattle.replay_turns.specs.IntakeTurns.{AtIntakeTurn, planned_for}
 use Rattle.replay_turns.proofs.IntakeStopLemmas.{HasLanded, cells_then}
 use Rattle.replay_turns.proofs.IntakeTurnLemmas.{after}
-use Rattle.ru_buffers.specs.unit_laws.proofs.DueLemmas.{due_once}
+use Rattle.unit_laws.proofs.DueLemmas.{due_once}
 use Rattle.unit_moments.specs.Landing.{landed}
 
 -- what the intake stands for once all of the tick has landed

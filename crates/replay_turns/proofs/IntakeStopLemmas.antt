@@ -10,29 +10,28 @@ use Rattle.measured_traffic.specs.Replayed.{landings_for, results_at, traffic_of
 use Rattle.du_intake.specs.Closing.{IntakeStopsAtDue}
 use Rattle.du_intake.specs.Units.{intake_due_of}
 use Rattle.du_intake.specs.declared.unit.Intake.{Intake}
-use Rattle.measured_traffic.specs.fh_document.specs.declared.document.Document.{Document}
-use Rattle.measured_traffic.specs.document_traffic.specs.Laws.{IsReplayable}
+use Rattle.fh_document.specs.declared.document.Document.{Document}
+use Rattle.document_traffic.specs.Laws.{IsReplayable}
 use Rattle.replay_turns.proofs.StepLemmas.{arrivals_stay, cells_stay, radio_own}
 use Rattle.unit_moments.proofs.StopLemmas.{halts_ahead, halts_moved, stops_ahead, stops_moved}
 use Rattle.unit_moments.specs.Stops.{HaltsBehind, RestsBehind, StopsBehind}
 use Rattle.replay_turns.specs.Turns.{events_before, intake_events, radio_events}
-use Rattle.measured_traffic.specs.replay_events.specs.Events.{arrivals_at, cells_reported_at}
-use Rattle.measured_traffic.specs.replay_events.specs.Heard.{arrivals_heard, cells_heard}
-use Rattle.measured_traffic.specs.replay_events.specs.Moments.{end_of_time, landing_at}
-use Rattle.measured_traffic.specs.replay_events.proofs.HeardLemmas.{AreOf, arrivals-append, cells-append, cells-arrivals, due_of_side}
-use Rattle.measured_traffic.specs.unit_model.specs.Lists.{onto}
-use Rattle.measured_traffic.specs.unit_model.specs.Meetings.{Arrival}
-use Rattle.measured_traffic.specs.unit_model.specs.Reports.{du_known}
-use Rattle.measured_traffic.specs.unit_model.specs.Standing.{History, due, heard}
-use Rattle.replay_turns.specs.IntakeTurns.{heard_before}
+use Rattle.replay_events.specs.Events.{arrivals_at, cells_reported_at}
+use Rattle.replay_events.specs.Heard.{arrivals_heard, cells_heard}
+use Rattle.replay_events.specs.Moments.{end_of_time, landing_at}
+use Rattle.replay_events.proofs.HeardLemmas.{AreOf, arrivals-append, cells-append, cells-arrivals, due_of_side}
+use Rattle.unit_model.specs.Lists.{onto}
+use Rattle.unit_model.specs.Meetings.{Arrival}
+use Rattle.unit_model.specs.Reports.{du_known}
+use Rattle.unit_model.specs.Standing.{History, due, heard}
+use Rattle.replay_turns.specs.IntakeTurns.{heard_before, AtIntakeTurn, IsIntakeInStep, IsIntakeTurn, planned_for}
 use Rattle.du_intake.specs.Calls.{IntakeMayTake}
 use Rattle.unit_moments.specs.Landing.{HasTaken, told_of_frames}
-use Rattle.measured_traffic.specs.document_delays.specs.Settings.{compensation_of}
+use Rattle.document_delays.specs.Settings.{compensation_of}
 use Rattle.measured_traffic.specs.Doings.{Doings}
-use Rattle.ru_buffers.specs.radio_laws.specs.history_laws.proofs.ListLemmas.{front_empty}
-use Rattle.replay_turns.specs.IntakeTurns.{AtIntakeTurn, IsIntakeInStep, IsIntakeTurn, planned_for}
+use Rattle.history_laws.proofs.ListLemmas.{front_empty}
 use Rattle.replay_turns.proofs.IntakeTurnLemmas.{arrivals_closed, cells_closed, due_here}
-use Rattle.ru_buffers.specs.radio_laws.specs.history_laws.proofs.AddedLemmas.{in_front}
+use Rattle.history_laws.proofs.AddedLemmas.{in_front}
 
 -- ---- before its first event
 

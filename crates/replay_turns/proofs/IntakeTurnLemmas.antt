@@ -5,30 +5,30 @@ use Rattle.air_source.specs.declared.events.AirCell.{AirCell}
 use Rattle.air_source.specs.declared.events.Event.{Event}
 use Rattle.air_source.specs.declared.events.Event.TheVariants.{Cell}
 use Rattle.air_source.specs.declared.events.Side.TheVariants.{Ru, Du}
-use Rattle.measured_traffic.specs.document_traffic.specs.Laws.{IsReplayable}
+use Rattle.document_traffic.specs.Laws.{IsReplayable}
 use Rattle.du_intake.specs.Calls.{IntakeStandsFor}
 use Rattle.du_intake.specs.Units.{intake_due_of}
 use Rattle.du_intake.specs.declared.unit.Intake.{Intake}
-use Rattle.measured_traffic.specs.fh_document.specs.declared.document.Document.{Document}
+use Rattle.fh_document.specs.declared.document.Document.{Document}
 use Rattle.measured_traffic.specs.Replayed.{begun, landings_for, results_at, traffic_of}
 use Rattle.measured_traffic.proofs.ReplayedLemmas.{landings_are_replayed}
 use Rattle.replay_turns.specs.Turns.{events_before, intake_events, radio_events}
 use Rattle.replay_turns.proofs.StepLemmas.{AreEventsOf, arrivals_stay, cells_own, cells_stay, next_events, radio_own}
-use Rattle.measured_traffic.specs.replay_events.specs.Events.{arrivals_told, cells_reported_at}
-use Rattle.measured_traffic.specs.replay_events.specs.Heard.{arrivals_heard, cells_heard}
-use Rattle.measured_traffic.specs.replay_events.specs.Moments.{arrivals_before, end_of_time, landing_at}
-use Rattle.measured_traffic.specs.replay_events.specs.Passing.{IsCalm, IsNextMoment, IsUnitMoment, due_from}
-use Rattle.measured_traffic.specs.replay_events.proofs.CameLemmas.{arrivals_go_on, calm_adds_nothing, none_yet}
-use Rattle.measured_traffic.specs.replay_events.proofs.EventLemmas.{events_wait}
-use Rattle.measured_traffic.specs.replay_events.proofs.HeardLemmas.{AreOf, arrivals-append, arrivals-cells, arrivals-none, arrivals-own, cells-append, cells-arrivals, cells-none, cells-own}
-use Rattle.measured_traffic.specs.replay_events.specs.declared.results.DelayResult.{DelayResult}
-use Rattle.measured_traffic.specs.replay_events.proofs.MomentLemmas.{due_at_moment, reported_at_moment, reported_before_moment}
-use Rattle.measured_traffic.specs.unit_model.specs.Lists.{onto}
-use Rattle.measured_traffic.specs.unit_model.specs.Meetings.{Arrival}
-use Rattle.measured_traffic.specs.unit_model.specs.Radiated.{first_clock}
-use Rattle.measured_traffic.specs.unit_model.specs.Reports.{du_known, du_reported}
-use Rattle.measured_traffic.specs.unit_model.specs.Standing.{History, due, nothing_yet}
-use Rattle.ru_buffers.specs.history_laws.proofs.TickLemmas.{clock_begins, last_of_next}
+use Rattle.replay_events.specs.Events.{arrivals_told, cells_reported_at}
+use Rattle.replay_events.specs.Heard.{arrivals_heard, cells_heard}
+use Rattle.replay_events.specs.Moments.{arrivals_before, end_of_time, landing_at}
+use Rattle.replay_events.specs.Passing.{IsCalm, IsNextMoment, IsUnitMoment, due_from}
+use Rattle.replay_events.proofs.CameLemmas.{arrivals_go_on, calm_adds_nothing, none_yet}
+use Rattle.replay_events.proofs.EventLemmas.{events_wait}
+use Rattle.replay_events.proofs.HeardLemmas.{AreOf, arrivals-append, arrivals-cells, arrivals-none, arrivals-own, cells-append, cells-arrivals, cells-none, cells-own}
+use Rattle.replay_events.specs.declared.results.DelayResult.{DelayResult}
+use Rattle.replay_events.proofs.MomentLemmas.{due_at_moment, reported_at_moment, reported_before_moment}
+use Rattle.unit_model.specs.Lists.{onto}
+use Rattle.unit_model.specs.Meetings.{Arrival}
+use Rattle.unit_model.specs.Radiated.{first_clock}
+use Rattle.unit_model.specs.Reports.{du_known, du_reported}
+use Rattle.unit_model.specs.Standing.{History, due, nothing_yet}
+use Rattle.history_laws.proofs.TickLemmas.{clock_begins, last_of_next}
 use Rattle.fh_time.proofs.Orders.{at_most, next_later, next_order}
 use Rattle.replay_turns.proofs.TurnLemmas as radio
 use Rattle.replay_turns.proofs.TurnLemmas.{events_none, moment_here, none_reported}

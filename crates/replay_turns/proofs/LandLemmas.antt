@@ -10,16 +10,16 @@ use Rattle.frame_ways.specs.Ways.{landings_on}
 use Rattle.frame_ways.specs.declared.way.Way.{Way}
 use Rattle.measured_traffic.specs.Doings.{with_frames}
 use Rattle.measured_traffic.specs.Replayed.{landings_for, made_at, results_at, traffic_of}
-use Rattle.measured_traffic.specs.document_delays.specs.Settings.{compensation_of}
-use Rattle.measured_traffic.specs.document_traffic.specs.Laws.{IsReplayable}
-use Rattle.measured_traffic.specs.fh_document.specs.declared.document.Document.{Document}
-use Rattle.measured_traffic.specs.replay_events.specs.Events.{arrivals_at, arrivals_told}
-use Rattle.measured_traffic.specs.replay_events.specs.Traffic.{landings_at}
-use Rattle.measured_traffic.specs.unit_model.specs.Meetings.{Arrival}
-use Rattle.measured_traffic.specs.unit_model.specs.Standing.{History}
+use Rattle.document_delays.specs.Settings.{compensation_of}
+use Rattle.document_traffic.specs.Laws.{IsReplayable}
+use Rattle.fh_document.specs.declared.document.Document.{Document}
+use Rattle.replay_events.specs.Events.{arrivals_at, arrivals_told}
+use Rattle.replay_events.specs.Traffic.{landings_at}
+use Rattle.unit_model.specs.Meetings.{Arrival}
+use Rattle.unit_model.specs.Standing.{History}
 use Rattle.unit_moments.specs.Landing.{HaveLanded, MayLand, landed, told_of_frames}
-use Rattle.unit_moments.specs.delay_exchange.specs.Meters.{HasDoings}
-use Rattle.unit_moments.specs.delay_exchange.specs.declared.unit.UnitMeter.{UnitMeter}
+use Rattle.delay_exchange.specs.Meters.{HasDoings}
+use Rattle.delay_exchange.specs.declared.unit.UnitMeter.{UnitMeter}
 use Rattle.replay_turns.specs.Waiting.{LandsAfter, Waits, begun_at, on_way}
 use Rattle.replay_turns.proofs.WayLemmas.{lands_at}
 

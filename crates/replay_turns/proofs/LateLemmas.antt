@@ -11,50 +11,50 @@ use Rattle.std.specs.Int.Signed.{≤ℤ_refl}
 use Rattle.air_source.specs.declared.events.Side.{Side}
 use Rattle.air_source.specs.declared.events.Side.TheVariants.{Ru, Du}
 use Rattle.air_source.specs.declared.links.LinkFrame.{LinkFrame}
-use Rattle.measured_traffic.specs.delay_laws.proofs.Keeping.{IsKept, Keeps, all_kept}
-use Rattle.measured_traffic.specs.delay_laws.specs.Nodes.{Heard, time_of}
-use Rattle.measured_traffic.specs.delay_laws.specs.Ticks.{Begin, Flight, came_heard}
+use Rattle.delay_laws.proofs.Keeping.{IsKept, Keeps, all_kept}
+use Rattle.delay_laws.specs.Nodes.{Heard, time_of}
+use Rattle.delay_laws.specs.Ticks.{Begin, Flight, came_heard}
 use Rattle.delay_measure.specs.declared.message.DelayMessage.{DelayMessage}
-use Rattle.measured_traffic.specs.document_delays.specs.Settings.{begin_of, setting_of, ways_of}
-use Rattle.measured_traffic.specs.document_traffic.proofs.AnswerLemmas.{sent_is_handed}
-use Rattle.measured_traffic.specs.document_traffic.proofs.CopyLemmas.{delayed_is, of_copies}
-use Rattle.measured_traffic.specs.document_traffic.proofs.LandingLemmas.{are_replayed}
-use Rattle.measured_traffic.specs.document_traffic.proofs.LineLemmas.{lines_fit}
-use Rattle.measured_traffic.specs.document_traffic.specs.Landing.{antenna_for, copies_among, copies_in, copy_at, handed_for, injected_at, injected_to, is_to, landing_with, landings_of, leaving_to, leaving_up}
-use Rattle.measured_traffic.specs.document_traffic.specs.Laws.{IsReplayable}
-use Rattle.measured_traffic.specs.document_traffic.specs.Sending.{Delayed, Leaving, delayed_behind, leaving_down, leaving_of, none_sent, sent_for}
-use Rattle.measured_traffic.specs.fh_document.specs.DeliverLines.{least_of}
-use Rattle.measured_traffic.specs.fh_document.specs.Proper.{IsDocument, IsFrom, IsInjection, IsMeasure}
-use Rattle.measured_traffic.specs.fh_document.specs.declared.delivered.TrafficClass.TheVariants.{M}
-use Rattle.measured_traffic.specs.fh_document.specs.declared.document.Document.{Document}
-use Rattle.measured_traffic.specs.fh_document.specs.declared.document.Measure.{Measure}
-use Rattle.measured_traffic.specs.fragment_laws.specs.Apart.{IsIn}
-use Rattle.measured_traffic.specs.frame_deliveries.proofs.Within.{copies_within}
-use Rattle.measured_traffic.specs.frame_deliveries.specs.Copies.{copies_of}
+use Rattle.document_delays.specs.Settings.{begin_of, setting_of, ways_of}
+use Rattle.document_traffic.proofs.AnswerLemmas.{sent_is_handed}
+use Rattle.document_traffic.proofs.CopyLemmas.{delayed_is, of_copies}
+use Rattle.document_traffic.proofs.LandingLemmas.{are_replayed}
+use Rattle.document_traffic.proofs.LineLemmas.{lines_fit}
+use Rattle.document_traffic.specs.Landing.{antenna_for, copies_among, copies_in, copy_at, handed_for, injected_at, injected_to, is_to, landing_with, landings_of, leaving_to, leaving_up}
+use Rattle.document_traffic.specs.Laws.{IsReplayable}
+use Rattle.document_traffic.specs.Sending.{Delayed, Leaving, delayed_behind, leaving_down, leaving_of, none_sent, sent_for}
+use Rattle.fh_document.specs.DeliverLines.{least_of}
+use Rattle.fh_document.specs.Proper.{IsDocument, IsFrom, IsInjection, IsMeasure}
+use Rattle.fh_document.specs.declared.delivered.TrafficClass.TheVariants.{M}
+use Rattle.fh_document.specs.declared.document.Document.{Document}
+use Rattle.fh_document.specs.declared.document.Measure.{Measure}
+use Rattle.fragment_laws.specs.Apart.{IsIn}
+use Rattle.frame_deliveries.proofs.Within.{copies_within}
+use Rattle.frame_deliveries.specs.Copies.{copies_of}
 use Rattle.measured_traffic.specs.Measured.{delay_messages, exchanges, flights_then, others_of}
 use Rattle.measured_traffic.specs.Replayed.{all_leaving, landings_for, leaving_flight, leaving_from, leaving_then}
-use Rattle.measured_traffic.specs.plan_model.specs.Departures.{departures_of, sending_window, sent_at, start_of_part}
-use Rattle.measured_traffic.specs.plan_model.specs.Lines.{planned}
-use Rattle.measured_traffic.specs.plan_model.specs.Packs.{Numbered}
-use Rattle.measured_traffic.specs.plan_model.specs.Sent.{SentFrame, sent}
-use Rattle.measured_traffic.specs.plan_model.specs.Streams.{Part, messages_of}
-use Rattle.measured_traffic.specs.plan_model.specs.Valid.{IsValid}
-use Rattle.measured_traffic.specs.plan_model.specs.declared.lines.PlannedLine.{PlannedLine}
-use Rattle.measured_traffic.specs.plan_model.specs.declared.streams.Stream.{Stream}
-use Rattle.measured_traffic.specs.replay_events.proofs.CameLemmas.{calm_adds_nothing, none_yet}
-use Rattle.measured_traffic.specs.replay_events.specs.Moments.{arrivals_before, end_of_time, landing_at}
-use Rattle.measured_traffic.specs.schedule_laws.proofs.ListLemmas.{in_all, of_map, of_tick}
-use Rattle.measured_traffic.specs.schedule_laws.proofs.SentLemmas.{IsSentStream, message_part, sent_is}
-use Rattle.measured_traffic.specs.sent_order.proofs.BoundLemmas.{most_before, part_time}
-use Rattle.measured_traffic.specs.unit_model.specs.Meetings.{Arrival}
-use Rattle.measured_traffic.specs.unit_model.specs.Proper.{IsAt}
-use Rattle.measured_traffic.specs.unit_model.specs.Radiated.{first_clock}
-use Rattle.measured_traffic.specs.unit_model.specs.declared.jobs.UplinkJob.{UplinkJob}
-use Rattle.measured_traffic.specs.uplink_laws.specs.Premise.{frames_of}
-use Rattle.measured_traffic.specs.uplink_model.specs.Frames.{Antenna, frames_behind}
-use Rattle.measured_traffic.specs.uplink_turns.proofs.HandedLemmas.{handed_go_on_from, handed_leave_from}
-use Rattle.measured_traffic.specs.uplink_turns.proofs.JobLemmas.{jobs_of_nothing, jobs_settled}
-use Rattle.measured_traffic.specs.uplink_turns.specs.Turns.{handed_between, jobs_until}
+use Rattle.plan_model.specs.Departures.{departures_of, sending_window, sent_at, start_of_part}
+use Rattle.plan_model.specs.Lines.{planned}
+use Rattle.plan_model.specs.Packs.{Numbered}
+use Rattle.plan_model.specs.Sent.{SentFrame, sent}
+use Rattle.plan_model.specs.Streams.{Part, messages_of}
+use Rattle.plan_model.specs.Valid.{IsValid}
+use Rattle.plan_model.specs.declared.lines.PlannedLine.{PlannedLine}
+use Rattle.plan_model.specs.declared.streams.Stream.{Stream}
+use Rattle.replay_events.proofs.CameLemmas.{calm_adds_nothing, none_yet}
+use Rattle.replay_events.specs.Moments.{arrivals_before, end_of_time, landing_at}
+use Rattle.schedule_laws.proofs.ListLemmas.{in_all, of_map, of_tick}
+use Rattle.schedule_laws.proofs.SentLemmas.{IsSentStream, message_part, sent_is}
+use Rattle.sent_order.proofs.BoundLemmas.{most_before, part_time}
+use Rattle.unit_model.specs.Meetings.{Arrival}
+use Rattle.unit_model.specs.Proper.{IsAt}
+use Rattle.unit_model.specs.Radiated.{first_clock}
+use Rattle.unit_model.specs.declared.jobs.UplinkJob.{UplinkJob}
+use Rattle.uplink_laws.specs.Premise.{frames_of}
+use Rattle.uplink_model.specs.Frames.{Antenna, frames_behind}
+use Rattle.uplink_turns.proofs.HandedLemmas.{handed_go_on_from, handed_leave_from}
+use Rattle.uplink_turns.proofs.JobLemmas.{jobs_of_nothing, jobs_settled}
+use Rattle.uplink_turns.specs.Turns.{handed_between, jobs_until}
 use Rattle.window_config.proofs.TickLemmas.{positive}
 use Rattle.window_config.specs.Configs.{IsConfig}
 use Rattle.window_config.specs.Plans.{IsPlanLine}
@@ -62,12 +62,12 @@ use Rattle.window_config.specs.Windows.{ticks_of_ns}
 use Rattle.window_config.specs.declared.config.Config.{Config}
 use Rattle.window_config.specs.declared.endpoints.EndpointConfig.{EndpointConfig}
 use Rattle.window_config.specs.declared.plan.PlanLine.{PlanLine}
-use Rattle.measured_traffic.specs.plan_model.proofs.ListLemmas.{in_either, of_filter, all_of}
-use Rattle.measured_traffic.specs.document_traffic.proofs.TimeLemmas.{from_is}
+use Rattle.plan_model.proofs.ListLemmas.{in_either, of_filter, all_of}
+use Rattle.document_traffic.proofs.TimeLemmas.{from_is}
 use Rattle.measured_traffic.proofs.FlightLemmas.{none_at}
 use Rattle.fh_time.specs.declared.frames.TheConstants.{FRAME}
-use Rattle.measured_traffic.specs.fh_document.specs.declared.config_lines.TheConstants.{MOST_TRANSIT}
-use Rattle.measured_traffic.specs.unit_model.specs.Times.{tick_count}
+use Rattle.fh_document.specs.declared.config_lines.TheConstants.{MOST_TRANSIT}
+use Rattle.unit_model.specs.Times.{tick_count}
 
 -- ---- the frames of a plan leave later than time 0
 

@@ -9,11 +9,11 @@ use Rattle.std.specs.Int.Signed.{≤ℤ_refl}
 use Rattle.fh_time.proofs.Orders.{at_most}
 use Rattle.frame_deliveries.specs.Leaving.{Leaving}
 use Rattle.frame_ways.proofs.Ticks.{next_is_later}
-use Rattle.measured_traffic.specs.document_delays.specs.delay_laws.specs.Ticks.{Flight}
+use Rattle.delay_laws.specs.Ticks.{Flight}
 use Rattle.measured_traffic.specs.Measured.{flights_then}
 use Rattle.measured_traffic.specs.Replayed.{leaving_flight, leaving_from, leaving_then}
-use Rattle.measured_traffic.specs.replay_events.specs.Moments.{end_of_time}
-use Rattle.measured_traffic.specs.unit_model.specs.Lists.{each_tick}
+use Rattle.replay_events.specs.Moments.{end_of_time}
+use Rattle.unit_model.specs.Lists.{each_tick}
 use Rattle.replay_turns.specs.Waiting.{LandsAfter}
 
 ticks_all : {A : Type 0} (P : A → Type 0) (now from : ℤ) (n : ℕ) (g : ℤ → List A) → now ≤ℤ from → ((t : ℤ) → now ≤ℤ t → All P (g t)) → All P (each_tick from n g)

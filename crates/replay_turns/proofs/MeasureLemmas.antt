@@ -10,16 +10,16 @@ use Rattle.measured_traffic.proofs.TurnLemmas.{doings_begin, doings_go_on, doing
 use Rattle.measured_traffic.specs.Doings.{Doings, nothing, taken}
 use Rattle.measured_traffic.specs.Replayed.{begins_at, doings_at, made_at}
 use Rattle.measured_traffic.specs.Turns.{IsQuietBetween}
-use Rattle.measured_traffic.specs.delay_laws.specs.Ticks.{Begin}
-use Rattle.measured_traffic.specs.document_delays.specs.Settings.{compensation_of}
-use Rattle.measured_traffic.specs.fh_document.specs.declared.document.Document.{Document}
-use Rattle.measured_traffic.specs.replay_events.specs.history_laws.proofs.TickLemmas.{last_before}
-use Rattle.measured_traffic.specs.unit_model.specs.Radiated.{first_clock}
+use Rattle.delay_laws.specs.Ticks.{Begin}
+use Rattle.document_delays.specs.Settings.{compensation_of}
+use Rattle.fh_document.specs.declared.document.Document.{Document}
+use Rattle.history_laws.proofs.TickLemmas.{last_before}
+use Rattle.unit_model.specs.Radiated.{first_clock}
 use Rattle.unit_meters.proofs.WaitLemmas.{awaits_until}
 use Rattle.unit_meters.specs.Begins.{Awaits, MetersStand, NoneBeginsTo}
 use Rattle.unit_meters.specs.declared.meters.Meters.{Meters}
-use Rattle.unit_moments.specs.delay_exchange.specs.Meters.{HasDoings}
-use Rattle.unit_moments.specs.delay_exchange.specs.declared.unit.UnitMeter.{UnitMeter}
+use Rattle.delay_exchange.specs.Meters.{HasDoings}
+use Rattle.delay_exchange.specs.declared.unit.UnitMeter.{UnitMeter}
 use Rattle.replay_turns.specs.Measuring.{MeasuresWait, begins_for}
 
 next_is : (tick : ℤ) → (tick -ℤ pos 1) +ℤ pos 1 ≡ tick

@@ -1,13 +1,13 @@
 -- The radio unit before its next moment, and at it.
 use Rattle.std.proofs.Common.{ℤ, pos, ◌-ℤ◌, ◌<ℤ◌}
 use Rattle.air_source.specs.declared.events.Side.TheVariants.{Ru as AtRu}
-use Rattle.measured_traffic.specs.document_traffic.specs.Laws.{IsReplayable}
-use Rattle.measured_traffic.specs.fh_document.specs.declared.document.Document.{Document}
+use Rattle.document_traffic.specs.Laws.{IsReplayable}
+use Rattle.fh_document.specs.declared.document.Document.{Document}
 use Rattle.measured_traffic.specs.Replayed.{landings_for, traffic_of}
-use Rattle.measured_traffic.specs.replay_events.specs.Passing.{IsCalm, IsNextMoment, IsUnitMoment}
+use Rattle.replay_events.specs.Passing.{IsCalm, IsNextMoment, IsUnitMoment}
 use Rattle.ru_buffers.specs.Calls.{IsQuietTo}
 use Rattle.ru_buffers.specs.declared.unit.Ru.{Ru}
-use Rattle.measured_traffic.specs.replay_events.specs.history_laws.proofs.TickLemmas.{last_before}
+use Rattle.history_laws.proofs.TickLemmas.{last_before}
 use Rattle.replay_turns.specs.Turns.{AtRadioTurn}
 use Rattle.replay_turns.proofs.TurnLemmas.{quiet_less, skip, unit_moment}
 use Rattle.fh_time.proofs.Orders.{at_most}

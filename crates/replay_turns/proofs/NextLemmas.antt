@@ -4,19 +4,19 @@ use Rattle.std.specs.Prelude.{All, cond, map}
 use Rattle.std.proofs.lemmas.Int.{ints}
 use Rattle.std.proofs.lemmas.List.Elements.{All-head, All-map, All-tail, All-weaker}
 use Rattle.std.specs.Int.Signed.{≤ℤ_refl, <ℤ-≤ℤ_trans, clash_ℤ}
-use Rattle.send_queue.specs.air_source.specs.declared.events.Event.{Event}
-use Rattle.send_queue.specs.air_source.specs.declared.events.Side.{Side}
-use Rattle.send_queue.specs.air_source.specs.declared.events.Side.TheVariants.{Ru as AtRu, Du as AtDu}
-use Rattle.send_queue.specs.air_source.specs.declared.links.LinkFrame.{LinkFrame}
-use Rattle.send_queue.specs.air_source.specs.declared.places.RePlace.{RePlace}
+use Rattle.air_source.specs.declared.events.Event.{Event}
+use Rattle.air_source.specs.declared.events.Side.{Side}
+use Rattle.air_source.specs.declared.events.Side.TheVariants.{Ru as AtRu, Du as AtDu}
+use Rattle.air_source.specs.declared.links.LinkFrame.{LinkFrame}
+use Rattle.air_source.specs.declared.places.RePlace.{RePlace}
 use Rattle.bfp_codec.specs.declared.samples.Wide.{Wide}
-use Rattle.measured_traffic.specs.document_traffic.specs.Landing.{antenna_for, leaving_answer}
-use Rattle.measured_traffic.specs.document_traffic.specs.Laws.{IsReplayable}
-use Rattle.measured_traffic.specs.document_traffic.specs.Sending.{Leaving, leaving_of}
+use Rattle.document_traffic.specs.Landing.{antenna_for, leaving_answer}
+use Rattle.document_traffic.specs.Laws.{IsReplayable}
+use Rattle.document_traffic.specs.Sending.{Leaving, leaving_of}
 use Rattle.du_intake.specs.Calls.{IntakeStandsFor}
 use Rattle.du_intake.specs.Units.{intake_due_of}
 use Rattle.du_intake.specs.declared.unit.Intake.{Intake}
-use Rattle.measured_traffic.specs.fh_document.specs.declared.document.Document.{Document}
+use Rattle.fh_document.specs.declared.document.Document.{Document}
 use Rattle.frame_ways.specs.Ways.{IsCalmTo, landings_on}
 use Rattle.frame_ways.specs.declared.way.Way.{Way}
 use Rattle.replay_turns.proofs.QuietLemmas.{AreSilent, quiet_until}
@@ -37,27 +37,27 @@ use Rattle.replay_turns.proofs.TurnLemmas.{quiet_less}
 use Rattle.replay_turns.specs.Down.{WaitsDown}
 use Rattle.replay_turns.specs.Waiting.{Waits, on_way}
 use Rattle.replay_turns.specs.Turns.{AtRadioTurn, events_before, radio_events}
-use Rattle.measured_traffic.specs.replay_events.specs.Moments.{all_arrivals, end_of_time}
-use Rattle.measured_traffic.specs.replay_events.specs.Passing.{IsCalm, IsNextMoment, IsUnitMoment}
-use Rattle.measured_traffic.specs.replay_events.proofs.CameLemmas.{calm_adds_nothing}
-use Rattle.measured_traffic.specs.replay_events.proofs.TickLemmas.{between}
+use Rattle.replay_events.specs.Moments.{all_arrivals, end_of_time}
+use Rattle.replay_events.specs.Passing.{IsCalm, IsNextMoment, IsUnitMoment}
+use Rattle.replay_events.proofs.CameLemmas.{calm_adds_nothing}
+use Rattle.replay_events.proofs.TickLemmas.{between}
 use Rattle.ru_buffers.specs.Calls.{IsQuietTo}
 use Rattle.ru_buffers.specs.declared.unit.Ru.{Ru}
 use Rattle.send_queue.specs.Queues.{IsSilentTo, LeaveFrom, WaitsFor, waiting_at}
 use Rattle.send_queue.proofs.QueueLemmas.{waits_on as queue_waits_on}
-use Rattle.send_queue.specs.unit_model.specs.Lists.{onto}
-use Rattle.send_queue.specs.unit_model.specs.Radiated.{first_clock}
-use Rattle.send_queue.specs.unit_model.specs.Reports.{du_reported}
-use Rattle.send_queue.specs.unit_model.specs.Standing.{History, nothing_yet}
-use Rattle.send_queue.specs.unit_model.specs.declared.jobs.UplinkJob.{UplinkJob}
-use Rattle.du_intake.specs.history_laws.proofs.TickLemmas.{last_is_earlier, last_of_next, last_reached, next_after, next_is_later, last_before, last_order}
-use Rattle.send_queue.specs.uplink_model.specs.Frames.{frames_behind}
-use Rattle.send_queue.specs.uplink_model.specs.Messages.{uplink_messages_of}
+use Rattle.unit_model.specs.Lists.{onto}
+use Rattle.unit_model.specs.Radiated.{first_clock}
+use Rattle.unit_model.specs.Reports.{du_reported}
+use Rattle.unit_model.specs.Standing.{History, nothing_yet}
+use Rattle.unit_model.specs.declared.jobs.UplinkJob.{UplinkJob}
+use Rattle.history_laws.proofs.TickLemmas.{last_is_earlier, last_of_next, last_reached, next_after, next_is_later, last_before, last_order}
+use Rattle.uplink_model.specs.Frames.{frames_behind}
+use Rattle.uplink_model.specs.Messages.{uplink_messages_of}
 use Rattle.uplink_path.specs.Emitting.{AreNumbered}
-use Rattle.measured_traffic.specs.uplink_turns.specs.Given.{HasSeen}
-use Rattle.measured_traffic.specs.uplink_turns.specs.Turns.{jobs_until, leaving_of_handed}
-use Rattle.measured_traffic.specs.uplink_turns.proofs.GivenLemmas.{owes_none}
-use Rattle.measured_traffic.specs.uplink_turns.proofs.LeavingLemmas.{left_waits}
+use Rattle.uplink_turns.specs.Given.{HasSeen}
+use Rattle.uplink_turns.specs.Turns.{jobs_until, leaving_of_handed}
+use Rattle.uplink_turns.proofs.GivenLemmas.{owes_none}
+use Rattle.uplink_turns.proofs.LeavingLemmas.{left_waits}
 use Rattle.replay_turns.specs.Up.{WaitsUp, answers_left, handed_by, left_for, left_up}
 use Rattle.replay_turns.specs.IntakeTurns.{AtIntakeTurn, IsIntakeInStep, planned_for}
 use Rattle.replay_turns.proofs.UpLemmas.{answers_later}

@@ -13,23 +13,23 @@ use Rattle.frame_deliveries.specs.Leaving.{Leaving}
 use Rattle.frame_sending.specs.Due.{AreSentFrom, AreShort, leaving_by}
 use Rattle.du_scheduler.specs.Plans.{HasToSend}
 use Rattle.du_scheduler.specs.declared.plans.Plan.{Plan}
-use Rattle.du_scheduler.specs.fragment_laws.specs.Apart.{IsIn}
-use Rattle.du_scheduler.specs.frame_order.specs.Queues.{first_time}
-use Rattle.du_scheduler.specs.plan_model.proofs.ListLemmas.{all_of, in_right, of_filter}
-use Rattle.du_scheduler.specs.plan_model.specs.Lines.{planned}
-use Rattle.du_scheduler.specs.plan_model.specs.Sent.{SentFrame, frames_from, sent}
-use Rattle.du_scheduler.specs.schedule_laws.proofs.ListLemmas.{in_all, in_map, of_tick}
-use Rattle.du_scheduler.specs.sent_order.proofs.BoundLemmas.{IsInTime, all_in_time}
-use Rattle.du_scheduler.specs.sent_order.specs.Runs.{turn_of}
-use Rattle.measured_traffic.specs.document_traffic.proofs.ShortLemmas.{are_short}
-use Rattle.measured_traffic.specs.document_traffic.specs.Landing.{leaving_to}
-use Rattle.measured_traffic.specs.document_traffic.specs.Laws.{IsReplayable}
-use Rattle.measured_traffic.specs.document_traffic.specs.Sending.{leaving_of, sent_for}
-use Rattle.measured_traffic.specs.fh_document.specs.declared.document.Document.{Document}
-use Rattle.measured_traffic.specs.replay_events.specs.history_laws.proofs.TickLemmas.{next_after}
-use Rattle.measured_traffic.specs.tone_source.specs.Tones.{tone_of}
-use Rattle.measured_traffic.specs.unit_model.specs.Radiated.{first_clock}
-use Rattle.measured_traffic.specs.unit_model.specs.Times.{end_of_time}
+use Rattle.fragment_laws.specs.Apart.{IsIn}
+use Rattle.frame_order.specs.Queues.{first_time}
+use Rattle.plan_model.proofs.ListLemmas.{all_of, in_right, of_filter}
+use Rattle.plan_model.specs.Lines.{planned}
+use Rattle.plan_model.specs.Sent.{SentFrame, frames_from, sent}
+use Rattle.schedule_laws.proofs.ListLemmas.{in_all, in_map, of_tick}
+use Rattle.sent_order.proofs.BoundLemmas.{IsInTime, all_in_time}
+use Rattle.sent_order.specs.Runs.{turn_of}
+use Rattle.document_traffic.proofs.ShortLemmas.{are_short}
+use Rattle.document_traffic.specs.Landing.{leaving_to}
+use Rattle.document_traffic.specs.Laws.{IsReplayable}
+use Rattle.document_traffic.specs.Sending.{leaving_of, sent_for}
+use Rattle.fh_document.specs.declared.document.Document.{Document}
+use Rattle.history_laws.proofs.TickLemmas.{next_after}
+use Rattle.tone_source.specs.Tones.{tone_of}
+use Rattle.unit_model.specs.Radiated.{first_clock}
+use Rattle.unit_model.specs.Times.{end_of_time}
 use Rattle.window_config.specs.declared.config.Config.{Config}
 use Rattle.window_config.specs.declared.plan.PlanLine.{PlanLine}
 use Rattle.frame_sending.proofs.OrderLemmas.{first_is_least, sent_less}

@@ -16,14 +16,14 @@ use Rattle.measured_traffic.proofs.LeaveLemmas.{leaving_waits}
 use Rattle.measured_traffic.specs.Measured.{exchanges}
 use Rattle.measured_traffic.specs.Replayed.{begins_at, landings_for, leaving_with}
 use Rattle.measured_traffic.specs.Turns.{FlightsWait, IsQuietBetween}
-use Rattle.measured_traffic.specs.document_traffic.specs.Laws.{IsReplayable}
-use Rattle.measured_traffic.specs.fh_document.specs.declared.document.Document.{Document}
-use Rattle.measured_traffic.specs.replay_events.proofs.TickLemmas.{between}
-use Rattle.measured_traffic.specs.replay_events.specs.Moments.{end_of_time}
-use Rattle.measured_traffic.specs.replay_events.specs.Passing.{IsCalm}
-use Rattle.measured_traffic.specs.replay_events.specs.history_laws.proofs.TickLemmas.{before_next, last_before}
-use Rattle.measured_traffic.specs.unit_model.specs.Meetings.{Arrival}
-use Rattle.measured_traffic.specs.unit_model.specs.Radiated.{first_clock}
+use Rattle.document_traffic.specs.Laws.{IsReplayable}
+use Rattle.fh_document.specs.declared.document.Document.{Document}
+use Rattle.replay_events.proofs.TickLemmas.{between}
+use Rattle.replay_events.specs.Moments.{end_of_time}
+use Rattle.replay_events.specs.Passing.{IsCalm}
+use Rattle.history_laws.proofs.TickLemmas.{before_next, last_before}
+use Rattle.unit_model.specs.Meetings.{Arrival}
+use Rattle.unit_model.specs.Radiated.{first_clock}
 use Rattle.replay_turns.specs.Waiting.{LandsAfter, Waits, on_way}
 use Rattle.replay_turns.proofs.LeavingLemmas.{leaving_lands_after}
 use Rattle.replay_turns.proofs.WayLemmas.{lands_at}

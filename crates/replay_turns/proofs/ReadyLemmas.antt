@@ -2,25 +2,23 @@
 use Rattle.std.proofs.Common.{◌≡◌, ℤ, pos, ◌-ℤ◌, ◌≤ℤ◌, ◌^◌, List, [], ap, ◌∙◌, arith}
 use Rattle.std.proofs.lemmas.Int.{ints}
 use Rattle.fh_time.specs.declared.values.Ticks.{Ticks}
-use Rattle.measured_traffic.specs.fh_document.specs.declared.document.Document.{Document}
-use Rattle.measured_traffic.specs.replay_events.specs.Moments.{end_of_time}
-use Rattle.measured_traffic.specs.replay_events.specs.history_laws.proofs.TickLemmas.{last_order}
-use Rattle.measured_traffic.specs.unit_model.specs.Standing.{History, at_clock, heard}
-use Rattle.du_intake.specs.Calls.{IntakeStandsFor}
+use Rattle.fh_document.specs.declared.document.Document.{Document}
+use Rattle.replay_events.specs.Moments.{end_of_time}
+use Rattle.history_laws.proofs.TickLemmas.{last_order}
+use Rattle.unit_model.specs.Standing.{History, at_clock, heard}
+use Rattle.du_intake.specs.Calls.{IntakeStandsFor, IntakeMayTake}
 use Rattle.du_intake.specs.Closing.{IntakeStandsForSome}
 use Rattle.du_intake.specs.declared.unit.Intake.{Intake}
-use Rattle.measured_traffic.specs.unit_model.specs.Proper.{IsTime}
-use Rattle.measured_traffic.specs.unit_model.specs.Radiated.{first_clock}
-use Rattle.measured_traffic.specs.unit_model.specs.declared.allocations.Allocation.{Allocation}
-use Rattle.measured_traffic.specs.unit_model.specs.window_config.specs.declared.config.Config.{Config}
-use Rattle.du_intake.specs.Calls.{IntakeMayTake}
-use Rattle.ru_buffers.specs.Calls.{RadioMayTake}
+use Rattle.unit_model.specs.Proper.{IsTime}
+use Rattle.unit_model.specs.Radiated.{first_clock}
+use Rattle.unit_model.specs.declared.allocations.Allocation.{Allocation}
+use Rattle.window_config.specs.declared.config.Config.{Config}
+use Rattle.ru_buffers.specs.Calls.{RadioMayTake, HasGivenPast, StandsFor, radio_clock}
 use Rattle.replay_turns.specs.IntakeTurns.{AtIntakeTurn, planned_for}
 use Rattle.replay_turns.specs.Turns.{AtRadioTurn}
-use Rattle.ru_buffers.specs.Calls.{HasGivenPast, StandsFor, radio_clock}
 use Rattle.ru_buffers.specs.declared.unit.Ru.{Ru}
-use Rattle.ru_buffers.specs.radio_laws.proofs.QuietLemmas.{left_less}
-use Rattle.ru_buffers.specs.radio_laws.specs.Reporting.{due_of}
+use Rattle.radio_laws.proofs.QuietLemmas.{left_less}
+use Rattle.radio_laws.specs.Reporting.{due_of}
 
 pub is_ready : (d : Document) (tick : ℤ) (u : Ru) → AtRadioTurn d tick u → HasGivenPast u
 is_ready d tick u a =

@@ -7,21 +7,21 @@ use Rattle.air_source.specs.declared.events.Event.{Event}
 use Rattle.air_source.specs.declared.events.Event.TheVariants as event
 use Rattle.air_source.specs.declared.events.Side.{Side}
 use Rattle.air_source.specs.declared.events.Side.TheVariants.{Ru as AtRu, Du as AtDu}
-use Rattle.measured_traffic.specs.fh_document.specs.declared.document.Document.{Document}
+use Rattle.fh_document.specs.declared.document.Document.{Document}
 use Rattle.measured_traffic.specs.Replayed.{traffic_of}
-use Rattle.measured_traffic.specs.replay_events.proofs.EventLemmas.{events_go_on}
-use Rattle.measured_traffic.specs.replay_events.proofs.HeardLemmas.{AreOf, arrivals-append, cells-append, tick_of_side}
-use Rattle.measured_traffic.specs.replay_events.proofs.ToldLemmas.{told_all}
-use Rattle.measured_traffic.specs.replay_events.specs.Events.{arrivals_at, cells_reported_at, events_at, start_of}
-use Rattle.measured_traffic.specs.replay_events.specs.Heard.{arrivals_heard, cells_heard, is_of}
-use Rattle.measured_traffic.specs.replay_events.specs.Moments.{all_arrivals, landing_at}
-use Rattle.measured_traffic.specs.replay_events.specs.Traffic.{known_at, landings_at}
+use Rattle.replay_events.proofs.EventLemmas.{events_go_on}
+use Rattle.replay_events.proofs.HeardLemmas.{AreOf, arrivals-append, cells-append, tick_of_side}
+use Rattle.replay_events.proofs.ToldLemmas.{told_all}
+use Rattle.replay_events.specs.Events.{arrivals_at, cells_reported_at, events_at, start_of}
+use Rattle.replay_events.specs.Heard.{arrivals_heard, cells_heard, is_of}
+use Rattle.replay_events.specs.Moments.{all_arrivals, landing_at}
+use Rattle.replay_events.specs.Traffic.{known_at, landings_at}
 use Rattle.ru_buffers.specs.declared.unit.Ru.{Ru}
 use Rattle.unit_moments.specs.Stops.{RestsBehind}
-use Rattle.measured_traffic.specs.unit_model.specs.Meetings.{Arrival}
-use Rattle.measured_traffic.specs.unit_model.specs.Radiated.{first_clock}
+use Rattle.unit_model.specs.Meetings.{Arrival}
+use Rattle.unit_model.specs.Radiated.{first_clock}
 use Rattle.replay_turns.specs.Turns.{AtRadioTurn, IsRadioInStep, events_before, intake_events, radio_events}
-use Rattle.ru_buffers.specs.radio_laws.specs.history_laws.proofs.AddedLemmas.{in_front}
+use Rattle.history_laws.proofs.AddedLemmas.{in_front}
 
 -- ---- events of one unit
 

@@ -6,29 +6,28 @@ use Rattle.air_source.specs.declared.events.AirCell.{AirCell}
 use Rattle.air_source.specs.declared.events.Event.{Event}
 use Rattle.air_source.specs.declared.events.Event.TheVariants.{Cell}
 use Rattle.air_source.specs.declared.events.Side.TheVariants.{Ru as AtRu}
-use Rattle.measured_traffic.specs.document_traffic.specs.Laws.{IsReplayable}
-use Rattle.measured_traffic.specs.fh_document.specs.declared.document.Document.{Document}
+use Rattle.document_traffic.specs.Laws.{IsReplayable}
+use Rattle.fh_document.specs.declared.document.Document.{Document}
 use Rattle.measured_traffic.specs.Doings.{Doings}
 use Rattle.measured_traffic.specs.Replayed.{landings_for, results_at}
-use Rattle.measured_traffic.specs.replay_events.proofs.HeardLemmas.{AreOf, arrivals-append, arrivals-cells, cells-append, cells-arrivals, cells-own, due_of_side}
-use Rattle.measured_traffic.specs.replay_events.specs.Events.{arrivals_told}
-use Rattle.measured_traffic.specs.replay_events.specs.Heard.{arrivals_heard, cells_heard}
-use Rattle.measured_traffic.specs.replay_events.specs.Moments.{end_of_time, landing_at}
-use Rattle.ru_buffers.specs.Calls.{StandsFor, StopsAtDue}
-use Rattle.ru_buffers.specs.radio_laws.specs.Reporting.{due_of}
+use Rattle.replay_events.proofs.HeardLemmas.{AreOf, arrivals-append, arrivals-cells, cells-append, cells-arrivals, cells-own, due_of_side}
+use Rattle.replay_events.specs.Events.{arrivals_told}
+use Rattle.replay_events.specs.Heard.{arrivals_heard, cells_heard}
+use Rattle.replay_events.specs.Moments.{end_of_time, landing_at}
+use Rattle.ru_buffers.specs.Calls.{StandsFor, StopsAtDue, RadioMayTake}
+use Rattle.radio_laws.specs.Reporting.{due_of}
 use Rattle.ru_buffers.specs.declared.unit.Ru.{Ru}
-use Rattle.measured_traffic.specs.unit_model.specs.Meetings.{Arrival}
-use Rattle.measured_traffic.specs.unit_model.specs.Reports.{ru_known}
-use Rattle.measured_traffic.specs.unit_model.specs.Standing.{History, at_clock, heard}
-use Rattle.measured_traffic.specs.replay_events.specs.history_laws.proofs.ListLemmas.{front_empty}
+use Rattle.unit_model.specs.Meetings.{Arrival}
+use Rattle.unit_model.specs.Reports.{ru_known}
+use Rattle.unit_model.specs.Standing.{History, at_clock, heard}
+use Rattle.history_laws.proofs.ListLemmas.{front_empty}
 use Rattle.unit_moments.specs.Landing.{HasTaken, told_of_frames}
-use Rattle.ru_buffers.specs.Calls.{RadioMayTake}
-use Rattle.measured_traffic.specs.document_delays.specs.Settings.{compensation_of}
+use Rattle.document_delays.specs.Settings.{compensation_of}
 use Rattle.unit_moments.specs.Stops.{HaltsBehind, StopsBehind}
 use Rattle.replay_turns.specs.Turns.{IsRadioInStep, IsRadioTurn, events_before, radio_events}
 use Rattle.unit_moments.proofs.StopLemmas.{halts_behind, halts_moved, stops_behind, stops_moved}
 use Rattle.replay_turns.proofs.TurnLemmas.{due_here}
-use Rattle.ru_buffers.specs.history_laws.proofs.AddedLemmas.{in_front}
+use Rattle.history_laws.proofs.AddedLemmas.{in_front}
 
 -- ---- the radio unit's cells
 

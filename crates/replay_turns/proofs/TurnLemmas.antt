@@ -7,44 +7,44 @@ use Rattle.air_source.specs.declared.events.AirCell.{AirCell}
 use Rattle.air_source.specs.declared.events.Event.TheVariants.{Cell}
 use Rattle.air_source.specs.declared.events.Side.{Side}
 use Rattle.air_source.specs.declared.events.Side.TheVariants.{Ru as AtRu, Du as AtDu}
-use Rattle.measured_traffic.specs.document_traffic.specs.Laws.{IsReplayable}
-use Rattle.measured_traffic.specs.fh_document.specs.declared.document.Document.{Document}
+use Rattle.document_traffic.specs.Laws.{IsReplayable}
+use Rattle.fh_document.specs.declared.document.Document.{Document}
 use Rattle.measured_traffic.proofs.ReplayedLemmas.{landings_are_replayed}
 use Rattle.measured_traffic.specs.Replayed.{landings_for, results_at, traffic_of}
-use Rattle.measured_traffic.specs.replay_events.proofs.CameLemmas.{arrivals_go_on, calm_adds_nothing, none_yet}
-use Rattle.measured_traffic.specs.replay_events.proofs.EventLemmas.{events_wait}
-use Rattle.measured_traffic.specs.replay_events.proofs.HeardLemmas.{AreOf, tick_of_side, arrivals-append, arrivals-cells, arrivals-none, arrivals-own, cells-append, cells-arrivals, cells-none, cells-own}
-use Rattle.measured_traffic.specs.replay_events.proofs.MomentLemmas.{due_at_moment, reported_at_moment, reported_before_moment}
-use Rattle.measured_traffic.specs.replay_events.proofs.TickLemmas.{no_ticks}
-use Rattle.measured_traffic.specs.replay_events.proofs.ToldLemmas.{Results}
-use Rattle.measured_traffic.specs.replay_events.specs.Events.{arrivals_at, arrivals_told, cells_reported_at, events_at, start_of}
-use Rattle.measured_traffic.specs.replay_events.specs.Heard.{arrivals_heard, cells_heard}
-use Rattle.measured_traffic.specs.replay_events.specs.Moments.{all_arrivals, arrivals_before, end_of_time, landing_at}
-use Rattle.measured_traffic.specs.replay_events.specs.Passing.{AreLandings, IsCalm, IsNextMoment, IsUnitMoment, due_from}
-use Rattle.measured_traffic.specs.replay_events.specs.Traffic.{known_at, landings_at}
-use Rattle.measured_traffic.specs.replay_events.specs.unit_laws.proofs.DueLemmas.{all_is_due, due_in_pieces}
-use Rattle.ru_buffers.specs.radio_laws.proofs.QuietLemmas.{left_less, sweep_less}
+use Rattle.replay_events.proofs.CameLemmas.{arrivals_go_on, calm_adds_nothing, none_yet}
+use Rattle.replay_events.proofs.EventLemmas.{events_wait}
+use Rattle.replay_events.proofs.HeardLemmas.{AreOf, tick_of_side, arrivals-append, arrivals-cells, arrivals-none, arrivals-own, cells-append, cells-arrivals, cells-none, cells-own}
+use Rattle.replay_events.proofs.MomentLemmas.{due_at_moment, reported_at_moment, reported_before_moment}
+use Rattle.replay_events.proofs.TickLemmas.{no_ticks}
+use Rattle.replay_events.proofs.ToldLemmas.{Results}
+use Rattle.replay_events.specs.Events.{arrivals_at, arrivals_told, cells_reported_at, events_at, start_of}
+use Rattle.replay_events.specs.Heard.{arrivals_heard, cells_heard}
+use Rattle.replay_events.specs.Moments.{all_arrivals, arrivals_before, end_of_time, landing_at}
+use Rattle.replay_events.specs.Passing.{AreLandings, IsCalm, IsNextMoment, IsUnitMoment, due_from}
+use Rattle.replay_events.specs.Traffic.{known_at, landings_at}
+use Rattle.unit_laws.proofs.DueLemmas.{all_is_due, due_in_pieces}
+use Rattle.radio_laws.proofs.QuietLemmas.{left_less, sweep_less}
 use Rattle.ru_buffers.specs.Calls.{IsQuietTo, StandsFor}
-use Rattle.ru_buffers.specs.radio_laws.specs.Reporting.{due_of}
-use Rattle.ru_buffers.specs.radio_laws.specs.Units.{left_up_to}
+use Rattle.radio_laws.specs.Reporting.{due_of}
+use Rattle.radio_laws.specs.Units.{left_up_to}
 use Rattle.ru_buffers.specs.declared.unit.Ru.{Ru}
-use Rattle.ru_buffers.specs.ru_jobs.specs.declared.cursor.JobCursor.{JobCursor}
-use Rattle.ru_buffers.specs.unit_cells.specs.Cells.{CellsValue}
-use Rattle.measured_traffic.specs.unit_model.proofs.SweepLaws.{sweep_quiet}
-use Rattle.measured_traffic.specs.unit_model.specs.Lists.{onto}
-use Rattle.measured_traffic.specs.unit_model.specs.Meetings.{Arrival}
-use Rattle.measured_traffic.specs.unit_model.specs.Radiated.{Known, first_clock, reported, wait_of}
-use Rattle.measured_traffic.specs.unit_model.specs.Reports.{ru_known}
-use Rattle.measured_traffic.specs.unit_model.specs.Standing.{History, at_clock, due, heard, nothing_yet}
-use Rattle.measured_traffic.specs.uplink_turns.proofs.GivenLemmas.{owes_none}
-use Rattle.measured_traffic.specs.uplink_turns.proofs.JobLemmas.{no_jobs_before}
-use Rattle.measured_traffic.specs.uplink_turns.specs.Given.{HasSeen}
-use Rattle.measured_traffic.specs.uplink_turns.specs.Turns.{jobs_until}
-use Rattle.measured_traffic.specs.unit_model.specs.window_config.specs.Configs.{IsConfig}
-use Rattle.measured_traffic.specs.unit_model.specs.window_config.specs.declared.config.Config.{Config}
-use Rattle.measured_traffic.specs.unit_model.specs.window_config.specs.declared.delays.Delays.{Delays}
-use Rattle.measured_traffic.specs.unit_model.specs.window_config.specs.declared.endpoints.EndpointConfig.{EndpointConfig}
-use Rattle.measured_traffic.specs.replay_events.specs.history_laws.proofs.TickLemmas.{last_is_earlier, last_reached, clock_begins}
+use Rattle.ru_jobs.specs.declared.cursor.JobCursor.{JobCursor}
+use Rattle.unit_cells.specs.Cells.{CellsValue}
+use Rattle.unit_model.proofs.SweepLaws.{sweep_quiet}
+use Rattle.unit_model.specs.Lists.{onto}
+use Rattle.unit_model.specs.Meetings.{Arrival}
+use Rattle.unit_model.specs.Radiated.{Known, first_clock, reported, wait_of}
+use Rattle.unit_model.specs.Reports.{ru_known}
+use Rattle.unit_model.specs.Standing.{History, at_clock, due, heard, nothing_yet}
+use Rattle.uplink_turns.proofs.GivenLemmas.{owes_none}
+use Rattle.uplink_turns.proofs.JobLemmas.{no_jobs_before}
+use Rattle.uplink_turns.specs.Given.{HasSeen}
+use Rattle.uplink_turns.specs.Turns.{jobs_until}
+use Rattle.window_config.specs.Configs.{IsConfig}
+use Rattle.window_config.specs.declared.config.Config.{Config}
+use Rattle.window_config.specs.declared.delays.Delays.{Delays}
+use Rattle.window_config.specs.declared.endpoints.EndpointConfig.{EndpointConfig}
+use Rattle.history_laws.proofs.TickLemmas.{last_is_earlier, last_reached, clock_begins}
 use Rattle.replay_turns.specs.Turns.{AtRadioTurn, HasRadioLanded, IsRadioLanded, IsRadioTurn, events_before, radio_events}
 use Rattle.unit_moments.specs.Landing.{clock_behind, landed}
 use Rattle.fh_time.proofs.Orders.{at_most, before_it, up_to}

@@ -18,24 +18,24 @@ use Rattle.measured_traffic.proofs.SentLemmas.{messages_are_owed}
 use Rattle.measured_traffic.proofs.TurnLemmas.{made_leave}
 use Rattle.measured_traffic.specs.Measured.{exchanges}
 use Rattle.measured_traffic.specs.Replayed.{landings_for, leaving_made, leaving_with, made_at}
-use Rattle.measured_traffic.specs.document_traffic.proofs.AnswerLemmas.{handed_is_sent}
-use Rattle.measured_traffic.specs.document_traffic.proofs.ShortLemmas.{are_short}
-use Rattle.measured_traffic.specs.document_traffic.specs.Landing.{antenna_for, handed_for, leaving_answer, leaving_up}
-use Rattle.measured_traffic.specs.document_traffic.specs.Laws.{IsReplayable}
-use Rattle.measured_traffic.specs.fh_document.specs.declared.document.Document.{Document}
-use Rattle.measured_traffic.specs.plan_model.proofs.ListLemmas.{all_of, in_filter, in_left, of_filter}
-use Rattle.measured_traffic.specs.fragment_laws.specs.Apart.{IsIn}
-use Rattle.measured_traffic.specs.replay_events.specs.Moments.{end_of_time}
-use Rattle.measured_traffic.specs.replay_events.specs.history_laws.proofs.TickLemmas.{last_of_next}
-use Rattle.measured_traffic.specs.schedule_laws.proofs.ListLemmas.{in_all, of_each}
-use Rattle.measured_traffic.specs.unit_model.specs.Radiated.{first_clock}
-use Rattle.measured_traffic.specs.unit_model.specs.declared.jobs.UplinkJob.{UplinkJob}
-use Rattle.measured_traffic.specs.uplink_laws.specs.Premise.{frames_of}
-use Rattle.measured_traffic.specs.uplink_model.proofs.SentLemmas.{leaving_leave_then}
-use Rattle.measured_traffic.specs.uplink_model.specs.Sent.{frames_leaving, leaves_at, leaving_at}
-use Rattle.measured_traffic.specs.uplink_turns.proofs.HandedLemmas.{handed_go_on_from}
-use Rattle.measured_traffic.specs.uplink_turns.proofs.LeavingLemmas.{left_goes_on, left_leave_later}
-use Rattle.measured_traffic.specs.uplink_turns.specs.Turns.{handed_between, handed_until}
+use Rattle.document_traffic.proofs.AnswerLemmas.{handed_is_sent}
+use Rattle.document_traffic.proofs.ShortLemmas.{are_short}
+use Rattle.document_traffic.specs.Landing.{antenna_for, handed_for, leaving_answer, leaving_up}
+use Rattle.document_traffic.specs.Laws.{IsReplayable}
+use Rattle.fh_document.specs.declared.document.Document.{Document}
+use Rattle.plan_model.proofs.ListLemmas.{all_of, in_filter, in_left, of_filter}
+use Rattle.fragment_laws.specs.Apart.{IsIn}
+use Rattle.replay_events.specs.Moments.{end_of_time}
+use Rattle.history_laws.proofs.TickLemmas.{last_of_next}
+use Rattle.schedule_laws.proofs.ListLemmas.{in_all, of_each}
+use Rattle.unit_model.specs.Radiated.{first_clock}
+use Rattle.unit_model.specs.declared.jobs.UplinkJob.{UplinkJob}
+use Rattle.uplink_laws.specs.Premise.{frames_of}
+use Rattle.uplink_model.proofs.SentLemmas.{leaving_leave_then}
+use Rattle.uplink_model.specs.Sent.{frames_leaving, leaves_at, leaving_at}
+use Rattle.uplink_turns.proofs.HandedLemmas.{handed_go_on_from}
+use Rattle.uplink_turns.proofs.LeavingLemmas.{left_goes_on, left_leave_later}
+use Rattle.uplink_turns.specs.Turns.{handed_between, handed_until}
 use Rattle.send_queue.specs.Queues.{WaitsFor}
 use Rattle.unit_moments.specs.Made.{made_as}
 use Rattle.uplink_path.specs.declared.uplink.Uplink.{Uplink}

@@ -17,10 +17,10 @@ use Rattle.frame_ways.proofs.MoreLemmas.{among-append, behind-append}
 use Rattle.frame_ways.proofs.Ticks.{next_after}
 use Rattle.frame_ways.proofs.TimeLemmas.{stands_until}
 use Rattle.measured_traffic.specs.Replayed.{all_leaving, landings_for}
-use Rattle.measured_traffic.specs.fh_document.specs.Proper.{IsDocument}
-use Rattle.measured_traffic.specs.fh_document.specs.declared.document.Document.{Document}
-use Rattle.measured_traffic.specs.unit_model.specs.Meetings.{Arrival}
-use Rattle.measured_traffic.specs.unit_model.specs.Radiated.{first_clock}
+use Rattle.fh_document.specs.Proper.{IsDocument}
+use Rattle.fh_document.specs.declared.document.Document.{Document}
+use Rattle.unit_model.specs.Meetings.{Arrival}
+use Rattle.unit_model.specs.Radiated.{first_clock}
 use Rattle.replay_turns.specs.Waiting.{LandsAfter, Waits, on_way}
 
 -- ---- nothing was sent, and one more is

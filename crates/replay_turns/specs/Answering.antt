@@ -4,10 +4,10 @@ use Rattle.air_source.specs.declared.links.LinkFrame.{LinkFrame}
 use Rattle.air_source.specs.declared.places.RePlace.{RePlace}
 use Rattle.bfp_codec.specs.declared.samples.Wide.{Wide}
 use Rattle.frame_ways.specs.declared.way.Way.{Way}
-use Rattle.measured_traffic.specs.document_traffic.specs.Laws.{IsReplayable}
-use Rattle.measured_traffic.specs.fh_document.specs.declared.document.Document.{Document}
-use Rattle.measured_traffic.specs.replay_events.specs.Moments.{end_of_time}
-use Rattle.measured_traffic.specs.unit_model.specs.Radiated.{first_clock}
+use Rattle.document_traffic.specs.Laws.{IsReplayable}
+use Rattle.fh_document.specs.declared.document.Document.{Document}
+use Rattle.replay_events.specs.Moments.{end_of_time}
+use Rattle.unit_model.specs.Radiated.{first_clock}
 use Rattle.ru_buffers.specs.declared.unit.Ru.{Ru}
 use Rattle.uplink_path.specs.declared.uplink.Uplink.{Uplink}
 use Rattle.replay_turns.specs.Turns.{AtRadioTurn, HasRadioLanded}

@@ -6,14 +6,14 @@ use Rattle.measured_traffic.specs.Replayed.{landings_for, traffic_of}
 use Rattle.du_intake.specs.Calls.{IntakeStandsFor, intake_clock}
 use Rattle.du_intake.specs.Units.{intake_due_of}
 use Rattle.du_intake.specs.declared.unit.Intake.{Intake}
-use Rattle.measured_traffic.specs.fh_document.specs.declared.document.Document.{Document}
-use Rattle.measured_traffic.specs.replay_events.specs.Heard.{arrivals_heard, cells_heard}
-use Rattle.measured_traffic.specs.replay_events.specs.Moments.{arrivals_before, end_of_time}
+use Rattle.fh_document.specs.declared.document.Document.{Document}
+use Rattle.replay_events.specs.Heard.{arrivals_heard, cells_heard}
+use Rattle.replay_events.specs.Moments.{arrivals_before, end_of_time}
 use Rattle.replay_turns.specs.Turns.{events_before, radio_events}
-use Rattle.measured_traffic.specs.unit_model.specs.Radiated.{first_clock}
-use Rattle.measured_traffic.specs.unit_model.specs.Reports.{du_reported}
-use Rattle.measured_traffic.specs.unit_model.specs.Standing.{History}
-use Rattle.measured_traffic.specs.unit_model.specs.declared.allocations.Allocation.{Allocation}
+use Rattle.unit_model.specs.Radiated.{first_clock}
+use Rattle.unit_model.specs.Reports.{du_reported}
+use Rattle.unit_model.specs.Standing.{History}
+use Rattle.unit_model.specs.declared.allocations.Allocation.{Allocation}
 
 -- what the plan's uplink lines name
 abbrev pub planned_for : Document → List Allocation

@@ -1,11 +1,3 @@
-pub use Rattle.du_intake
-pub use Rattle.du_scheduler
-pub use Rattle.frame_sending
-pub use Rattle.measured_traffic
-pub use Rattle.ru_buffers
-pub use Rattle.unit_meters
-pub use Rattle.unit_moments
-pub use Rattle.uplink_path
 pub mod Waiting
 pub mod Turns
 pub mod IntakeTurns

@@ -3,9 +3,9 @@ use Rattle.std.specs.Prelude.{ℤ, pos, ◌+ℤ◌, List, map}
 use Rattle.air_source.specs.declared.events.Side.TheVariants.{Ru, Du}
 use Rattle.delay_measure.specs.declared.edge.Edge.{Edge}
 use Rattle.measured_traffic.specs.Replayed.{doings_at}
-use Rattle.measured_traffic.specs.delay_laws.specs.Ticks.{Begin}
-use Rattle.measured_traffic.specs.document_delays.specs.Settings.{begin_of, compensation_of}
-use Rattle.measured_traffic.specs.fh_document.specs.declared.document.Document.{Document}
+use Rattle.delay_laws.specs.Ticks.{Begin}
+use Rattle.document_delays.specs.Settings.{begin_of, compensation_of}
+use Rattle.fh_document.specs.declared.document.Document.{Document}
 use Rattle.unit_meters.specs.Begins.{MetersStand}
 use Rattle.unit_meters.specs.declared.meters.Meters.{Meters}
 use Rattle.replay_turns.specs.Waiting.{begun_at}

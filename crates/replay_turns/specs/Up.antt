@@ -10,11 +10,11 @@ use Rattle.frame_deliveries.specs.Leaving.{Leaving}
 use Rattle.frame_ways.specs.Ways.{IsCalmTo, landings_on}
 use Rattle.frame_ways.specs.declared.way.Way.{Way}
 use Rattle.measured_traffic.specs.Replayed.{landings_for, leaving_with}
-use Rattle.measured_traffic.specs.document_traffic.specs.Landing.{antenna_for, leaving_answer}
-use Rattle.measured_traffic.specs.fh_document.specs.declared.document.Document.{Document}
-use Rattle.measured_traffic.specs.uplink_turns.specs.Turns.{handed_until, left_from, messages_until}
+use Rattle.document_traffic.specs.Landing.{antenna_for, leaving_answer}
+use Rattle.fh_document.specs.declared.document.Document.{Document}
+use Rattle.uplink_turns.specs.Turns.{handed_until, left_from, messages_until}
 use Rattle.send_queue.specs.Queues.{IsSilentTo, WaitsFor}
-use Rattle.measured_traffic.specs.unit_model.specs.Lists.{onto}
+use Rattle.unit_model.specs.Lists.{onto}
 use Rattle.uplink_path.specs.Emitting.{AreNumbered, kept_antenna}
 use Rattle.uplink_path.specs.declared.uplink.Uplink.{Uplink}
 use Rattle.replay_turns.specs.Waiting.{Waits, on_way}

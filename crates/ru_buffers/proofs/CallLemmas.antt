@@ -5,31 +5,31 @@ use Rattle.std.proofs.lemmas.Bool.{cases_Bool}
 use Rattle.std.proofs.lemmas.Int.{ints}
 use Rattle.std.proofs.lemmas.List.Elements.{All-drop, All-head}
 use Rattle.fault_counters.specs.declared.kinds.Counter.{Counter}
-use Rattle.radio_laws.specs.history_laws.specs.air_source.specs.declared.events.Side.TheVariants.{Ru}
-use Rattle.radio_laws.specs.history_laws.specs.window_config.specs.declared.config.Config.{Config}
-use Rattle.radio_laws.specs.history_laws.specs.unit_model.specs.Counts.{cells_counted}
-use Rattle.radio_laws.specs.history_laws.specs.unit_model.specs.Meetings.{Arrival}
-use Rattle.radio_laws.specs.history_laws.specs.unit_model.specs.Radiated.{first_clock}
-use Rattle.radio_laws.specs.history_laws.specs.unit_model.specs.Proper.{IsTime}
-use Rattle.radio_laws.specs.history_laws.specs.unit_model.specs.ProperJobs.{IsProperJob}
-use Rattle.radio_laws.specs.history_laws.specs.unit_model.specs.Reports.{accepted_of}
-use Rattle.radio_laws.specs.history_laws.specs.unit_model.specs.Uplink.{jobs}
-use Rattle.radio_laws.specs.history_laws.specs.unit_model.specs.declared.jobs.UplinkJob.{UplinkJob}
-use Rattle.radio_laws.specs.history_laws.proofs.SendingLemmas.{jobs_are_proper}
-use Rattle.radio_laws.specs.history_laws.specs.unit_model.specs.Standing.{History, arrived, at_clock, handed, nothing_yet, owed_until}
-use Rattle.radio_laws.specs.history_laws.specs.unit_model.specs.declared.symbol_start.SymbolStart.{SymbolStart}
-use Rattle.radio_laws.specs.history_laws.specs.unit_laws.specs.Runs.{OffsetsFit}
+use Rattle.air_source.specs.declared.events.Side.TheVariants.{Ru}
+use Rattle.window_config.specs.declared.config.Config.{Config}
+use Rattle.unit_model.specs.Counts.{cells_counted}
+use Rattle.unit_model.specs.Meetings.{Arrival}
+use Rattle.unit_model.specs.Radiated.{first_clock}
+use Rattle.unit_model.specs.Proper.{IsTime}
+use Rattle.unit_model.specs.ProperJobs.{IsProperJob}
+use Rattle.unit_model.specs.Reports.{accepted_of}
+use Rattle.unit_model.specs.Uplink.{jobs}
+use Rattle.unit_model.specs.declared.jobs.UplinkJob.{UplinkJob}
+use Rattle.history_laws.proofs.SendingLemmas.{jobs_are_proper}
+use Rattle.unit_model.specs.Standing.{History, arrived, at_clock, handed, nothing_yet, owed_until}
+use Rattle.unit_model.specs.declared.symbol_start.SymbolStart.{SymbolStart}
+use Rattle.unit_laws.specs.Runs.{OffsetsFit}
 use Rattle.fh_time.specs.declared.values.Ticks.{Ticks}
-use Rattle.radio_laws.specs.history_laws.proofs.FirstLemmas.{first_is_first, nothing_is_nothing}
-use Rattle.radio_laws.specs.history_laws.specs.unit_model.specs.Starts.{start_at}
-use Rattle.radio_laws.specs.history_laws.specs.unit_model.specs.declared.cells.Cell.{Cell}
-use Rattle.radio_laws.specs.history_laws.specs.unit_laws.proofs.SweepLemmas.{tick-nothing}
-use Rattle.ru_reports.specs.unit_cells.specs.Cells.{CellsValue, cells_reported, cells_uplink, endpoints_of}
-use Rattle.ru_reports.specs.unit_cells.specs.Keeping.{SameKnown, SameReported}
+use Rattle.history_laws.proofs.FirstLemmas.{first_is_first, nothing_is_nothing}
+use Rattle.unit_model.specs.Starts.{start_at}
+use Rattle.unit_model.specs.declared.cells.Cell.{Cell}
+use Rattle.unit_laws.proofs.SweepLemmas.{tick-nothing}
+use Rattle.unit_cells.specs.Cells.{CellsValue, cells_reported, cells_uplink, endpoints_of}
+use Rattle.unit_cells.specs.Keeping.{SameKnown, SameReported}
 use Rattle.ru_jobs.specs.Cursors.{GivenOne, IsFirstJob, Settled, jobs_left}
 use Rattle.ru_jobs.specs.declared.cursor.NextJob.{NextJob}
 use Rattle.ru_reports.specs.Symbols.{is_left}
-use Rattle.ru_reports.specs.symbol_search.specs.Symbols.{IsSymbol}
+use Rattle.symbol_search.specs.Symbols.{IsSymbol}
 use Rattle.ru_jobs.specs.declared.cursor.JobCursor.{JobCursor}
 use Rattle.unit_memory.specs.Memory.{Holds, HoldsSome, arrival_at}
 use Rattle.unit_memory.specs.declared.memory.UnitMemory.{UnitMemory}
@@ -46,7 +46,7 @@ use Rattle.radio_laws.proofs.ReportedLemmas.{left_same}
 use Rattle.radio_laws.proofs.QuietLemmas.{left_less}
 use Rattle.radio_laws.proofs.ReportLemmas.{nothing_before_first, nothing_is_due, something_at_first}
 use Rattle.radio_laws.proofs.MadeLemmas.{made, no_messages}
-use Rattle.radio_laws.specs.history_laws.specs.unit_model.proofs.SweepLaws.{sweep_quiet as sweep-nothing}
+use Rattle.unit_model.proofs.SweepLaws.{sweep_quiet as sweep-nothing}
 
 -- ---- a unit that was made
 

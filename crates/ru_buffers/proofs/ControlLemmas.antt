@@ -3,24 +3,22 @@ use Rattle.std.proofs.Common.{◌≡◌, ℕ, ℤ, Bool, true, false, ◌||◌, 
 use Rattle.std.specs.Prelude.{nat_lt, if◌then◌else◌}
 use Rattle.std.specs.List.{list_any}
 use Rattle.std.proofs.lemmas.Bool.{or_parts}
-use Rattle.radio_laws.specs.history_laws.specs.air_source.specs.declared.events.Side.TheVariants.{Ru}
-use Rattle.radio_laws.specs.history_laws.specs.ecpri_fragments.specs.Generations.{Fragment}
+use Rattle.air_source.specs.declared.events.Side.TheVariants.{Ru}
+use Rattle.ecpri_fragments.specs.Generations.{Fragment}
 use Rattle.fault_counters.specs.declared.kinds.Counter.{Counter}
 use Rattle.fault_counters.specs.declared.kinds.Counter.TheVariants.{Delay, OtherType, Short, UnknownEndpoint}
 use Rattle.ecpri_frames.specs.Gathering.{whole_messages}
 use Rattle.ecpri_frames.specs.Messages.{Message}
-use Rattle.radio_laws.specs.history_laws.specs.window_config.specs.declared.config.Config.{Config}
-use Rattle.radio_laws.specs.history_laws.specs.window_config.specs.declared.endpoints.EndpointConfig.{EndpointConfig}
-use Rattle.radio_laws.specs.history_laws.specs.unit_model.specs.Commands.{accepted}
-use Rattle.radio_laws.specs.history_laws.specs.unit_model.specs.Lists.{onto}
-use Rattle.radio_laws.specs.history_laws.specs.unit_model.specs.Meetings.{Arrival, Meeting, Ignored, Piece, commands, control_met, find_endpoint, fragment_of, meet, meetings, met_by}
-use Rattle.radio_laws.specs.history_laws.specs.unit_model.specs.Reports.{accepted_of}
-use Rattle.radio_laws.specs.history_laws.specs.unit_model.specs.declared.decoded.ControlSection.{ControlSection}
+use Rattle.window_config.specs.declared.config.Config.{Config}
+use Rattle.window_config.specs.declared.endpoints.EndpointConfig.{EndpointConfig}
+use Rattle.unit_model.specs.Commands.{accepted}
+use Rattle.unit_model.specs.Lists.{onto}
+use Rattle.unit_model.specs.Meetings.{Arrival, Meeting, Ignored, Piece, commands, control_met, find_endpoint, fragment_of, meet, meetings, met_by}
+use Rattle.unit_model.specs.Reports.{accepted_of}
+use Rattle.unit_model.specs.declared.decoded.ControlSection.{ControlSection}
 use Rattle.unit_memory.specs.Control.{has_control, is_control}
-use Rattle.ecpri_frames.specs.declared.heads.TheConstants.{ONE_WAY_DELAY}
-use Rattle.ecpri_frames.specs.declared.heads.TheConstants.{REAL_TIME_CONTROL}
-use Rattle.ecpri_frames.specs.declared.heads.TheConstants.{IQ_DATA}
-use Rattle.radio_laws.specs.history_laws.specs.ecpri_fragments.specs.Sequence.{id_of}
+use Rattle.ecpri_frames.specs.declared.heads.TheConstants.{ONE_WAY_DELAY, REAL_TIME_CONTROL, IQ_DATA}
+use Rattle.ecpri_fragments.specs.Sequence.{id_of}
 
 abbrev Adds : Meeting → Type 0
 Adds m = (earlier : List Meeting) → commands (m ∷ earlier) ≡ commands earlier

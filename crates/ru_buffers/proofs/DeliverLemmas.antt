@@ -1,9 +1,9 @@
 -- What comes next once a frame was delivered: without commands it is what was kept.
 use Rattle.std.proofs.Common.{◌≡◌, ℤ, Bool, true, false, List, ℕ, refl, sym, ◌∙◌, subst, inl, inr, Option}
 use Rattle.std.proofs.lemmas.Bool.{cases_Bool}
-use Rattle.radio_laws.specs.history_laws.specs.window_config.specs.declared.config.Config.{Config}
-use Rattle.radio_laws.specs.history_laws.specs.unit_model.specs.Standing.{History, arrived}
-use Rattle.radio_laws.specs.history_laws.specs.unit_model.specs.declared.symbol_start.SymbolStart.{SymbolStart}
+use Rattle.window_config.specs.declared.config.Config.{Config}
+use Rattle.unit_model.specs.Standing.{History, arrived}
+use Rattle.unit_model.specs.declared.symbol_start.SymbolStart.{SymbolStart}
 use Rattle.ru_jobs.specs.Cursors.{Settled}
 use Rattle.ru_jobs.specs.declared.cursor.JobCursor.{JobCursor}
 use Rattle.ru_jobs.specs.declared.cursor.NextJob.{NextJob}

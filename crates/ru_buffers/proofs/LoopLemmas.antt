@@ -6,17 +6,17 @@ use Rattle.std.proofs.lemmas.List.{map-append}
 use Rattle.std.proofs.lemmas.Option.{slice_get_within}
 use Rattle.fh_time.specs.declared.values.Ticks.{Ticks}
 use Rattle.fh_time.proofs.Order.{slots_few, symbols_few}
-use Rattle.radio_laws.specs.history_laws.specs.air_source.specs.declared.events.AirCell.{AirCell}
-use Rattle.radio_laws.specs.history_laws.specs.air_source.specs.declared.events.Event.{Event}
-use Rattle.radio_laws.specs.history_laws.specs.air_source.specs.declared.events.Event.TheVariants.{Cell as Reported}
-use Rattle.radio_laws.specs.history_laws.specs.window_config.specs.declared.config.Config.{Config}
-use Rattle.radio_laws.specs.history_laws.specs.unit_model.specs.Order.{comes_before}
-use Rattle.radio_laws.specs.history_laws.specs.unit_model.specs.Standing.{History, heard}
-use Rattle.radio_laws.specs.history_laws.specs.unit_model.specs.declared.symbol_start.SymbolStart.{SymbolStart}
-use Rattle.radio_laws.specs.history_laws.specs.unit_laws.specs.Runs.{OffsetsFit}
-use Rattle.ru_reports.specs.unit_cells.specs.Cells.{CellsValue, endpoints_of}
-use Rattle.ru_reports.specs.unit_cells.specs.Keeping.{SameKnown}
-use Rattle.radio_laws.specs.history_laws.proofs.FirstLemmas.{first_is_first, nothing_is_nothing}
+use Rattle.air_source.specs.declared.events.AirCell.{AirCell}
+use Rattle.air_source.specs.declared.events.Event.{Event}
+use Rattle.air_source.specs.declared.events.Event.TheVariants.{Cell as Reported}
+use Rattle.window_config.specs.declared.config.Config.{Config}
+use Rattle.unit_model.specs.Order.{comes_before}
+use Rattle.unit_model.specs.Standing.{History, heard}
+use Rattle.unit_model.specs.declared.symbol_start.SymbolStart.{SymbolStart}
+use Rattle.unit_laws.specs.Runs.{OffsetsFit}
+use Rattle.unit_cells.specs.Cells.{CellsValue, endpoints_of}
+use Rattle.unit_cells.specs.Keeping.{SameKnown}
+use Rattle.history_laws.proofs.FirstLemmas.{first_is_first, nothing_is_nothing}
 use Rattle.ru_jobs.specs.Cursors.{IsFirstJob, Settled}
 use Rattle.ru_jobs.specs.declared.cursor.JobCursor.{JobCursor}
 use Rattle.ru_jobs.specs.declared.cursor.NextJob.{NextJob}

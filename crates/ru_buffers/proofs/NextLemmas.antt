@@ -7,34 +7,34 @@ use Rattle.std.proofs.lemmas.Int.{ints, by_lt_z}
 use Rattle.fh_time.specs.Air.{air_of}
 use Rattle.fh_time.specs.Numbering.{symbols_of}
 use Rattle.fh_time.proofs.Kept.{offsets_short}
-use Rattle.radio_laws.specs.history_laws.specs.air_source.specs.declared.events.Side.TheVariants.{Ru}
-use Rattle.radio_laws.specs.history_laws.specs.window_config.specs.declared.config.Config.{Config}
-use Rattle.radio_laws.specs.history_laws.specs.window_config.specs.declared.endpoints.EndpointConfig.{EndpointConfig}
-use Rattle.radio_laws.specs.history_laws.specs.air_source.specs.declared.events.AirCell.{AirCell}
-use Rattle.radio_laws.specs.history_laws.specs.unit_model.specs.Claims.{claim_at}
-use Rattle.radio_laws.specs.history_laws.specs.unit_model.specs.Counts.{cells_counted}
-use Rattle.radio_laws.specs.history_laws.specs.unit_model.specs.Lists.{some}
-use Rattle.radio_laws.specs.history_laws.specs.unit_model.specs.Proper.{IsAt, IsSlot}
-use Rattle.radio_laws.specs.history_laws.specs.unit_model.specs.Reports.{accepted_of, timely_of}
-use Rattle.radio_laws.specs.history_laws.specs.unit_model.specs.Standing.{History, cell_heard, uplink_of}
-use Rattle.radio_laws.specs.history_laws.specs.unit_model.specs.Starts.{start_at}
-use Rattle.radio_laws.specs.history_laws.specs.unit_model.specs.Uplink.{symbol_jobs}
-use Rattle.radio_laws.specs.history_laws.specs.unit_model.specs.declared.allocations.Allocation.{Allocation}
-use Rattle.radio_laws.specs.history_laws.specs.unit_model.specs.declared.cells.Claim.{Claim}
-use Rattle.radio_laws.specs.history_laws.specs.unit_model.specs.declared.jobs.UplinkJob.{UplinkJob}
-use Rattle.radio_laws.specs.history_laws.specs.unit_model.specs.declared.symbol_start.SymbolStart.{SymbolStart}
-use Rattle.radio_laws.specs.history_laws.specs.unit_laws.specs.Swept.{IsSwept}
-use Rattle.radio_laws.specs.history_laws.specs.unit_laws.specs.Ticks.{IsLiveSlot}
-use Rattle.radio_laws.specs.history_laws.specs.unit_laws.proofs.FrameLemmas.{symbols_are_swept}
-use Rattle.ru_reports.specs.slot_rings.specs.Places.{is_due}
-use Rattle.ru_reports.specs.unit_cells.specs.Cells.{CellsValue, cells_claim, cells_reported, cells_has, cells_uplink, endpoints_of, ring_of}
-use Rattle.ru_reports.specs.unit_cells.specs.Keeping.{SameKnown}
-use Rattle.ru_reports.specs.unit_cells.proofs.KeepLemmas.{at_config, at_rings}
-use Rattle.ru_reports.specs.unit_cells.proofs.TimeLemmas.{far_no_place, live_at, no_uplink_from}
-use Rattle.radio_laws.specs.history_laws.proofs.FirstLemmas.{first_is_first}
+use Rattle.air_source.specs.declared.events.Side.TheVariants.{Ru}
+use Rattle.window_config.specs.declared.config.Config.{Config}
+use Rattle.window_config.specs.declared.endpoints.EndpointConfig.{EndpointConfig}
+use Rattle.air_source.specs.declared.events.AirCell.{AirCell}
+use Rattle.unit_model.specs.Claims.{claim_at}
+use Rattle.unit_model.specs.Counts.{cells_counted}
+use Rattle.unit_model.specs.Lists.{some}
+use Rattle.unit_model.specs.Proper.{IsAt, IsSlot}
+use Rattle.unit_model.specs.Reports.{accepted_of, timely_of}
+use Rattle.unit_model.specs.Standing.{History, cell_heard, uplink_of}
+use Rattle.unit_model.specs.Starts.{start_at}
+use Rattle.unit_model.specs.Uplink.{symbol_jobs}
+use Rattle.unit_model.specs.declared.allocations.Allocation.{Allocation}
+use Rattle.unit_model.specs.declared.cells.Claim.{Claim}
+use Rattle.unit_model.specs.declared.jobs.UplinkJob.{UplinkJob}
+use Rattle.unit_model.specs.declared.symbol_start.SymbolStart.{SymbolStart}
+use Rattle.unit_laws.specs.Swept.{IsSwept}
+use Rattle.unit_laws.specs.Ticks.{IsLiveSlot}
+use Rattle.unit_laws.proofs.FrameLemmas.{symbols_are_swept}
+use Rattle.slot_rings.specs.Places.{is_due}
+use Rattle.unit_cells.specs.Cells.{CellsValue, cells_claim, cells_reported, cells_has, cells_uplink, endpoints_of, ring_of}
+use Rattle.unit_cells.specs.Keeping.{SameKnown}
+use Rattle.unit_cells.proofs.KeepLemmas.{at_config, at_rings}
+use Rattle.unit_cells.proofs.TimeLemmas.{far_no_place, live_at, no_uplink_from}
+use Rattle.history_laws.proofs.FirstLemmas.{first_is_first}
 use Rattle.ru_jobs.specs.Cursors.{IsFirstJob, Settled, at_start, jobs_left, left_in, left_jobs}
-use Rattle.ru_reports.specs.symbol_search.specs.Symbols.{IsSymbol}
-use Rattle.radio_laws.specs.history_laws.proofs.TickLemmas.{last_before}
+use Rattle.symbol_search.specs.Symbols.{IsSymbol}
+use Rattle.history_laws.proofs.TickLemmas.{last_before}
 use Rattle.ru_jobs.specs.declared.cursor.JobCursor.{JobCursor}
 use Rattle.ru_jobs.specs.declared.cursor.NextJob.{NextJob}
 use Rattle.unit_memory.specs.declared.memory.UnitMemory.{UnitMemory}
@@ -49,9 +49,9 @@ use Rattle.radio_laws.proofs.LeftLemmas.{left_of_none, left_since}
 use Rattle.radio_laws.proofs.LookupLemmas.{left_is}
 use Rattle.radio_laws.proofs.ReportLemmas.{swept_is}
 use Rattle.radio_laws.proofs.SymbolLemmas.{cell_is, claims_are, found, live_here, no_place_ahead, none_is_left}
-use Rattle.radio_laws.specs.history_laws.specs.unit_model.specs.declared.uplink.TheConstants.{SLOT_SECTIONS}
-use Rattle.radio_laws.specs.history_laws.specs.unit_laws.proofs.ReportLemmas.{used_same}
-use Rattle.radio_laws.specs.history_laws.specs.unit_laws.proofs.TickLemmas.{starts_at}
+use Rattle.unit_model.specs.declared.uplink.TheConstants.{SLOT_SECTIONS}
+use Rattle.unit_laws.proofs.ReportLemmas.{used_same}
+use Rattle.unit_laws.proofs.TickLemmas.{starts_at}
 use Rattle.fh_time.proofs.Orders.{later_than}
 
 -- ---- the same is left of a symbol

@@ -6,13 +6,13 @@ use Rattle.std.specs.Ordering.{int_eq}
 use Rattle.std.proofs.lemmas.Int.{ints}
 use Rattle.std.proofs.lemmas.Bool.{ltb-true, eqb-true}
 use Rattle.fh_time.specs.declared.values.Slot.{Slot}
-use Rattle.radio_laws.specs.history_laws.specs.unit_model.specs.Claims.{same_slot}
-use Rattle.radio_laws.specs.history_laws.specs.unit_model.specs.Order.{comes_before, slot_before, symbol_before}
-use Rattle.radio_laws.specs.history_laws.specs.unit_model.specs.declared.symbol_start.SymbolStart.{SymbolStart}
-use Rattle.radio_laws.specs.history_laws.specs.unit_model.proofs.SweepLaws.{gap_is}
+use Rattle.unit_model.specs.Claims.{same_slot}
+use Rattle.unit_model.specs.Order.{comes_before, slot_before, symbol_before}
+use Rattle.unit_model.specs.declared.symbol_start.SymbolStart.{SymbolStart}
+use Rattle.unit_model.proofs.SweepLaws.{gap_is}
 use Rattle.ru_buffers.specs.Advancing.{rank_of, rank_past}
 use Rattle.fh_time.proofs.Orders.{under, same_z}
-use Rattle.radio_laws.specs.history_laws.specs.unit_model.proofs.ClaimLemmas.{same_slot_is as slots_equal}
+use Rattle.unit_model.proofs.ClaimLemmas.{same_slot_is as slots_equal}
 
 -- a symbol whose place has a number
 pub record IsRanked (m : SymbolStart) : Type 0 where

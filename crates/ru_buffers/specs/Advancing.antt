@@ -1,14 +1,14 @@
 -- How a radio unit's reports go on, symbol by symbol (this project's profile).
 use Rattle.std.specs.Prelude.{◌≡◌, ℕ, suc, ℤ, pos, neg_ℤ, ◌+◌, ◌-◌, ◌*◌, ◌^◌, true, ◌≤ℤ◌, ◌<ℤ◌, List, [], ◌++◌, map, Option, Some, None}
 use Rattle.std.specs.Int.{int_gap}
-use Rattle.radio_laws.specs.history_laws.specs.air_source.specs.declared.events.AirCell.{AirCell}
-use Rattle.radio_laws.specs.history_laws.specs.air_source.specs.declared.events.Event.{Event}
-use Rattle.radio_laws.specs.history_laws.specs.air_source.specs.declared.events.Event.TheVariants.{Cell as Reported}
-use Rattle.radio_laws.specs.history_laws.specs.window_config.specs.declared.config.Config.{Config}
-use Rattle.radio_laws.specs.history_laws.specs.unit_model.specs.Order.{comes_before}
-use Rattle.radio_laws.specs.history_laws.specs.unit_model.specs.Standing.{History, heard}
-use Rattle.radio_laws.specs.history_laws.specs.unit_model.specs.declared.symbol_start.SymbolStart.{SymbolStart}
-use Rattle.ru_reports.specs.unit_cells.specs.Cells.{CellsValue}
+use Rattle.air_source.specs.declared.events.AirCell.{AirCell}
+use Rattle.air_source.specs.declared.events.Event.{Event}
+use Rattle.air_source.specs.declared.events.Event.TheVariants.{Cell as Reported}
+use Rattle.window_config.specs.declared.config.Config.{Config}
+use Rattle.unit_model.specs.Order.{comes_before}
+use Rattle.unit_model.specs.Standing.{History, heard}
+use Rattle.unit_model.specs.declared.symbol_start.SymbolStart.{SymbolStart}
+use Rattle.unit_cells.specs.Cells.{CellsValue}
 use Rattle.ru_buffers.specs.Calls.{StandsFor}
 use Rattle.radio_laws.specs.Reporting.{IsLeftAfter, due_of}
 use Rattle.ru_buffers.specs.declared.unit.Ru.{Ru}

@@ -1,18 +1,18 @@
 -- What the calls of a radio unit say of the histories for which it stands (this project's profile).
 use Rattle.std.specs.Prelude.{◌≡◌, ℤ, ◌<ℤ◌, List, [], ◌∷◌, ◌++◌, map, Option, Some, None}
-use Rattle.radio_laws.specs.history_laws.specs.air_source.specs.declared.events.AirCell.{AirCell}
-use Rattle.radio_laws.specs.history_laws.specs.air_source.specs.declared.events.Event.{Event}
-use Rattle.radio_laws.specs.history_laws.specs.air_source.specs.declared.events.Event.TheVariants.{Cell as Reported}
+use Rattle.air_source.specs.declared.events.AirCell.{AirCell}
+use Rattle.air_source.specs.declared.events.Event.{Event}
+use Rattle.air_source.specs.declared.events.Event.TheVariants.{Cell as Reported}
 use Rattle.fh_time.specs.Least.{IsLeastOf}
 use Rattle.fh_time.specs.declared.values.Ticks.{Ticks}
-use Rattle.radio_laws.specs.history_laws.specs.window_config.specs.declared.config.Config.{Config}
-use Rattle.radio_laws.specs.history_laws.specs.unit_model.specs.Standing.{History, IsLiveAt, StandsBy, handed, heard, owed_until}
-use Rattle.radio_laws.specs.history_laws.specs.unit_model.specs.declared.allocations.Allocation.{Allocation}
-use Rattle.radio_laws.specs.history_laws.specs.unit_model.specs.declared.jobs.UplinkJob.{UplinkJob}
-use Rattle.radio_laws.specs.history_laws.specs.unit_model.specs.declared.symbol_start.SymbolStart.{SymbolStart}
-use Rattle.ru_reports.specs.unit_cells.specs.Cells.{CellsValue, cells_uplink}
+use Rattle.window_config.specs.declared.config.Config.{Config}
+use Rattle.unit_model.specs.Standing.{History, IsLiveAt, StandsBy, handed, heard, owed_until}
+use Rattle.unit_model.specs.declared.allocations.Allocation.{Allocation}
+use Rattle.unit_model.specs.declared.jobs.UplinkJob.{UplinkJob}
+use Rattle.unit_model.specs.declared.symbol_start.SymbolStart.{SymbolStart}
+use Rattle.unit_cells.specs.Cells.{CellsValue, cells_uplink}
 use Rattle.ru_jobs.specs.Cursors.{IsFirstJob, left_in}
-use Rattle.ru_reports.specs.symbol_search.specs.Symbols.{IsSymbol}
+use Rattle.symbol_search.specs.Symbols.{IsSymbol}
 use Rattle.ru_jobs.specs.declared.cursor.JobCursor.{JobCursor}
 use Rattle.ru_jobs.specs.declared.cursor.NextJob.{NextJob}
 use Rattle.radio_laws.specs.Reporting.{IsFoundLeft, IsLeftAfter, due_of}

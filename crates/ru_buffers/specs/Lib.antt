@@ -1,12 +1,2 @@
-pub use Rattle.radio_laws.specs.history_laws
-pub use Rattle.radio_laws
-pub use Rattle.ru_jobs
-pub use Rattle.unit_memory
-pub use Rattle.ru_reports
-pub use Rattle.ru_reports.specs.slot_rings
-pub use Rattle.ru_reports.specs.symbol_search
-pub use Rattle.ru_reports.specs.unit_cells
-pub use Rattle.radio_laws.specs.history_laws.specs.unit_laws
-pub use Rattle.radio_laws.specs.history_laws.specs.unit_model
 pub mod Calls
 pub mod Advancing

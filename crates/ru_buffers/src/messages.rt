@@ -1,8 +1,8 @@
 // The unit's uplink messages, and its next moment.
 ghost use Rattle.std.specs.Prelude.{◌≡◌, [], IfNone, IfSome};
-ghost use Rattle.radio_laws.specs.history_laws.specs.window_config.specs.declared.config.Config.{Config};
-ghost use Rattle.radio_laws.specs.history_laws.specs.unit_model.specs.ProperJobs.{IsProperJob};
-ghost use Rattle.radio_laws.specs.history_laws.specs.unit_model.specs.Standing.{History};
+ghost use Rattle.window_config.specs.declared.config.Config.{Config};
+ghost use Rattle.unit_model.specs.ProperJobs.{IsProperJob};
+ghost use Rattle.unit_model.specs.Standing.{History};
 ghost use Rattle.ru_buffers.specs.Calls.{radio_clock};
 ghost use Rattle.fh_time.specs.Least.{earlier_time};
 
@@ -14,7 +14,7 @@ use unit_model::UplinkJob;
 
 impl Ru {
     ghost use Rattle.ru_buffers.specs.Calls.{GivesJob, HasGivenPast, IsCellMoment, IsDue, IsMessageMoment, StandsFor};
-    ghost use Rattle.radio_laws.specs.history_laws.specs.unit_model.specs.Standing.{owed_until};
+    ghost use Rattle.unit_model.specs.Standing.{owed_until};
 
     /// The next uplink message whose symbol starts at the clock or before it and that was not given: in the order of starts,
     /// endpoints, slots, symbols, startPrbc, numPrbc, sectionId, filterIndex and acceptance. It is one of a symbol of an endpoint of

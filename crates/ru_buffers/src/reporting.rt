@@ -1,10 +1,10 @@
 // The unit's cells, as time passes.
 ghost use Rattle.std.specs.Prelude.{◌≡◌, ◌≤ℤ◌, ◌<ℤ◌, true, false, OnErr, OnOk, map};
-ghost use Rattle.radio_laws.specs.history_laws.specs.air_source.specs.Causes.{HasAirCause};
-ghost use Rattle.radio_laws.specs.history_laws.specs.air_source.specs.declared.events.Event.TheVariants.{Cell as Reported};
-ghost use Rattle.radio_laws.specs.history_laws.specs.window_config.specs.declared.config.Config.{Config};
-ghost use Rattle.radio_laws.specs.history_laws.specs.unit_model.specs.Proper.{IsTime};
-ghost use Rattle.radio_laws.specs.history_laws.specs.unit_model.specs.Standing.{History, at_clock, heard};
+ghost use Rattle.air_source.specs.Causes.{HasAirCause};
+ghost use Rattle.air_source.specs.declared.events.Event.TheVariants.{Cell as Reported};
+ghost use Rattle.window_config.specs.declared.config.Config.{Config};
+ghost use Rattle.unit_model.specs.Proper.{IsTime};
+ghost use Rattle.unit_model.specs.Standing.{History, at_clock, heard};
 
 use crate::finding::find_symbol;
 use crate::unit::Ru;
@@ -23,10 +23,10 @@ pub(crate) fn starts_by(m: &SymbolStart, to: Ticks) -> bool
 
 impl Ru {
     ghost use Rattle.ru_buffers.specs.Calls.{HasGivenPast, IsNextSymbol, StandsFor, StandsForSome, StopsAtDue, radio_clock};
-    ghost use Rattle.radio_laws.specs.history_laws.specs.unit_model.specs.Standing.{owed_until};
+    ghost use Rattle.unit_model.specs.Standing.{owed_until};
     ghost use Rattle.ru_buffers.specs.Advancing.{AfterReport, InOrder, ToldAll};
-    ghost use Rattle.ru_reports.specs.unit_cells.specs.Cells.{endpoints_of};
-    ghost use Rattle.ru_reports.specs.unit_cells.specs.Keeping.{SameKnown};
+    ghost use Rattle.unit_cells.specs.Cells.{endpoints_of};
+    ghost use Rattle.unit_cells.specs.Keeping.{SameKnown};
     ghost use Rattle.std.specs.Prelude.{IfErr, IfOk, ◌-ℤ◌, ◌^◌, ◌≤◌, pos, neg_ℤ, [], length};
     ghost use Rattle.radio_laws.specs.Reporting.{due_of};
 

@@ -2,9 +2,9 @@
 ghost use Rattle.std.specs.Prelude.{◌≡◌, ◌-◌, ◌^◌, List, IfOk, length, min, true, false};
 ghost use Rattle.ecpri_frames.specs.Gathering.{whole_messages};
 ghost use Rattle.ecpri_frames.specs.Messages.{pdu};
-ghost use Rattle.radio_laws.specs.history_laws.specs.window_config.specs.Configs.{IsConfig};
-ghost use Rattle.radio_laws.specs.history_laws.specs.window_config.specs.declared.config.Config.{Config as SpecConfig};
-ghost use Rattle.radio_laws.specs.history_laws.specs.unit_model.specs.Standing.{History, arrived, nothing_yet};
+ghost use Rattle.window_config.specs.Configs.{IsConfig};
+ghost use Rattle.window_config.specs.declared.config.Config.{Config as SpecConfig};
+ghost use Rattle.unit_model.specs.Standing.{History, arrived, nothing_yet};
 
 use crate::finding::{find_message, find_symbol};
 use air_source::Side;
@@ -35,10 +35,10 @@ pub struct Ru {
 
 impl Ru {
     ghost use Rattle.ru_buffers.specs.Calls.{HasGivenPast, IsNextMessage, IsNextSymbol, StandsFor, StandsForSome, radio_clock};
-    ghost use Rattle.radio_laws.specs.history_laws.specs.unit_model.specs.Counts.{StandAt, cells_counted};
-    ghost use Rattle.radio_laws.specs.history_laws.specs.unit_model.specs.Reports.{arrivals_counted};
+    ghost use Rattle.unit_model.specs.Counts.{StandAt, cells_counted};
+    ghost use Rattle.unit_model.specs.Reports.{arrivals_counted};
     ghost use Rattle.std.specs.Prelude.{◌++◌};
-    ghost use Rattle.radio_laws.specs.history_laws.specs.air_source.specs.declared.events.Side.TheVariants.{Ru as AtRu};
+    ghost use Rattle.air_source.specs.declared.events.Side.TheVariants.{Ru as AtRu};
 
     /// Takes all memory of the unit. Its clock stands one frame before 0.
     ///

@@ -8,14 +8,14 @@ use Rattle.std.proofs.lemmas.List.{length-drop, drop_all, nil_from_length}
 use Rattle.std.proofs.lemmas.Bool.Decides.{nat_tests}
 use Rattle.fh_time.specs.declared.values.Slot.{Slot}
 use Rattle.window_config.specs.declared.endpoints.EndpointConfig.{EndpointConfig}
-use Rattle.symbol_search.specs.unit_model.specs.Lists.{in_order}
-use Rattle.symbol_search.specs.unit_model.specs.Order.{comes_before}
-use Rattle.symbol_search.specs.unit_model.specs.Starts.{jobs_at, start_at}
-use Rattle.symbol_search.specs.unit_model.specs.Uplink.{sends_in, symbol_jobs}
-use Rattle.symbol_search.specs.unit_model.specs.declared.allocations.Allocation.{Allocation}
-use Rattle.symbol_search.specs.unit_model.specs.declared.jobs.UplinkJob.{UplinkJob}
-use Rattle.symbol_search.specs.unit_model.specs.declared.symbol_start.SymbolStart.{SymbolStart}
-use Rattle.symbol_search.specs.unit_cells.specs.Cells.{CellsValue, cells_index, cells_uplink}
+use Rattle.unit_model.specs.Lists.{in_order}
+use Rattle.unit_model.specs.Order.{comes_before}
+use Rattle.unit_model.specs.Starts.{jobs_at, start_at}
+use Rattle.unit_model.specs.Uplink.{sends_in, symbol_jobs}
+use Rattle.unit_model.specs.declared.allocations.Allocation.{Allocation}
+use Rattle.unit_model.specs.declared.jobs.UplinkJob.{UplinkJob}
+use Rattle.unit_model.specs.declared.symbol_start.SymbolStart.{SymbolStart}
+use Rattle.unit_cells.specs.Cells.{CellsValue, cells_index, cells_uplink}
 use Rattle.symbol_search.specs.Searches.{InPlace}
 use Rattle.symbol_search.specs.Symbols.{FitsFrom, HasNone, InSlot, IsSymbol, OfEndpoint}
 use Rattle.ru_jobs.specs.Cursors.{is_job_left, jobs_left, left_behind, left_jobs}

@@ -7,14 +7,14 @@ use Rattle.std.proofs.lemmas.Bool.{false_from_ne_true, ltb-false}
 use Rattle.std.proofs.lemmas.List.{length-drop, drop-drop, nil_from_length, reverse-reverse, length-reverse}
 use Rattle.std.proofs.lemmas.List.Sums.{length-filter, count_by-le-length}
 use Rattle.fh_time.specs.declared.values.Slot.{Slot}
-use Rattle.symbol_search.specs.unit_model.specs.Order.{comes_before}
-use Rattle.symbol_search.specs.unit_model.specs.Starts.{jobs_at, start_at}
-use Rattle.symbol_search.specs.unit_model.specs.Uplink.{sends_in, symbol_jobs}
-use Rattle.symbol_search.specs.unit_model.specs.declared.allocations.Allocation.{Allocation}
-use Rattle.symbol_search.specs.unit_model.specs.declared.jobs.UplinkJob.{UplinkJob}
-use Rattle.symbol_search.specs.unit_model.specs.declared.symbol_start.SymbolStart.{SymbolStart}
+use Rattle.unit_model.specs.Order.{comes_before}
+use Rattle.unit_model.specs.Starts.{jobs_at, start_at}
+use Rattle.unit_model.specs.Uplink.{sends_in, symbol_jobs}
+use Rattle.unit_model.specs.declared.allocations.Allocation.{Allocation}
+use Rattle.unit_model.specs.declared.jobs.UplinkJob.{UplinkJob}
+use Rattle.unit_model.specs.declared.symbol_start.SymbolStart.{SymbolStart}
 use Rattle.window_config.specs.declared.endpoints.EndpointConfig.{EndpointConfig}
-use Rattle.symbol_search.specs.unit_cells.specs.Cells.{CellsValue, cells_uplink}
+use Rattle.unit_cells.specs.Cells.{CellsValue, cells_uplink}
 use Rattle.fh_time.specs.declared.values.Ticks.{Ticks}
 use Rattle.ru_jobs.specs.Cursors.{GivenOne, IsFirstJob, Settled, at_start, is_job_left, is_past, jobs_left, left_behind, left_in, left_jobs, rest_of}
 use Rattle.symbol_search.specs.Symbols.{IsFirst, IsFirstFitting, IsSymbol}
@@ -23,8 +23,8 @@ use Rattle.ru_jobs.specs.declared.cursor.NextJob.{NextJob}
 use Rattle.symbol_search.proofs.OrderLemmas.{before_third, not_after, not_before_itself}
 use Rattle.symbol_search.proofs.SymbolLemmas.{at_its_start}
 use Rattle.ru_jobs.proofs.SortLemmas.{length_jobs}
-use Rattle.symbol_search.specs.unit_model.specs.declared.uplink.TheConstants.{SLOT_SECTIONS}
-use Rattle.symbol_search.specs.unit_model.proofs.ClaimLemmas.{start_before as starts_before}
+use Rattle.unit_model.specs.declared.uplink.TheConstants.{SLOT_SECTIONS}
+use Rattle.unit_model.proofs.ClaimLemmas.{start_before as starts_before}
 
 -- ---- choices
 

@@ -2,18 +2,18 @@
 use Rattle.std.specs.Prelude.{◌≡◌, ℕ, ℤ, Bool, true, nat_lt, ◌≤◌, ◌<ℤ◌, ◌≤ℤ◌, if◌then◌else◌, int_lt, List, [], ◌∷◌, drop, length, Option, Some, None}
 use Rattle.std.specs.Int.{int_max}
 use Rattle.fh_time.specs.declared.values.Slot.{Slot}
-use Rattle.symbol_search.specs.unit_model.specs.Order.{comes_before}
-use Rattle.symbol_search.specs.unit_model.specs.Starts.{start_at}
-use Rattle.symbol_search.specs.unit_model.specs.Sweeps.{OfSymbol}
-use Rattle.symbol_search.specs.unit_model.specs.Uplink.{symbol_jobs}
-use Rattle.symbol_search.specs.unit_model.specs.declared.allocations.Allocation.{Allocation}
-use Rattle.symbol_search.specs.unit_model.specs.declared.jobs.UplinkJob.{UplinkJob}
-use Rattle.symbol_search.specs.unit_model.specs.declared.symbol_start.SymbolStart.{SymbolStart}
-use Rattle.symbol_search.specs.unit_cells.specs.Cells.{CellsValue, cells_uplink}
+use Rattle.unit_model.specs.Order.{comes_before}
+use Rattle.unit_model.specs.Starts.{start_at}
+use Rattle.unit_model.specs.Sweeps.{OfSymbol}
+use Rattle.unit_model.specs.Uplink.{symbol_jobs}
+use Rattle.unit_model.specs.declared.allocations.Allocation.{Allocation}
+use Rattle.unit_model.specs.declared.jobs.UplinkJob.{UplinkJob}
+use Rattle.unit_model.specs.declared.symbol_start.SymbolStart.{SymbolStart}
+use Rattle.unit_cells.specs.Cells.{CellsValue, cells_uplink}
 use Rattle.symbol_search.specs.Symbols.{IsSymbol}
 use Rattle.ru_jobs.specs.declared.cursor.JobCursor.{JobCursor}
 use Rattle.ru_jobs.specs.declared.cursor.NextJob.{NextJob}
-use Rattle.symbol_search.specs.unit_model.specs.declared.uplink.TheConstants.{SLOT_SECTIONS}
+use Rattle.unit_model.specs.declared.uplink.TheConstants.{SLOT_SECTIONS}
 
 -- where so many messages of the symbol `last` were given, and none of a later one, this is left of a symbol's messages
 abbrev pub left_behind : ℕ → Option SymbolStart → SymbolStart → List UplinkJob → List UplinkJob

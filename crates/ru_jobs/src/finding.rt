@@ -4,7 +4,7 @@ ghost use Rattle.fh_time.specs.Numbering.{symbols_of};
 ghost use Rattle.symbol_search.specs.Places.{IsPlace, start_in};
 ghost use Rattle.symbol_search.specs.Searches.{InPlace};
 ghost use Rattle.symbol_search.specs.Symbols.{FitsFrom, HasNone, InSlot, OfEndpoint};
-ghost use Rattle.symbol_search.specs.unit_cells.specs.Cells.{cells_places, cells_uplink, endpoints_of};
+ghost use Rattle.unit_cells.specs.Cells.{cells_places, cells_uplink, endpoints_of};
 ghost use Rattle.ru_jobs.specs.Cursors.{is_job_left};
 
 use crate::cursor::JobCursor;

@@ -1,8 +1,8 @@
 // The next message.
 ghost use Rattle.std.specs.Prelude.{◌≡◌, [], IfNone, IfSome};
 ghost use Rattle.std.specs.Int.{int_max};
-ghost use Rattle.symbol_search.specs.unit_model.specs.declared.symbol_start.SymbolStart.{SymbolStart as SpecStart};
-ghost use Rattle.symbol_search.specs.unit_cells.specs.Cells.{cells_uplink};
+ghost use Rattle.unit_model.specs.declared.symbol_start.SymbolStart.{SymbolStart as SpecStart};
+ghost use Rattle.unit_cells.specs.Cells.{cells_uplink};
 ghost use Rattle.ru_jobs.specs.Cursors.{IsFirstJob, left_in};
 ghost use Rattle.symbol_search.specs.Symbols.{IsSymbol};
 
@@ -34,7 +34,7 @@ fn later(a: Ticks, b: Ticks) -> Ticks
 impl JobCursor {
     ghost use Rattle.std.specs.Prelude.{None};
     ghost use Rattle.ru_jobs.specs.Cursors.{GivenOne, IsFirstJob, Settled, is_past};
-    ghost use Rattle.symbol_search.specs.unit_cells.specs.Cells.{CellsValue};
+    ghost use Rattle.unit_cells.specs.Cells.{CellsValue};
 
     /// Where all messages of symbols that start before a tick were given, and none of the others.
     pub fn start(since: Ticks) -> JobCursor

@@ -1,9 +1,9 @@
 // What is left of a symbol's messages.
 ghost use Rattle.std.specs.Prelude.{◌≡◌, ◌≤◌, List, filter, length, map, nat_lt, reverse, slice_get};
-ghost use Rattle.symbol_search.specs.unit_model.specs.Starts.{jobs_at};
-ghost use Rattle.symbol_search.specs.unit_model.specs.declared.jobs.UplinkJob.{UplinkJob};
+ghost use Rattle.unit_model.specs.Starts.{jobs_at};
+ghost use Rattle.unit_model.specs.declared.jobs.UplinkJob.{UplinkJob};
 ghost use Rattle.ru_jobs.specs.Cursors.{left_jobs, rest_of};
-ghost use Rattle.symbol_search.specs.unit_model.specs.declared.uplink.TheConstants.{SLOT_SECTIONS};
+ghost use Rattle.unit_model.specs.declared.uplink.TheConstants.{SLOT_SECTIONS};
 
 use crate::cursor::JobCursor;
 use crate::sending::{count_sending, job_at};

@@ -6,19 +6,19 @@ use Rattle.std.proofs.lemmas.Bool.{and_from, cases_Bool, cases_eq, eq-eqb}
 use Rattle.std.proofs.lemmas.List.Folds.{list_any-append}
 use Rattle.air_source.specs.declared.events.AirCell.{AirCell}
 use Rattle.air_source.specs.declared.events.Side.TheVariants.{Ru}
-use Rattle.symbol_search.specs.unit_model.specs.Claims.{same_slot}
-use Rattle.symbol_search.specs.unit_model.specs.Lists.{each}
-use Rattle.symbol_search.specs.unit_model.specs.Radiated.{air_cell, used_mask}
-use Rattle.symbol_search.specs.unit_model.specs.declared.cells.Claim.{Claim}
-use Rattle.symbol_search.specs.unit_model.specs.declared.symbol_start.SymbolStart.{SymbolStart}
-use Rattle.symbol_search.specs.slot_rings.specs.Places.{is_due}
-use Rattle.symbol_search.specs.slot_rings.proofs.RangeLemmas.{some_from}
-use Rattle.symbol_search.specs.unit_cells.specs.Cells.{CellsValue, cells_block, cells_claim, cells_reported}
-use Rattle.symbol_search.specs.unit_cells.specs.Keeping.{SameKnown}
+use Rattle.unit_model.specs.Claims.{same_slot}
+use Rattle.unit_model.specs.Lists.{each}
+use Rattle.unit_model.specs.Radiated.{air_cell, used_mask}
+use Rattle.unit_model.specs.declared.cells.Claim.{Claim}
+use Rattle.unit_model.specs.declared.symbol_start.SymbolStart.{SymbolStart}
+use Rattle.slot_rings.specs.Places.{is_due}
+use Rattle.slot_rings.proofs.RangeLemmas.{some_from}
+use Rattle.unit_cells.specs.Cells.{CellsValue, cells_block, cells_claim, cells_reported}
+use Rattle.unit_cells.specs.Keeping.{SameKnown}
 use Rattle.ru_reports.specs.Symbols.{ReportsTold, cell_in, is_left, is_told, left_at, left_told}
 use Rattle.symbol_search.specs.Symbols.{IsSymbol}
 use Rattle.ru_reports.proofs.ReportedLemmas.{symbol_cell, told_alone}
-use Rattle.symbol_search.specs.unit_model.proofs.ClaimLemmas.{slot_self as slot_own}
+use Rattle.unit_model.proofs.ClaimLemmas.{slot_self as slot_own}
 
 same_claims : (old new : CellsValue) (m : SymbolStart) (prb : ℕ) → SameKnown old new → cells_claim new (cell_in m prb) ≡ cells_claim old (cell_in m prb)
 same_claims old new m prb same = λ i re. same.claims (cell_in m prb) re i

@@ -1,16 +1,16 @@
 -- For callers: where nothing is left of a symbol.
 use Rattle.std.proofs.Common.{◌≡◌, ℕ, ◌<◌, ◌==◌, Bool, true, false, not, ◌&&◌, inl, inr, [], refl, ap, ◌∙◌, arith, Option, None}
 use Rattle.std.proofs.lemmas.Bool.{cases_Bool}
-use Rattle.symbol_search.specs.unit_model.specs.Radiated.{used_below, used_mask}
-use Rattle.symbol_search.specs.unit_model.specs.declared.cells.Claim.{Claim}
-use Rattle.symbol_search.specs.unit_model.specs.declared.symbol_start.SymbolStart.{SymbolStart}
-use Rattle.symbol_search.specs.unit_model.proofs.SweepLaws.{each_none}
-use Rattle.symbol_search.specs.unit_laws.proofs.ListLemmas.{each_same}
-use Rattle.symbol_search.specs.slot_rings.specs.Places.{is_due}
-use Rattle.symbol_search.specs.unit_cells.specs.Cells.{CellsValue, cells_claim, cells_reported, cells_has, ring_of}
-use Rattle.symbol_search.specs.unit_cells.proofs.TimeLemmas.{no_claim_from as unclaimed}
+use Rattle.unit_model.specs.Radiated.{used_below, used_mask}
+use Rattle.unit_model.specs.declared.cells.Claim.{Claim}
+use Rattle.unit_model.specs.declared.symbol_start.SymbolStart.{SymbolStart}
+use Rattle.unit_model.proofs.SweepLaws.{each_none}
+use Rattle.unit_laws.proofs.ListLemmas.{each_same}
+use Rattle.slot_rings.specs.Places.{is_due}
+use Rattle.unit_cells.specs.Cells.{CellsValue, cells_claim, cells_reported, cells_has, ring_of}
+use Rattle.unit_cells.proofs.TimeLemmas.{no_claim_from as unclaimed}
 use Rattle.ru_reports.specs.Symbols.{cell_in, is_left, left_at, left_told}
-use Rattle.symbol_search.specs.unit_model.proofs.ClaimLemmas.{some_not as some_at}
+use Rattle.unit_model.proofs.ClaimLemmas.{some_not as some_at}
 
 -- ---- of one cell
 

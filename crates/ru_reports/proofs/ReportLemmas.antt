@@ -13,7 +13,7 @@ use Rattle.unit_model.specs.declared.cells.Block.{Block}
 use Rattle.unit_model.specs.declared.cells.Claim.{Claim}
 use Rattle.unit_model.specs.declared.symbol_start.SymbolStart.{SymbolStart}
 use Rattle.unit_model.proofs.SweepLaws.{each_more, each_none, each_split}
-use Rattle.symbol_search.specs.unit_laws.proofs.ListLemmas.{each_same}
+use Rattle.unit_laws.proofs.ListLemmas.{each_same}
 use Rattle.slot_rings.specs.Places.{is_in_use}
 use Rattle.slot_rings.specs.Symbols.{lent_block, lent_claim, lent_reported}
 use Rattle.slot_rings.specs.declared.symbol_cells.SymbolCells.{SymbolCells}

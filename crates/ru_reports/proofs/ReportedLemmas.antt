@@ -7,16 +7,16 @@ use Rattle.std.proofs.lemmas.List.Folds.{list_any-append}
 use Rattle.fh_time.specs.declared.values.Slot.{Slot}
 use Rattle.air_source.specs.declared.events.AirCell.{AirCell}
 use Rattle.air_source.specs.declared.events.Side.TheVariants.{Ru}
-use Rattle.symbol_search.specs.unit_model.specs.Claims.{cell_at, same_slot}
-use Rattle.symbol_search.specs.unit_model.specs.Lists.{each}
-use Rattle.symbol_search.specs.unit_model.specs.Radiated.{air_cell, used_mask}
-use Rattle.symbol_search.specs.unit_model.specs.declared.cells.Cell.{Cell}
-use Rattle.symbol_search.specs.unit_model.specs.declared.symbol_start.SymbolStart.{SymbolStart}
-use Rattle.symbol_search.specs.slot_rings.specs.Places.{is_in_use}
-use Rattle.symbol_search.specs.unit_cells.specs.Cells.{CellsValue, IsCellIn, cells_block, cells_claim, cells_reported}
+use Rattle.unit_model.specs.Claims.{cell_at, same_slot}
+use Rattle.unit_model.specs.Lists.{each}
+use Rattle.unit_model.specs.Radiated.{air_cell, used_mask}
+use Rattle.unit_model.specs.declared.cells.Cell.{Cell}
+use Rattle.unit_model.specs.declared.symbol_start.SymbolStart.{SymbolStart}
+use Rattle.slot_rings.specs.Places.{is_in_use}
+use Rattle.unit_cells.specs.Cells.{CellsValue, IsCellIn, cells_block, cells_claim, cells_reported}
 use Rattle.ru_reports.specs.Symbols.{cell_in, is_told, left_told}
 use Rattle.symbol_search.specs.Symbols.{IsSymbol}
-use Rattle.symbol_search.specs.unit_model.proofs.ClaimLemmas.{same_slot_is as slot_is, slot_self as slot_own}
+use Rattle.unit_model.proofs.ClaimLemmas.{same_slot_is as slot_is, slot_self as slot_own}
 use Rattle.fh_time.proofs.Orders.{or_false, unequal, all_three}
 
 -- ---- tests

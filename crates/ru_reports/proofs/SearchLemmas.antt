@@ -8,10 +8,10 @@ use Rattle.fh_time.specs.Air.{air_of}
 use Rattle.fh_time.specs.Numbering.{symbols_of}
 use Rattle.fh_time.proofs.Order.{symbols_in_order}
 use Rattle.window_config.specs.declared.endpoints.EndpointConfig.{EndpointConfig}
-use Rattle.symbol_search.specs.unit_model.specs.Proper.{IsAt}
-use Rattle.symbol_search.specs.unit_model.specs.Starts.{start_at}
-use Rattle.symbol_search.specs.unit_model.specs.declared.symbol_start.SymbolStart.{SymbolStart}
-use Rattle.symbol_search.specs.unit_cells.specs.Cells.{AreDueFrom, CellsValue, endpoints_of}
+use Rattle.unit_model.specs.Proper.{IsAt}
+use Rattle.unit_model.specs.Starts.{start_at}
+use Rattle.unit_model.specs.declared.symbol_start.SymbolStart.{SymbolStart}
+use Rattle.unit_cells.specs.Cells.{AreDueFrom, CellsValue, endpoints_of}
 use Rattle.symbol_search.specs.Symbols.{FitsFrom, HasNone, InSlot}
 use Rattle.symbol_search.proofs.SymbolLemmas.{endpoint_one, symbol_one}
 use Rattle.ru_reports.specs.Symbols.{is_left, is_left_after}

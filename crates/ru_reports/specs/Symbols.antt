@@ -8,19 +8,19 @@ use Rattle.air_source.specs.declared.events.Side.TheVariants.{Ru}
 use Rattle.fault_counters.specs.declared.kinds.Counter.{Counter}
 use Rattle.fault_counters.specs.Counts.{capped, count_of, times}
 use Rattle.window_config.specs.declared.config.Config.{Config}
-use Rattle.symbol_search.specs.unit_model.specs.Claims.{cell_at, same_slot}
-use Rattle.symbol_search.specs.unit_model.specs.Counts.{cells_counted}
-use Rattle.symbol_search.specs.unit_model.specs.Lists.{each, some}
-use Rattle.symbol_search.specs.unit_model.specs.Radiated.{Known}
-use Rattle.symbol_search.specs.unit_model.specs.Starts.{cell_told}
-use Rattle.symbol_search.specs.unit_model.specs.declared.allocations.Allocation.{Allocation}
-use Rattle.symbol_search.specs.unit_model.specs.declared.cells.Cell.{Cell}
-use Rattle.symbol_search.specs.unit_model.specs.declared.decoded.UserSection.{UserSection}
-use Rattle.symbol_search.specs.unit_model.specs.declared.symbol_start.SymbolStart.{SymbolStart}
-use Rattle.symbol_search.specs.slot_rings.specs.Places.{is_due}
+use Rattle.unit_model.specs.Claims.{cell_at, same_slot}
+use Rattle.unit_model.specs.Counts.{cells_counted}
+use Rattle.unit_model.specs.Lists.{each, some}
+use Rattle.unit_model.specs.Radiated.{Known}
+use Rattle.unit_model.specs.Starts.{cell_told}
+use Rattle.unit_model.specs.declared.allocations.Allocation.{Allocation}
+use Rattle.unit_model.specs.declared.cells.Cell.{Cell}
+use Rattle.unit_model.specs.declared.decoded.UserSection.{UserSection}
+use Rattle.unit_model.specs.declared.symbol_start.SymbolStart.{SymbolStart}
+use Rattle.slot_rings.specs.Places.{is_due}
 use Rattle.air_source.specs.declared.events.Side.{Side}
-use Rattle.symbol_search.specs.unit_cells.specs.Cells.{CellsValue, IsCellIn, cells_block, cells_claim, cells_reported, endpoints_of}
-use Rattle.symbol_search.specs.unit_cells.specs.Keeping.{Keeps, SameKnown}
+use Rattle.unit_cells.specs.Cells.{CellsValue, IsCellIn, cells_block, cells_claim, cells_reported, endpoints_of}
+use Rattle.unit_cells.specs.Keeping.{Keeps, SameKnown}
 
 -- the downlink cell of a symbol at a PRB
 abbrev pub cell_in : SymbolStart → ℕ → Cell

@@ -4,11 +4,11 @@ use Rattle.air_source.specs.declared.events.AirCell.{AirCell}
 use Rattle.air_source.specs.declared.events.Event.{Event}
 use Rattle.air_source.specs.declared.events.Event.TheVariants.{Cell as Reported}
 use Rattle.air_source.specs.declared.events.Side.TheVariants.{Ru}
-use Rattle.symbol_search.specs.unit_model.specs.Lists.{each}
-use Rattle.symbol_search.specs.unit_model.specs.Radiated.{report_of}
-use Rattle.symbol_search.specs.unit_model.specs.declared.symbol_start.SymbolStart.{SymbolStart}
-use Rattle.symbol_search.specs.slot_rings.specs.Symbols.{lent_block, lent_claim, lent_reported}
-use Rattle.symbol_search.specs.slot_rings.specs.declared.symbol_cells.SymbolCells.{SymbolCells}
+use Rattle.unit_model.specs.Lists.{each}
+use Rattle.unit_model.specs.Radiated.{report_of}
+use Rattle.unit_model.specs.declared.symbol_start.SymbolStart.{SymbolStart}
+use Rattle.slot_rings.specs.Symbols.{lent_block, lent_claim, lent_reported}
+use Rattle.slot_rings.specs.declared.symbol_cells.SymbolCells.{SymbolCells}
 use Rattle.ru_reports.specs.Symbols.{cell_in}
 
 -- what is still to be reported of a symbol whose cells are lent, at a PRB and at the first so many

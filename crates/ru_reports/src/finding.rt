@@ -5,8 +5,8 @@ ghost use Rattle.fh_time.specs.Numbering.{symbols_of};
 ghost use Rattle.symbol_search.specs.Places.{IsPlace, start_in};
 ghost use Rattle.symbol_search.specs.Searches.{InPlace};
 ghost use Rattle.symbol_search.specs.Symbols.{FitsFrom, HasNone, InSlot, IsFirst, OfEndpoint};
-ghost use Rattle.symbol_search.specs.unit_cells.specs.Cells.{cells_places, endpoints_of};
-ghost use Rattle.symbol_search.specs.unit_model.specs.Proper.{IsSlot};
+ghost use Rattle.unit_cells.specs.Cells.{cells_places, endpoints_of};
+ghost use Rattle.unit_model.specs.Proper.{IsSlot};
 ghost use Rattle.ru_reports.specs.Symbols.{is_left_after};
 
 use fh_time::{Slot, Ticks, air, shape};

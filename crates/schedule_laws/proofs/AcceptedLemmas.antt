@@ -6,20 +6,20 @@ use Rattle.std.proofs.lemmas.Bool.{cases_Bool, and_from, eq-eqb, leb-true}
 use Rattle.fh_time.specs.Carrier.{is_outside}
 use Rattle.fh_time.specs.declared.values.Slot.{Slot}
 use Rattle.fragment_laws.specs.Apart.{IsIn}
-use Rattle.unit_laws.specs.window_config.specs.declared.delays.Delays.{Delays}
-use Rattle.unit_laws.specs.window_config.specs.declared.verdicts.Class.{Class}
-use Rattle.unit_laws.specs.window_config.specs.declared.verdicts.Class.TheVariants.{OnTime}
-use Rattle.unit_laws.specs.unit_model.specs.Claims.{same_slot, repeats, overlaps}
-use Rattle.unit_laws.specs.unit_model.specs.Commands.{accepted, allocation_of, command_class, command_verdict, is_for, is_full, is_uplink, timely_verdict, uplink_in, verdict_in, with_accepted}
-use Rattle.unit_laws.specs.unit_model.specs.declared.allocations.Allocation.{Allocation}
-use Rattle.unit_laws.specs.unit_model.specs.declared.decoded.ControlSection.{ControlSection}
-use Rattle.unit_laws.specs.unit_model.specs.declared.verdicts.CommandVerdict.{CommandVerdict}
-use Rattle.unit_laws.specs.unit_model.specs.declared.verdicts.CommandVerdict.TheVariants.{Mismatch, Range, Repeat, Overlap, Full, Accepted}
+use Rattle.window_config.specs.declared.delays.Delays.{Delays}
+use Rattle.window_config.specs.declared.verdicts.Class.{Class}
+use Rattle.window_config.specs.declared.verdicts.Class.TheVariants.{OnTime}
+use Rattle.unit_model.specs.Claims.{same_slot, repeats, overlaps}
+use Rattle.unit_model.specs.Commands.{accepted, allocation_of, command_class, command_verdict, is_for, is_full, is_uplink, timely_verdict, uplink_in, verdict_in, with_accepted}
+use Rattle.unit_model.specs.declared.allocations.Allocation.{Allocation}
+use Rattle.unit_model.specs.declared.decoded.ControlSection.{ControlSection}
+use Rattle.unit_model.specs.declared.verdicts.CommandVerdict.{CommandVerdict}
+use Rattle.unit_model.specs.declared.verdicts.CommandVerdict.TheVariants.{Mismatch, Range, Repeat, Overlap, Full, Accepted}
 use Rattle.plan_model.specs.Validity.{clash, IsProper}
 use Rattle.plan_model.proofs.ListLemmas.{any_in, among}
 use Rattle.schedule_laws.proofs.ClashLemmas.{IsClear, own_clash, is_repeat, no_repeat, no_overlap}
-use Rattle.unit_laws.specs.unit_model.specs.declared.uplink.TheConstants.{SLOT_SECTIONS}
-use Rattle.unit_laws.specs.unit_model.proofs.ClaimLemmas.{slot_self as slot_own}
+use Rattle.unit_model.specs.declared.uplink.TheConstants.{SLOT_SECTIONS}
+use Rattle.unit_model.proofs.ClaimLemmas.{slot_self as slot_own}
 
 -- ---- how many uplink sections there are of lists without repeats
 

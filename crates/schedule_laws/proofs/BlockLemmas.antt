@@ -2,21 +2,21 @@
 use Rattle.std.proofs.Common.{◌≡◌, ℕ, ◌-◌, ◌⊎◌, inl, inr, Bool, true, false, not, ◌==◌, if◌then◌else◌, List, [], ◌∷◌, Option, Some, None, refl, ap, sym, ◌∙◌}
 use Rattle.std.specs.List.{slice_index_or}
 use Rattle.std.proofs.lemmas.Bool.{cases_Bool, and_parts, and_from, eq-eqb, eqb-true, or_right}
-use Rattle.unit_laws.specs.air_source.specs.declared.events.Side.TheVariants.{Ru}
+use Rattle.air_source.specs.declared.events.Side.TheVariants.{Ru}
 use Rattle.fragment_laws.specs.Apart.{IsIn}
-use Rattle.unit_laws.specs.window_config.specs.declared.config.Config.{Config}
-use Rattle.unit_laws.specs.window_config.specs.declared.delays.Delays.{Delays}
-use Rattle.unit_laws.specs.window_config.specs.declared.plan.PlanLine.{PlanLine}
-use Rattle.unit_laws.specs.window_config.specs.declared.verdicts.Class.{Class}
-use Rattle.unit_laws.specs.window_config.specs.declared.verdicts.Class.TheVariants.{OnTime}
-use Rattle.unit_laws.specs.unit_model.specs.Blocks.{block_at, block_in, block_of, data_class, data_covers, data_prb_count, data_slot, first_data_prb, timely, with_timely}
-use Rattle.unit_laws.specs.unit_model.specs.Claims.{cell_at, covers, first_prb, is_from, prb_count, same_slot, same_way}
-use Rattle.unit_laws.specs.unit_model.specs.Lists.{or_else}
-use Rattle.unit_laws.specs.unit_model.specs.Meetings.{Arrival}
-use Rattle.unit_laws.specs.unit_model.specs.declared.allocations.Allocation.{Allocation}
-use Rattle.unit_laws.specs.unit_model.specs.declared.cells.Block.{Block}
-use Rattle.unit_laws.specs.unit_model.specs.declared.cells.Cell.{Cell}
-use Rattle.unit_laws.specs.unit_model.specs.declared.decoded.UserSection.{UserSection}
+use Rattle.window_config.specs.declared.config.Config.{Config}
+use Rattle.window_config.specs.declared.delays.Delays.{Delays}
+use Rattle.window_config.specs.declared.plan.PlanLine.{PlanLine}
+use Rattle.window_config.specs.declared.verdicts.Class.{Class}
+use Rattle.window_config.specs.declared.verdicts.Class.TheVariants.{OnTime}
+use Rattle.unit_model.specs.Blocks.{block_at, block_in, block_of, data_class, data_covers, data_prb_count, data_slot, first_data_prb, timely, with_timely}
+use Rattle.unit_model.specs.Claims.{cell_at, covers, first_prb, is_from, prb_count, same_slot, same_way}
+use Rattle.unit_model.specs.Lists.{or_else}
+use Rattle.unit_model.specs.Meetings.{Arrival}
+use Rattle.unit_model.specs.declared.allocations.Allocation.{Allocation}
+use Rattle.unit_model.specs.declared.cells.Block.{Block}
+use Rattle.unit_model.specs.declared.cells.Cell.{Cell}
+use Rattle.unit_model.specs.declared.decoded.UserSection.{UserSection}
 use Rattle.unit_laws.proofs.CellLemmas.{data_covers_is}
 use Rattle.plan_model.specs.Lines.{line_allocation, planned}
 use Rattle.plan_model.specs.Streams.{Part, part_in}
@@ -27,7 +27,7 @@ use Rattle.schedule_laws.specs.Data.{AreDecodedOnce, AreWritten, Blocks, IsDataF
 use Rattle.schedule_laws.specs.Premise.{AllArrive, Texts}
 use Rattle.schedule_laws.proofs.LineLemmas.{are_one}
 use Rattle.schedule_laws.proofs.WholeLemmas.{IsTimely, each_timely, ds, line_sent, whole_once}
-use Rattle.unit_laws.specs.unit_model.proofs.ClaimLemmas.{way_self as way_own, slot_self as slot_own, covers_is}
+use Rattle.unit_model.proofs.ClaimLemmas.{way_self as way_own, slot_self as slot_own, covers_is}
 
 -- ---- data that are all on time
 

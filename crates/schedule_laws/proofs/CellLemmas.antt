@@ -6,25 +6,25 @@ use Rattle.std.proofs.lemmas.Int.{ints}
 use Rattle.std.specs.Cmp.{both_ways}
 use Rattle.fh_time.specs.Air.{air_of}
 use Rattle.fh_time.specs.declared.values.Slot.{Slot}
-use Rattle.unit_laws.specs.air_source.specs.declared.events.AirCell.{AirCell}
-use Rattle.unit_laws.specs.air_source.specs.declared.events.Side.TheVariants.{Ru}
+use Rattle.air_source.specs.declared.events.AirCell.{AirCell}
+use Rattle.air_source.specs.declared.events.Side.TheVariants.{Ru}
 use Rattle.bfp_codec.specs.declared.samples.Wide.{Wide}
 use Rattle.fragment_laws.specs.Apart.{IsIn}
-use Rattle.unit_laws.specs.window_config.specs.Configs.{IsConfig}
-use Rattle.unit_laws.specs.window_config.specs.Plans.{IsPlanLine}
-use Rattle.unit_laws.specs.window_config.specs.declared.config.Config.{Config}
-use Rattle.unit_laws.specs.window_config.specs.declared.endpoints.EndpointConfig.{EndpointConfig}
-use Rattle.unit_laws.specs.window_config.specs.declared.plan.PlanLine.{PlanLine}
-use Rattle.unit_laws.specs.unit_model.specs.Blocks.{block_at}
-use Rattle.unit_laws.specs.unit_model.specs.Claims.{cell_at, claim_at, claim_of, covers, in_mask, names}
-use Rattle.unit_laws.specs.unit_model.specs.Meetings.{Arrival}
-use Rattle.unit_laws.specs.unit_model.specs.Radiated.{cell_id, cell_report, first_clock, id_from, id_or, is_used, report_of, reported, samples_under, symbol_report, used_below, used_mask}
-use Rattle.unit_laws.specs.unit_model.specs.Reports.{accepted_of, ru_known, ru_reported, timely_of}
-use Rattle.unit_laws.specs.unit_model.specs.Sweeps.{sweep}
-use Rattle.unit_laws.specs.unit_model.specs.declared.allocations.Allocation.{Allocation}
-use Rattle.unit_laws.specs.unit_model.specs.declared.cells.Block.{Block}
-use Rattle.unit_laws.specs.unit_model.specs.declared.cells.Cell.{Cell}
-use Rattle.unit_laws.specs.unit_model.specs.declared.cells.Claim.{Claim}
+use Rattle.window_config.specs.Configs.{IsConfig}
+use Rattle.window_config.specs.Plans.{IsPlanLine}
+use Rattle.window_config.specs.declared.config.Config.{Config}
+use Rattle.window_config.specs.declared.endpoints.EndpointConfig.{EndpointConfig}
+use Rattle.window_config.specs.declared.plan.PlanLine.{PlanLine}
+use Rattle.unit_model.specs.Blocks.{block_at}
+use Rattle.unit_model.specs.Claims.{cell_at, claim_at, claim_of, covers, in_mask, names}
+use Rattle.unit_model.specs.Meetings.{Arrival}
+use Rattle.unit_model.specs.Radiated.{cell_id, cell_report, first_clock, id_from, id_or, is_used, report_of, reported, samples_under, symbol_report, used_below, used_mask}
+use Rattle.unit_model.specs.Reports.{accepted_of, ru_known, ru_reported, timely_of}
+use Rattle.unit_model.specs.Sweeps.{sweep}
+use Rattle.unit_model.specs.declared.allocations.Allocation.{Allocation}
+use Rattle.unit_model.specs.declared.cells.Block.{Block}
+use Rattle.unit_model.specs.declared.cells.Cell.{Cell}
+use Rattle.unit_model.specs.declared.cells.Claim.{Claim}
 use Rattle.unit_laws.proofs.ListLemmas.{each_same}
 use Rattle.unit_laws.proofs.ReportLemmas.{report_same}
 use Rattle.unit_laws.proofs.SweepLemmas.{sweep-same}

@@ -1,17 +1,17 @@
 -- What two allocations share, and what is claimed where allocations do not clash.
 use Rattle.std.proofs.Common.{◌≡◌, ℕ, ◌-◌, ◌<◌, inl, inr, Bool, true, false, not, ◌&&◌, ◌||◌, ◌==◌, if◌then◌else◌, List, [], ◌∷◌, Option, Some, None, refl, ap, sym, ◌∙◌, true≢false, arith}
 use Rattle.std.proofs.lemmas.Bool.{cases_Bool, or_cases, and_parts, and_from, or_left, or_right, eq-eqb, eqb-true, false_from_ne_true}
-use Rattle.unit_laws.specs.unit_model.specs.Lists.{every}
-use Rattle.unit_laws.specs.unit_model.specs.Claims.{same_slot, same_way, is_from, first_prb, prb_count, in_mask, names, claim_of, claim_at, cell_of, every_cell, is_under, is_claimed, repeats, overlaps}
-use Rattle.unit_laws.specs.unit_model.specs.declared.allocations.Allocation.{Allocation}
-use Rattle.unit_laws.specs.unit_model.specs.declared.cells.Cell.{Cell}
-use Rattle.unit_laws.specs.unit_model.specs.declared.cells.Claim.{Claim}
+use Rattle.unit_model.specs.Lists.{every}
+use Rattle.unit_model.specs.Claims.{same_slot, same_way, is_from, first_prb, prb_count, in_mask, names, claim_of, claim_at, cell_of, every_cell, is_under, is_claimed, repeats, overlaps}
+use Rattle.unit_model.specs.declared.allocations.Allocation.{Allocation}
+use Rattle.unit_model.specs.declared.cells.Cell.{Cell}
+use Rattle.unit_model.specs.declared.cells.Claim.{Claim}
 use Rattle.fragment_laws.specs.Apart.{IsIn}
 use Rattle.plan_model.specs.Validity.{ranges_meet, share_cell, share_bit, clash, IsProper}
 use Rattle.plan_model.proofs.RangeLemmas.{found, meet_swap}
 use Rattle.plan_model.proofs.SlotLemmas.{eqb_swap}
 use Rattle.plan_model.proofs.ClashLemmas.{same_from, covers_own, bit_of, name_one, cell_at_start, overlap_of}
-use Rattle.unit_laws.specs.unit_model.proofs.ClaimLemmas.{same_way_is as ways_equal, same_slot_is as slots_equal, is_in as is_from_in, every_at, every_one, some_one}
+use Rattle.unit_model.proofs.ClaimLemmas.{same_way_is as ways_equal, same_slot_is as slots_equal, is_in as is_from_in, every_at, every_one, some_one}
 
 -- ---- tests are symmetric
 

@@ -8,33 +8,33 @@ use Rattle.fh_time.specs.Air.{air_of}
 use Rattle.fh_time.specs.Frame.{absolute_frame, frame_start}
 use Rattle.fh_time.specs.Numbering.{symbols_of}
 use Rattle.fh_time.specs.declared.values.Slot.{Slot}
-use Rattle.unit_laws.specs.air_source.specs.declared.events.Side.TheVariants.{Ru}
+use Rattle.air_source.specs.declared.events.Side.TheVariants.{Ru}
 use Rattle.fragment_laws.specs.Apart.{IsIn}
-use Rattle.unit_laws.specs.window_config.specs.Classes.{IsOnTime, class_of}
-use Rattle.unit_laws.specs.window_config.specs.Configs.{IsConfig}
-use Rattle.unit_laws.specs.window_config.specs.Limits.{IsWithinLimits}
-use Rattle.unit_laws.specs.window_config.specs.Plans.{IsPlanLine}
-use Rattle.unit_laws.specs.window_config.specs.Relations.{PassesCheck}
-use Rattle.unit_laws.specs.window_config.specs.Windows.{command_window_of, cp_dl_of, ticks_of_ns}
-use Rattle.unit_laws.specs.window_config.specs.declared.config.Config.{Config}
-use Rattle.unit_laws.specs.window_config.specs.declared.delays.Delays.{Delays}
-use Rattle.unit_laws.specs.window_config.specs.declared.delays.Range.{Range}
-use Rattle.unit_laws.specs.window_config.specs.declared.endpoints.EndpointConfig.{EndpointConfig}
-use Rattle.unit_laws.specs.window_config.specs.declared.plan.PlanKind.{PlanKind}
-use Rattle.unit_laws.specs.window_config.specs.declared.plan.PlanKind.TheVariants.{Down, Up, Idle}
-use Rattle.unit_laws.specs.window_config.specs.declared.plan.PlanLine.{PlanLine}
-use Rattle.unit_laws.specs.window_config.specs.declared.verdicts.Class.TheVariants.{OnTime}
-use Rattle.unit_laws.specs.window_config.proofs.Timing.{class_on_time}
-use Rattle.unit_laws.specs.unit_model.specs.Claims.{claim_at, same_slot}
-use Rattle.unit_laws.specs.unit_model.specs.Commands.{accepted, allocation_of as named_by, command_class, command_slot, command_start}
-use Rattle.unit_laws.specs.unit_model.specs.Meetings.{Arrival, commands, meetings}
-use Rattle.unit_laws.specs.unit_model.specs.Radiated.{first_clock}
-use Rattle.unit_laws.specs.unit_model.specs.Times.{end_of_time}
-use Rattle.unit_laws.specs.unit_model.specs.declared.allocations.Allocation.{Allocation}
-use Rattle.unit_laws.specs.unit_model.specs.declared.cells.Cell.{Cell}
-use Rattle.unit_laws.specs.unit_model.specs.declared.decoded.ControlSection.{ControlSection}
-use Rattle.unit_laws.specs.unit_model.proofs.ReachLaws.{symbol_soon}
-use Rattle.unit_laws.specs.unit_model.proofs.SweepLaws.{gap_is}
+use Rattle.window_config.specs.Classes.{IsOnTime, class_of}
+use Rattle.window_config.specs.Configs.{IsConfig}
+use Rattle.window_config.specs.Limits.{IsWithinLimits}
+use Rattle.window_config.specs.Plans.{IsPlanLine}
+use Rattle.window_config.specs.Relations.{PassesCheck}
+use Rattle.window_config.specs.Windows.{command_window_of, cp_dl_of, ticks_of_ns}
+use Rattle.window_config.specs.declared.config.Config.{Config}
+use Rattle.window_config.specs.declared.delays.Delays.{Delays}
+use Rattle.window_config.specs.declared.delays.Range.{Range}
+use Rattle.window_config.specs.declared.endpoints.EndpointConfig.{EndpointConfig}
+use Rattle.window_config.specs.declared.plan.PlanKind.{PlanKind}
+use Rattle.window_config.specs.declared.plan.PlanKind.TheVariants.{Down, Up, Idle}
+use Rattle.window_config.specs.declared.plan.PlanLine.{PlanLine}
+use Rattle.window_config.specs.declared.verdicts.Class.TheVariants.{OnTime}
+use Rattle.window_config.proofs.Timing.{class_on_time}
+use Rattle.unit_model.specs.Claims.{claim_at, same_slot}
+use Rattle.unit_model.specs.Commands.{accepted, allocation_of as named_by, command_class, command_slot, command_start}
+use Rattle.unit_model.specs.Meetings.{Arrival, commands, meetings}
+use Rattle.unit_model.specs.Radiated.{first_clock}
+use Rattle.unit_model.specs.Times.{end_of_time}
+use Rattle.unit_model.specs.declared.allocations.Allocation.{Allocation}
+use Rattle.unit_model.specs.declared.cells.Cell.{Cell}
+use Rattle.unit_model.specs.declared.decoded.ControlSection.{ControlSection}
+use Rattle.unit_model.proofs.ReachLaws.{symbol_soon}
+use Rattle.unit_model.proofs.SweepLaws.{gap_is}
 use Rattle.unit_laws.proofs.FarLemmas.{endpoints_equal}
 use Rattle.plan_model.specs.Departures.{departures_of, sending_window, sent_at, start_of_part, width_of}
 use Rattle.plan_model.specs.Lines.{line_allocation, is_down_kind, planned}
@@ -58,8 +58,8 @@ use Rattle.schedule_laws.proofs.SentLemmas.{IsOfMessage, IsSentStream, is_sent, 
 use Rattle.schedule_laws.proofs.TimeLemmas.{copy_from, copy_to, first_less, frame_is, in_end, in_time, wait_most}
 use Rattle.fh_time.specs.declared.frames.TheConstants.{FRAME, HALF_CYCLE}
 use Rattle.fh_time.proofs.Order.{same_fields as same_slot_fields}
-use Rattle.unit_laws.specs.unit_model.proofs.ClaimLemmas.{slot_self as slot_own}
-use Rattle.unit_laws.specs.window_config.proofs.TickLemmas.{in_ticks}
+use Rattle.unit_model.proofs.ClaimLemmas.{slot_self as slot_own}
+use Rattle.window_config.proofs.TickLemmas.{in_ticks}
 use Rattle.fh_time.specs.declared.nanoseconds.TheConstants.{NANOSECOND}
 
 -- ---- times

@@ -1,19 +1,19 @@
 -- What the radio unit decodes of a plan's data.
 use Rattle.std.proofs.Common.{◌≡◌, ℤ, ◌⊎◌, inl, inr, List, [], ◌∷◌, ◌++◌, refl, ap, sym, ◌∙◌, subst}
-use Rattle.unit_laws.specs.air_source.specs.declared.events.Side.TheVariants.{Ru}
+use Rattle.air_source.specs.declared.events.Side.TheVariants.{Ru}
 use Rattle.ecpri_fragments.specs.Generations.{Fragment}
 use Rattle.ecpri_fragments.specs.Verdicts.{message, whole_of}
 use Rattle.ecpri_fragments.specs.declared.verdict.Verdict.{Verdict}
 use Rattle.ecpri_fragments.specs.declared.verdict.Verdict.TheVariants.{Stored, Whole, Repeat, Stray, TooLong}
 use Rattle.fragment_laws.specs.Apart.{IsIn}
-use Rattle.unit_laws.specs.window_config.specs.declared.config.Config.{Config}
-use Rattle.unit_laws.specs.window_config.specs.declared.endpoints.EndpointConfig.{EndpointConfig}
-use Rattle.unit_laws.specs.unit_model.specs.Decoding.{data_now, data_sections, data_told, decode_message, decoded_now, sections_of}
-use Rattle.unit_laws.specs.unit_model.specs.Lists.{onto}
-use Rattle.unit_laws.specs.unit_model.specs.Meetings.{Arrival, Commands, Meeting, Piece, fragments, meetings}
-use Rattle.unit_laws.specs.unit_model.specs.Proper.{IsAt}
-use Rattle.unit_laws.specs.unit_model.specs.declared.decoded.ControlSection.{ControlSection}
-use Rattle.unit_laws.specs.unit_model.specs.declared.decoded.UserSection.{UserSection}
+use Rattle.window_config.specs.declared.config.Config.{Config}
+use Rattle.window_config.specs.declared.endpoints.EndpointConfig.{EndpointConfig}
+use Rattle.unit_model.specs.Decoding.{data_now, data_sections, data_told, decode_message, decoded_now, sections_of}
+use Rattle.unit_model.specs.Lists.{onto}
+use Rattle.unit_model.specs.Meetings.{Arrival, Commands, Meeting, Piece, fragments, meetings}
+use Rattle.unit_model.specs.Proper.{IsAt}
+use Rattle.unit_model.specs.declared.decoded.ControlSection.{ControlSection}
+use Rattle.unit_model.specs.declared.decoded.UserSection.{UserSection}
 use Rattle.unit_laws.proofs.FarLemmas.{endpoints_equal}
 use Rattle.plan_model.specs.Sent.{SentFrame}
 use Rattle.plan_model.proofs.ListLemmas.{in_left, in_right, in_either}
@@ -21,7 +21,7 @@ use Rattle.schedule_laws.specs.Premise.{Texts, fragment_at}
 use Rattle.schedule_laws.proofs.FlowLemmas.{here}
 use Rattle.schedule_laws.proofs.FragmentLemmas.{fragments_command, fragments_piece}
 use Rattle.schedule_laws.proofs.ReadingLemmas.{AreCopies, a_command, a_piece, read_of, reading}
-use Rattle.unit_laws.specs.air_source.specs.declared.events.Side.{Side}
+use Rattle.air_source.specs.declared.events.Side.{Side}
 
 -- ---- the sections that a fragment makes
 

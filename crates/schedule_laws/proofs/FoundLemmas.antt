@@ -3,10 +3,10 @@ use Rattle.std.proofs.Common.{◌≡◌, ◌≢◌, ℕ, zero, suc, ◌+◌, ◌
 use Rattle.std.specs.Prelude.{slice_index}
 use Rattle.std.specs.List.{slice_get}
 use Rattle.std.proofs.lemmas.Bool.{eq-eqb, ne_eqb}
-use Rattle.unit_laws.specs.window_config.specs.Endpoints.{ids_of}
-use Rattle.unit_laws.specs.window_config.specs.declared.endpoints.EndpointConfig.{EndpointConfig}
-use Rattle.unit_laws.specs.unit_model.specs.Meetings.{find_from}
-use Rattle.unit_laws.specs.unit_model.specs.Proper.{IsAt}
+use Rattle.window_config.specs.Endpoints.{ids_of}
+use Rattle.window_config.specs.declared.endpoints.EndpointConfig.{EndpointConfig}
+use Rattle.unit_model.specs.Meetings.{find_from}
+use Rattle.unit_model.specs.Proper.{IsAt}
 use Rattle.schedule_laws.proofs.OrderLemmas.{below_get, get_map}
 use Rattle.schedule_laws.specs.Found.{EndpointsAreFound}
 

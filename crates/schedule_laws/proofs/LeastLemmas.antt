@@ -6,13 +6,13 @@ use Rattle.std.specs.Ordering.{int_eq}
 use Rattle.std.proofs.lemmas.Bool.Decides.{Decides-int_eq}
 use Rattle.std.proofs.lemmas.Int.{ints}
 use Rattle.fragment_laws.specs.Apart.{IsIn}
-use Rattle.unit_laws.specs.window_config.specs.Configs.{IsConfig}
-use Rattle.unit_laws.specs.window_config.specs.Windows.{ticks_of_ns}
-use Rattle.unit_laws.specs.window_config.specs.declared.config.Config.{Config}
-use Rattle.unit_laws.specs.unit_model.specs.Lists.{onto}
-use Rattle.unit_laws.specs.unit_model.specs.Meetings.{Arrival}
-use Rattle.unit_laws.specs.unit_model.specs.Radiated.{first_clock}
-use Rattle.unit_laws.specs.unit_model.specs.Times.{end_of_time}
+use Rattle.window_config.specs.Configs.{IsConfig}
+use Rattle.window_config.specs.Windows.{ticks_of_ns}
+use Rattle.window_config.specs.declared.config.Config.{Config}
+use Rattle.unit_model.specs.Lists.{onto}
+use Rattle.unit_model.specs.Meetings.{Arrival}
+use Rattle.unit_model.specs.Radiated.{first_clock}
+use Rattle.unit_model.specs.Times.{end_of_time}
 use Rattle.plan_model.specs.Lines.{planned}
 use Rattle.plan_model.specs.Sent.{SentFrame, frames_from, sent}
 use Rattle.plan_model.specs.declared.lines.PlannedLine.{PlannedLine}

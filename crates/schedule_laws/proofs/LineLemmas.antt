@@ -8,17 +8,17 @@ use Rattle.fh_time.specs.Carrier.{is_outside}
 use Rattle.fh_time.specs.Numbering.{slots_of, symbols_of}
 use Rattle.fh_time.specs.declared.values.Slot.{Slot}
 use Rattle.fragment_laws.specs.Apart.{IsIn}
-use Rattle.unit_laws.specs.window_config.specs.Configs.{IsConfig}
-use Rattle.unit_laws.specs.window_config.specs.Endpoints.{IsEndpoint}
-use Rattle.unit_laws.specs.window_config.specs.Plans.{IsPlanLine}
-use Rattle.unit_laws.specs.window_config.specs.declared.config.Config.{Config}
-use Rattle.unit_laws.specs.window_config.specs.declared.endpoints.EndpointConfig.{EndpointConfig}
-use Rattle.unit_laws.specs.window_config.specs.declared.plan.PlanLine.{PlanLine}
-use Rattle.unit_laws.specs.unit_model.specs.Claims.{same_slot}
-use Rattle.unit_laws.specs.unit_model.specs.Commands.{uplink_in}
-use Rattle.unit_laws.specs.unit_model.specs.Proper.{IsAt}
-use Rattle.unit_laws.specs.unit_model.specs.declared.allocations.Allocation.{Allocation}
-use Rattle.unit_laws.specs.unit_model.proofs.ReachLaws.{symbol_soon}
+use Rattle.window_config.specs.Configs.{IsConfig}
+use Rattle.window_config.specs.Endpoints.{IsEndpoint}
+use Rattle.window_config.specs.Plans.{IsPlanLine}
+use Rattle.window_config.specs.declared.config.Config.{Config}
+use Rattle.window_config.specs.declared.endpoints.EndpointConfig.{EndpointConfig}
+use Rattle.window_config.specs.declared.plan.PlanLine.{PlanLine}
+use Rattle.unit_model.specs.Claims.{same_slot}
+use Rattle.unit_model.specs.Commands.{uplink_in}
+use Rattle.unit_model.specs.Proper.{IsAt}
+use Rattle.unit_model.specs.declared.allocations.Allocation.{Allocation}
+use Rattle.unit_model.proofs.ReachLaws.{symbol_soon}
 use Rattle.plan_model.specs.Lines.{line_allocation, planned}
 use Rattle.plan_model.specs.Streams.{has_part}
 use Rattle.plan_model.specs.Valid.{IsValid}
@@ -33,9 +33,9 @@ use Rattle.schedule_laws.proofs.ListLemmas.{of_map, in_all, at_in, numerology_sh
 use Rattle.schedule_laws.proofs.PlanLemmas.{few_uplink, in_range, line_of, one_line, valid_tested}
 use Rattle.schedule_laws.proofs.SentLemmas.{IsSentStream}
 use Rattle.fh_time.specs.declared.frames.TheConstants.{FRAME}
-use Rattle.unit_laws.specs.window_config.specs.declared.plan.TheConstants.{LAST_FRAME}
-use Rattle.unit_laws.specs.unit_model.specs.declared.uplink.TheConstants.{SLOT_SECTIONS}
-use Rattle.unit_laws.specs.unit_model.proofs.ClaimLemmas.{same_slot_is as slots_equal}
+use Rattle.window_config.specs.declared.plan.TheConstants.{LAST_FRAME}
+use Rattle.unit_model.specs.declared.uplink.TheConstants.{SLOT_SECTIONS}
+use Rattle.unit_model.proofs.ClaimLemmas.{same_slot_is as slots_equal}
 use Rattle.fh_time.proofs.Orders.{not_zero}
 
 -- ---- a line

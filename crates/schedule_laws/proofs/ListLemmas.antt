@@ -14,12 +14,12 @@ use Rattle.fh_time.specs.declared.numerology.Numerology.{Numerology}
 use Rattle.fh_time.specs.declared.values.Slot.{Slot}
 use Rattle.fh_time.specs.Kinds.{time_offset_of, cp_length_of}
 use Rattle.fragment_laws.specs.Apart.{IsIn}
-use Rattle.unit_laws.specs.window_config.specs.declared.endpoints.EndpointConfig.{EndpointConfig}
-use Rattle.unit_laws.specs.unit_model.specs.Lists.{each, each_tick, onto}
-use Rattle.unit_laws.specs.unit_model.specs.Radiated.{first_clock}
-use Rattle.unit_laws.specs.unit_model.specs.Sweeps.{of_endpoint, of_endpoints, at_tick, sweep}
-use Rattle.unit_laws.specs.unit_model.specs.Times.{end_of_time}
-use Rattle.unit_laws.specs.unit_model.proofs.ReachLaws.{IsShort, IsPiece, symbol_piece}
+use Rattle.window_config.specs.declared.endpoints.EndpointConfig.{EndpointConfig}
+use Rattle.unit_model.specs.Lists.{each, each_tick, onto}
+use Rattle.unit_model.specs.Radiated.{first_clock}
+use Rattle.unit_model.specs.Sweeps.{of_endpoint, of_endpoints, at_tick, sweep}
+use Rattle.unit_model.specs.Times.{end_of_time}
+use Rattle.unit_model.proofs.ReachLaws.{IsShort, IsPiece, symbol_piece}
 use Rattle.unit_laws.proofs.SweepLemmas.{IsKept, each_tick_related, of_endpoint_related}
 use Rattle.plan_model.specs.Streams.{over_symbols}
 use Rattle.plan_model.proofs.ListLemmas.{in_left, in_right, in_either}

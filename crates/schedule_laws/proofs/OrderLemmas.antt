@@ -5,12 +5,12 @@ use Rattle.std.specs.List.{fold, slice_get}
 use Rattle.std.proofs.lemmas.Bool.{and_parts, and_from, eq-eqb, leb-true}
 use Rattle.std.specs.Int.Signed.{≤ℤ_refl}
 use Rattle.fragment_laws.specs.Apart.{IsIn}
-use Rattle.unit_laws.specs.unit_model.specs.Lists.{each_tick}
+use Rattle.unit_model.specs.Lists.{each_tick}
 use Rattle.plan_model.specs.Packs.{PartFields, Message, Numbered, alone, frames_before, numbered, numbered_behind, packs, packs_behind, parts_of, same_symbol, size_of, takes, with_part}
 use Rattle.plan_model.proofs.ListLemmas.{in_either}
 use Rattle.schedule_laws.proofs.ListLemmas.{at_in}
 use Rattle.schedule_laws.proofs.PackLemmas.{parts_behind}
-use Rattle.unit_laws.specs.unit_model.proofs.ClaimLemmas.{slot_self as slot_own}
+use Rattle.unit_model.proofs.ClaimLemmas.{slot_self as slot_own}
 use Rattle.fh_time.proofs.Orders.{above_next as later_tick}
 use Rattle.ecpri_fragments.specs.declared.place.TheConstants.{MESSAGE_BYTES}
 

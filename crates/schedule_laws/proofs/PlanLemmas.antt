@@ -6,15 +6,15 @@ use Rattle.std.specs.Option.{option_to_list}
 use Rattle.std.proofs.lemmas.Bool.{cases_Bool, and_parts, eqb-true, leb-false}
 use Rattle.fh_time.specs.declared.values.Slot.{Slot}
 use Rattle.fragment_laws.specs.Apart.{IsIn}
-use Rattle.unit_laws.specs.window_config.specs.declared.config.Config.{Config}
-use Rattle.unit_laws.specs.window_config.specs.declared.endpoints.EndpointConfig.{EndpointConfig}
-use Rattle.unit_laws.specs.window_config.specs.declared.plan.PlanLine.{PlanLine}
-use Rattle.unit_laws.specs.unit_model.specs.Claims.{same_slot}
-use Rattle.unit_laws.specs.unit_model.specs.Commands.{is_full, is_uplink, uplink_in}
-use Rattle.unit_laws.specs.unit_model.specs.Lists.{or_else}
-use Rattle.unit_laws.specs.unit_model.specs.Meetings.{find_endpoint}
-use Rattle.unit_laws.specs.unit_model.specs.Proper.{IsAt}
-use Rattle.unit_laws.specs.unit_model.specs.declared.allocations.Allocation.{Allocation}
+use Rattle.window_config.specs.declared.config.Config.{Config}
+use Rattle.window_config.specs.declared.endpoints.EndpointConfig.{EndpointConfig}
+use Rattle.window_config.specs.declared.plan.PlanLine.{PlanLine}
+use Rattle.unit_model.specs.Claims.{same_slot}
+use Rattle.unit_model.specs.Commands.{is_full, is_uplink, uplink_in}
+use Rattle.unit_model.specs.Lists.{or_else}
+use Rattle.unit_model.specs.Meetings.{find_endpoint}
+use Rattle.unit_model.specs.Proper.{IsAt}
+use Rattle.unit_model.specs.declared.allocations.Allocation.{Allocation}
 use Rattle.plan_model.specs.Dense.{dense}
 use Rattle.plan_model.specs.Lines.{line_allocation, planned, planned_at, planned_from, planned_with}
 use Rattle.plan_model.specs.Valid.{dense_refused, IsValid}
@@ -25,8 +25,8 @@ use Rattle.plan_model.specs.declared.refusals.PlanWhy.{PlanWhy}
 use Rattle.plan_model.specs.declared.refusals.PlanWhy.TheVariants.{Range, Overlap, TooManySections}
 use Rattle.plan_model.proofs.ListLemmas.{any_in}
 use Rattle.schedule_laws.proofs.ClashLemmas.{clash_swap}
-use Rattle.unit_laws.specs.unit_model.specs.declared.uplink.TheConstants.{SLOT_SECTIONS}
-use Rattle.unit_laws.specs.unit_model.proofs.ClaimLemmas.{same_slot_is as slots_equal}
+use Rattle.unit_model.specs.declared.uplink.TheConstants.{SLOT_SECTIONS}
+use Rattle.unit_model.proofs.ClaimLemmas.{same_slot_is as slots_equal}
 use Rattle.unit_laws.proofs.HistoryLemmas.{found_at}
 
 -- ---- a line at its endpoint

@@ -8,12 +8,12 @@ use Rattle.fh_time.specs.Air.{air_of}
 use Rattle.fh_time.specs.Numbering.{IsSlotOf, symbols_of}
 use Rattle.fh_time.specs.declared.values.Slot.{Slot}
 use Rattle.fragment_laws.specs.Apart.{IsIn}
-use Rattle.unit_laws.specs.window_config.specs.declared.config.Config.{Config}
-use Rattle.unit_laws.specs.window_config.specs.declared.endpoints.EndpointConfig.{EndpointConfig}
-use Rattle.unit_laws.specs.unit_model.specs.Proper.{IsAt}
-use Rattle.unit_laws.specs.unit_model.specs.Radiated.{first_clock}
-use Rattle.unit_laws.specs.unit_model.specs.Times.{end_of_time}
-use Rattle.unit_laws.specs.unit_model.proofs.SweepLaws.{gap_parts, gap_is}
+use Rattle.window_config.specs.declared.config.Config.{Config}
+use Rattle.window_config.specs.declared.endpoints.EndpointConfig.{EndpointConfig}
+use Rattle.unit_model.specs.Proper.{IsAt}
+use Rattle.unit_model.specs.Radiated.{first_clock}
+use Rattle.unit_model.specs.Times.{end_of_time}
+use Rattle.unit_model.proofs.SweepLaws.{gap_parts, gap_is}
 use Rattle.plan_model.specs.Lines.{line_allocation}
 use Rattle.plan_model.specs.Packs.{Message, Numbered, packs, parts_of}
 use Rattle.plan_model.specs.Sent.{SentFrame, endpoint_frames, frame_of, frames_from, message_frames, sent, stream_frames}

@@ -6,18 +6,18 @@ use Rattle.std.proofs.lemmas.Int.{ints}
 use Rattle.std.proofs.lemmas.List.Elements.{All-head, All-tail}
 use Rattle.fh_time.specs.Air.{air_of}
 use Rattle.fh_time.specs.Numbering.{symbols_of}
-use Rattle.unit_laws.specs.air_source.specs.declared.events.AirCell.{AirCell}
-use Rattle.unit_laws.specs.air_source.specs.declared.events.Side.TheVariants.{Ru}
+use Rattle.air_source.specs.declared.events.AirCell.{AirCell}
+use Rattle.air_source.specs.declared.events.Side.TheVariants.{Ru}
 use Rattle.fragment_laws.specs.Apart.{IsIn}
-use Rattle.unit_laws.specs.window_config.specs.declared.config.Config.{Config}
-use Rattle.unit_laws.specs.window_config.specs.declared.plan.PlanLine.{PlanLine}
-use Rattle.unit_laws.specs.unit_model.specs.Claims.{cell_at, cell_of, covers, in_mask, names}
-use Rattle.unit_laws.specs.unit_model.specs.Meetings.{Arrival}
-use Rattle.unit_laws.specs.unit_model.specs.Radiated.{first_clock}
-use Rattle.unit_laws.specs.unit_model.specs.Reports.{ru_known, ru_reported}
-use Rattle.unit_laws.specs.unit_model.specs.Standing.{same_cell}
-use Rattle.unit_laws.specs.unit_model.specs.declared.cells.Cell.{Cell}
-use Rattle.unit_laws.specs.unit_model.proofs.ReachLaws.{symbol_piece}
+use Rattle.window_config.specs.declared.config.Config.{Config}
+use Rattle.window_config.specs.declared.plan.PlanLine.{PlanLine}
+use Rattle.unit_model.specs.Claims.{cell_at, cell_of, covers, in_mask, names}
+use Rattle.unit_model.specs.Meetings.{Arrival}
+use Rattle.unit_model.specs.Radiated.{first_clock}
+use Rattle.unit_model.specs.Reports.{ru_known, ru_reported}
+use Rattle.unit_model.specs.Standing.{same_cell}
+use Rattle.unit_model.specs.declared.cells.Cell.{Cell}
+use Rattle.unit_model.proofs.ReachLaws.{symbol_piece}
 use Rattle.unit_laws.specs.Due.{AreDifferent}
 use Rattle.unit_laws.proofs.DifferLemmas.{IsOther, other_swap, same_self}
 use Rattle.unit_laws.proofs.DueLemmas.{reported_differ}
@@ -32,7 +32,7 @@ use Rattle.schedule_laws.proofs.CellLemmas.{plan_radiates}
 use Rattle.schedule_laws.proofs.LineLemmas.{good, start_in_time}
 use Rattle.schedule_laws.proofs.ListLemmas.{in_each, in_piece, numerology_short}
 use Rattle.fh_time.specs.declared.frames.TheConstants.{FRAME}
-use Rattle.unit_laws.specs.unit_model.proofs.ClaimLemmas.{within_carrier, from_within, covers_is}
+use Rattle.unit_model.proofs.ClaimLemmas.{within_carrier, from_within, covers_is}
 use Rattle.fh_time.proofs.Orders.{within_next as by_then}
 
 -- ---- one of a list in which all differ

@@ -7,7 +7,7 @@ use Rattle.fh_time.specs.Air.{air_of}
 use Rattle.fh_time.specs.Frame.{absolute_frame}
 use Rattle.fh_time.specs.Numbering.{symbols_of}
 use Rattle.fh_time.specs.declared.values.Slot.{Slot}
-use Rattle.unit_laws.specs.air_source.specs.declared.events.Side.TheVariants.{Ru}
+use Rattle.air_source.specs.declared.events.Side.TheVariants.{Ru}
 use Rattle.ecpri_fragments.specs.Generations.{Fragment}
 use Rattle.ecpri_fragments.specs.Verdicts.{Message as WholeMessage, message, standing_before, verdict_on}
 use Rattle.ecpri_fragments.specs.declared.verdict.Verdict.TheVariants.{Whole}
@@ -16,24 +16,24 @@ use Rattle.fragment_laws.specs.Flow.{Bounds, Flow, IsCopyOf as IsFragmentCopy, I
 use Rattle.fragment_laws.specs.Once.{Answered, IsOnceWhole, answered, answers, texts}
 use Rattle.fragment_laws.proofs.FlowLemmas.{copy}
 use Rattle.fragment_laws.proofs.OnceLemmas.{once_whole}
-use Rattle.unit_laws.specs.window_config.specs.Classes.{IsOnTime, class_of}
-use Rattle.unit_laws.specs.window_config.specs.Windows.{ticks_of_ns}
-use Rattle.unit_laws.specs.window_config.specs.declared.config.Config.{Config}
-use Rattle.unit_laws.specs.window_config.specs.declared.endpoints.EndpointConfig.{EndpointConfig}
-use Rattle.unit_laws.specs.window_config.specs.declared.plan.PlanLine.{PlanLine}
-use Rattle.unit_laws.specs.window_config.specs.declared.verdicts.Class.TheVariants.{OnTime}
-use Rattle.unit_laws.specs.window_config.proofs.Timing.{class_on_time}
-use Rattle.unit_laws.specs.unit_model.specs.Blocks.{data_class, data_slot, data_start}
-use Rattle.unit_laws.specs.unit_model.specs.Claims.{is_from, same_slot}
-use Rattle.unit_laws.specs.unit_model.specs.Decoding.{Decoded, data_sections, decode, decode_message, sections_of}
-use Rattle.unit_laws.specs.unit_model.specs.Lists.{onto}
-use Rattle.unit_laws.specs.unit_model.specs.Meetings.{Arrival, fragments, meetings}
-use Rattle.unit_laws.specs.unit_model.specs.Proper.{IsAt}
-use Rattle.unit_laws.specs.unit_model.specs.Radiated.{first_clock}
-use Rattle.unit_laws.specs.unit_model.specs.Times.{end_of_time}
-use Rattle.unit_laws.specs.unit_model.specs.declared.decoded.UserSection.{UserSection}
-use Rattle.unit_laws.specs.unit_model.proofs.ReachLaws.{symbol_soon}
-use Rattle.unit_laws.specs.unit_model.proofs.SweepLaws.{gap_is}
+use Rattle.window_config.specs.Classes.{IsOnTime, class_of}
+use Rattle.window_config.specs.Windows.{ticks_of_ns}
+use Rattle.window_config.specs.declared.config.Config.{Config}
+use Rattle.window_config.specs.declared.endpoints.EndpointConfig.{EndpointConfig}
+use Rattle.window_config.specs.declared.plan.PlanLine.{PlanLine}
+use Rattle.window_config.specs.declared.verdicts.Class.TheVariants.{OnTime}
+use Rattle.window_config.proofs.Timing.{class_on_time}
+use Rattle.unit_model.specs.Blocks.{data_class, data_slot, data_start}
+use Rattle.unit_model.specs.Claims.{is_from, same_slot}
+use Rattle.unit_model.specs.Decoding.{Decoded, data_sections, decode, decode_message, sections_of}
+use Rattle.unit_model.specs.Lists.{onto}
+use Rattle.unit_model.specs.Meetings.{Arrival, fragments, meetings}
+use Rattle.unit_model.specs.Proper.{IsAt}
+use Rattle.unit_model.specs.Radiated.{first_clock}
+use Rattle.unit_model.specs.Times.{end_of_time}
+use Rattle.unit_model.specs.declared.decoded.UserSection.{UserSection}
+use Rattle.unit_model.proofs.ReachLaws.{symbol_soon}
+use Rattle.unit_model.proofs.SweepLaws.{gap_is}
 use Rattle.unit_laws.proofs.FarLemmas.{endpoints_equal}
 use Rattle.plan_model.specs.Departures.{departures_of, sent_at, start_of_part, width_of}
 use Rattle.plan_model.specs.Lines.{line_allocation, planned}
@@ -57,9 +57,9 @@ use Rattle.schedule_laws.proofs.OrderLemmas.{one_symbol}
 use Rattle.schedule_laws.proofs.PackLemmas.{message_from}
 use Rattle.schedule_laws.proofs.SentLemmas.{is_sent, message_part, part_is, part_message, part_there, sent_is}
 use Rattle.schedule_laws.proofs.TimeLemmas.{frame_is, in_end, in_time, wait_most, last_one}
-use Rattle.unit_laws.specs.window_config.specs.declared.delays.TheConstants.{MOST_DELAY}
+use Rattle.window_config.specs.declared.delays.TheConstants.{MOST_DELAY}
 use Rattle.fh_time.proofs.Order.{same_fields as same_slot_fields}
-use Rattle.unit_laws.specs.unit_model.proofs.ClaimLemmas.{same_slot_is as slots_equal, slot_self as slot_own, from_within}
+use Rattle.unit_model.proofs.ClaimLemmas.{same_slot_is as slots_equal, slot_self as slot_own, from_within}
 use Rattle.ecpri_fragments.specs.Pieces.{joined}
 
 -- ---- the sections of a message

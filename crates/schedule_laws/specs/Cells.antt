@@ -3,18 +3,18 @@ use Rattle.std.specs.Prelude.{◌≡◌, ℕ, zero, suc, ℤ, pos, ◌+◌, ◌*
 use Rattle.std.specs.List.{list_any}
 use Rattle.fh_time.specs.Air.{air_of}
 use Rattle.fh_time.specs.declared.values.Slot.{Slot}
-use Rattle.unit_laws.specs.air_source.specs.declared.events.AirCell.{AirCell}
-use Rattle.unit_laws.specs.air_source.specs.declared.events.Side.TheVariants.{Ru}
-use Rattle.unit_laws.specs.window_config.specs.declared.config.Config.{Config}
-use Rattle.unit_laws.specs.window_config.specs.declared.endpoints.EndpointConfig.{EndpointConfig}
-use Rattle.unit_laws.specs.window_config.specs.declared.plan.PlanLine.{PlanLine}
-use Rattle.unit_laws.specs.unit_model.specs.Claims.{cell_at, names}
-use Rattle.unit_laws.specs.unit_model.specs.Lists.{each}
-use Rattle.unit_laws.specs.unit_model.specs.Meetings.{Arrival}
-use Rattle.unit_laws.specs.unit_model.specs.Radiated.{first_clock}
-use Rattle.unit_laws.specs.unit_model.specs.Reports.{ru_reported}
-use Rattle.unit_laws.specs.unit_model.specs.Sweeps.{sweep}
-use Rattle.unit_laws.specs.unit_model.specs.declared.cells.Cell.{Cell}
+use Rattle.air_source.specs.declared.events.AirCell.{AirCell}
+use Rattle.air_source.specs.declared.events.Side.TheVariants.{Ru}
+use Rattle.window_config.specs.declared.config.Config.{Config}
+use Rattle.window_config.specs.declared.endpoints.EndpointConfig.{EndpointConfig}
+use Rattle.window_config.specs.declared.plan.PlanLine.{PlanLine}
+use Rattle.unit_model.specs.Claims.{cell_at, names}
+use Rattle.unit_model.specs.Lists.{each}
+use Rattle.unit_model.specs.Meetings.{Arrival}
+use Rattle.unit_model.specs.Radiated.{first_clock}
+use Rattle.unit_model.specs.Reports.{ru_reported}
+use Rattle.unit_model.specs.Sweeps.{sweep}
+use Rattle.unit_model.specs.declared.cells.Cell.{Cell}
 use Rattle.plan_model.specs.Lines.{line_allocation, planned}
 use Rattle.plan_model.specs.declared.lines.PlannedLine.{PlannedLine}
 use Rattle.schedule_laws.specs.Data.{AreWritten, Blocks, radiates_in}

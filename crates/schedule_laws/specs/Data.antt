@@ -2,25 +2,25 @@
 use Rattle.std.specs.Prelude.{◌≡◌, ⊤, ℕ, ℤ, pos, ◌-◌, ◌<◌, ◌&&◌, Bool, true, false, not, if◌then◌else◌, List, [], ◌∷◌, Option, Some, None}
 use Rattle.std.specs.Int.{int_rem_euclid}
 use Rattle.std.specs.List.{slice_index_or}
-use Rattle.unit_laws.specs.air_source.specs.declared.events.Side.TheVariants.{Ru}
+use Rattle.air_source.specs.declared.events.Side.TheVariants.{Ru}
 use Rattle.bfp_codec.specs.declared.samples.Wide.{Wide}
 use Rattle.fragment_laws.specs.Apart.{IsIn, of_message}
 use Rattle.fragment_laws.specs.Flow.{numbers_of, size_to}
 use Rattle.fragment_laws.specs.Once.{IsOnceWhole, answers, texts}
-use Rattle.unit_laws.specs.window_config.specs.declared.config.Config.{Config}
-use Rattle.unit_laws.specs.window_config.specs.declared.endpoints.EndpointConfig.{EndpointConfig}
-use Rattle.unit_laws.specs.window_config.specs.declared.plan.PlanLine.{PlanLine}
-use Rattle.unit_laws.specs.window_config.specs.declared.verdicts.Class.TheVariants.{OnTime}
-use Rattle.unit_laws.specs.unit_model.specs.Blocks.{block_at, data_class, data_slot}
-use Rattle.unit_laws.specs.unit_model.specs.Claims.{cell_at, covers, first_prb, is_from, prb_count}
-use Rattle.unit_laws.specs.unit_model.specs.Decoding.{Sections, decode}
-use Rattle.unit_laws.specs.unit_model.specs.Lists.{onto}
-use Rattle.unit_laws.specs.unit_model.specs.Meetings.{Arrival, fragments}
-use Rattle.unit_laws.specs.unit_model.specs.Proper.{IsAt}
-use Rattle.unit_laws.specs.unit_model.specs.Reports.{data_of, met, timely_of}
-use Rattle.unit_laws.specs.unit_model.specs.declared.cells.Block.{Block}
-use Rattle.unit_laws.specs.unit_model.specs.declared.cells.Cell.{Cell}
-use Rattle.unit_laws.specs.unit_model.specs.declared.decoded.UserSection.{UserSection}
+use Rattle.window_config.specs.declared.config.Config.{Config}
+use Rattle.window_config.specs.declared.endpoints.EndpointConfig.{EndpointConfig}
+use Rattle.window_config.specs.declared.plan.PlanLine.{PlanLine}
+use Rattle.window_config.specs.declared.verdicts.Class.TheVariants.{OnTime}
+use Rattle.unit_model.specs.Blocks.{block_at, data_class, data_slot}
+use Rattle.unit_model.specs.Claims.{cell_at, covers, first_prb, is_from, prb_count}
+use Rattle.unit_model.specs.Decoding.{Sections, decode}
+use Rattle.unit_model.specs.Lists.{onto}
+use Rattle.unit_model.specs.Meetings.{Arrival, fragments}
+use Rattle.unit_model.specs.Proper.{IsAt}
+use Rattle.unit_model.specs.Reports.{data_of, met, timely_of}
+use Rattle.unit_model.specs.declared.cells.Block.{Block}
+use Rattle.unit_model.specs.declared.cells.Cell.{Cell}
+use Rattle.unit_model.specs.declared.decoded.UserSection.{UserSection}
 use Rattle.plan_model.specs.Lines.{line_allocation, planned}
 use Rattle.plan_model.specs.Packs.{Numbered, parts_of, size_of}
 use Rattle.plan_model.specs.Streams.{Part, frames_in, messages_of, part_fields, part_in}

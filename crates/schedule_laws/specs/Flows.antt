@@ -3,8 +3,8 @@ use Rattle.std.specs.Prelude.{ℕ, pos, ◌+ℤ◌, List, [], length}
 use Rattle.std.specs.List.{slice_get}
 use Rattle.std.specs.Option.{option_map_or}
 use Rattle.fragment_laws.specs.Flow.{Bounds, Flow}
-use Rattle.unit_laws.specs.window_config.specs.Windows.{ticks_of_ns}
-use Rattle.unit_laws.specs.window_config.specs.declared.config.Config.{Config}
+use Rattle.window_config.specs.Windows.{ticks_of_ns}
+use Rattle.window_config.specs.declared.config.Config.{Config}
 use Rattle.plan_model.specs.Departures.{departures_of, start_of_part}
 use Rattle.plan_model.specs.Packs.{Numbered}
 use Rattle.plan_model.specs.Streams.{Part, frames_in, messages_of}

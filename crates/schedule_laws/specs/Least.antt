@@ -1,17 +1,17 @@
 -- The premise can be met by any valid plan whose windows pass the check, over however many messages: by each frame once, with the least
 -- delay.
 use Rattle.std.specs.Prelude.{ℕ, ℤ, ◌+ℤ◌, List, [], All, map}
-use Rattle.unit_laws.specs.air_source.specs.declared.events.Side.TheVariants.{Ru}
+use Rattle.air_source.specs.declared.events.Side.TheVariants.{Ru}
 use Rattle.ecpri_frames.specs.Gathering.{whole_messages}
 use Rattle.fragment_laws.specs.Apart.{IsIn}
-use Rattle.unit_laws.specs.window_config.specs.Configs.{IsConfig}
-use Rattle.unit_laws.specs.window_config.specs.Plans.{IsPlanLine}
-use Rattle.unit_laws.specs.window_config.specs.Relations.{PassesCheck}
-use Rattle.unit_laws.specs.window_config.specs.Windows.{ticks_of_ns}
-use Rattle.unit_laws.specs.window_config.specs.declared.config.Config.{Config}
-use Rattle.unit_laws.specs.window_config.specs.declared.plan.PlanLine.{PlanLine}
-use Rattle.unit_laws.specs.unit_model.specs.Lists.{onto}
-use Rattle.unit_laws.specs.unit_model.specs.Meetings.{Arrival, met_in}
+use Rattle.window_config.specs.Configs.{IsConfig}
+use Rattle.window_config.specs.Plans.{IsPlanLine}
+use Rattle.window_config.specs.Relations.{PassesCheck}
+use Rattle.window_config.specs.Windows.{ticks_of_ns}
+use Rattle.window_config.specs.declared.config.Config.{Config}
+use Rattle.window_config.specs.declared.plan.PlanLine.{PlanLine}
+use Rattle.unit_model.specs.Lists.{onto}
+use Rattle.unit_model.specs.Meetings.{Arrival, met_in}
 use Rattle.plan_model.specs.Lines.{planned}
 use Rattle.plan_model.specs.Sent.{SentFrame, sent}
 use Rattle.plan_model.specs.Valid.{IsValid}

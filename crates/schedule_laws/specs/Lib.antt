@@ -1,9 +1,3 @@
-pub use Rattle.unit_laws.specs.air_source
-pub use Rattle.ecpri_frames
-pub use Rattle.fragment_laws
-pub use Rattle.plan_model
-pub use Rattle.unit_laws
-pub use Rattle.unit_laws.specs.unit_model
 pub mod Found
 pub mod Premise
 pub mod Flows

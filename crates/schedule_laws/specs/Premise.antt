@@ -2,19 +2,19 @@
 -- and each copy's delay lies in T12 (O-RAN.WG4.CUS, delay management). Times are ticks.
 use Rattle.std.specs.Prelude.{◌≡◌, ◌==◌, ⊤, ℕ, ℤ, pos, ◌+◌, ◌%◌, ◌+ℤ◌, ◌≤ℤ◌, true, List, [], ◌∷◌, All}
 use Rattle.std.specs.Int.{int_rem_euclid}
-use Rattle.unit_laws.specs.air_source.specs.declared.events.Side.TheVariants.{Ru}
+use Rattle.air_source.specs.declared.events.Side.TheVariants.{Ru}
 use Rattle.ecpri_fragments.specs.Generations.{Fragment}
 use Rattle.ecpri_frames.specs.Gathering.{whole_messages}
 use Rattle.fragment_laws.specs.Apart.{IsIn}
-use Rattle.unit_laws.specs.window_config.specs.Configs.{IsConfig}
-use Rattle.unit_laws.specs.window_config.specs.Plans.{IsPlanLine}
-use Rattle.unit_laws.specs.window_config.specs.Relations.{PassesCheck}
-use Rattle.unit_laws.specs.window_config.specs.Windows.{ticks_of_ns}
-use Rattle.unit_laws.specs.window_config.specs.declared.config.Config.{Config}
-use Rattle.unit_laws.specs.window_config.specs.declared.plan.PlanLine.{PlanLine}
-use Rattle.unit_laws.specs.unit_model.specs.Commands.{is_for, is_idle}
-use Rattle.unit_laws.specs.unit_model.specs.Meetings.{Arrival, Meeting, Commands, Piece, met_in}
-use Rattle.unit_laws.specs.unit_model.specs.declared.decoded.ControlSection.{ControlSection}
+use Rattle.window_config.specs.Configs.{IsConfig}
+use Rattle.window_config.specs.Plans.{IsPlanLine}
+use Rattle.window_config.specs.Relations.{PassesCheck}
+use Rattle.window_config.specs.Windows.{ticks_of_ns}
+use Rattle.window_config.specs.declared.config.Config.{Config}
+use Rattle.window_config.specs.declared.plan.PlanLine.{PlanLine}
+use Rattle.unit_model.specs.Commands.{is_for, is_idle}
+use Rattle.unit_model.specs.Meetings.{Arrival, Meeting, Commands, Piece, met_in}
+use Rattle.unit_model.specs.declared.decoded.ControlSection.{ControlSection}
 use Rattle.plan_model.specs.Lines.{is_down_kind, is_idle_kind as is_idle_line, planned}
 use Rattle.plan_model.specs.Sent.{SentFrame, sent}
 use Rattle.plan_model.specs.Streams.{frames_in}

@@ -2,13 +2,13 @@
 use Rattle.std.specs.Prelude.{◌≡◌, ℕ, ℤ, ◌<◌, ◌≤ℤ◌, true, false, List, [], ◌∷◌, filter}
 use Rattle.fh_time.specs.Air.{air_of}
 use Rattle.fragment_laws.specs.Apart.{IsIn}
-use Rattle.unit_laws.specs.window_config.specs.declared.config.Config.{Config}
-use Rattle.unit_laws.specs.window_config.specs.declared.plan.PlanLine.{PlanLine}
-use Rattle.unit_laws.specs.unit_model.specs.Claims.{cell_of, names}
-use Rattle.unit_laws.specs.unit_model.specs.Meetings.{Arrival}
-use Rattle.unit_laws.specs.unit_model.specs.Reports.{ru_reported}
-use Rattle.unit_laws.specs.unit_model.specs.Standing.{same_cell}
-use Rattle.unit_laws.specs.air_source.specs.declared.events.AirCell.{AirCell}
+use Rattle.window_config.specs.declared.config.Config.{Config}
+use Rattle.window_config.specs.declared.plan.PlanLine.{PlanLine}
+use Rattle.unit_model.specs.Claims.{cell_of, names}
+use Rattle.unit_model.specs.Meetings.{Arrival}
+use Rattle.unit_model.specs.Reports.{ru_reported}
+use Rattle.unit_model.specs.Standing.{same_cell}
+use Rattle.air_source.specs.declared.events.AirCell.{AirCell}
 use Rattle.plan_model.specs.Lines.{line_allocation, planned}
 use Rattle.plan_model.specs.declared.lines.PlannedLine.{PlannedLine}
 use Rattle.schedule_laws.specs.Cells.{planned_event}

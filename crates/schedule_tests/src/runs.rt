@@ -1,6 +1,6 @@
 // The messages of a stream, and the frames of many messages in one order, worked out by hand.
 ghost use Rattle.std.specs.Prelude.{◌≡◌, pos, ◌≤◌, ◌≤ℤ◌};
-ghost use Rattle.plan_runs.specs.plan_parts.specs.Parts.{IsTimed};
+ghost use Rattle.plan_parts.specs.Parts.{IsTimed};
 
 use fh_base::NoMemory;
 use fh_time::Ticks;

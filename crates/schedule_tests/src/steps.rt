@@ -1,6 +1,6 @@
 // What the tests need: configurations and lines, and a plan that is asked for its next frame.
 ghost use Rattle.std.specs.Prelude.{◌≡◌, ◌<◌, ◌≤◌, ◌+◌, ◌^◌, ◌++◌, ◌∷◌, [], pos, neg_ℤ, ◌≤ℤ◌, All, IfOk, OnOk, length};
-ghost use Rattle.window_config.specs.bfp_codec.specs.Layout.{HasWidth};
+ghost use Rattle.bfp_codec.specs.Layout.{HasWidth};
 ghost use Rattle.window_config.specs.Configs.{IsConfig};
 ghost use Rattle.window_config.specs.Endpoints.{IsEndpoint};
 ghost use Rattle.window_config.specs.Limits.{IsTime, IsWithinLimits};

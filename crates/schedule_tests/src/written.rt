@@ -1,6 +1,6 @@
 // Frames of planned lines, written out by hand from the layout tables.
 ghost use Rattle.std.specs.Prelude.{◌≡◌, ◌<◌, ◌≤ℤ◌, pos, neg_ℤ};
-ghost use Rattle.window_config.specs.bfp_codec.specs.Layout.{HasWidth};
+ghost use Rattle.bfp_codec.specs.Layout.{HasWidth};
 ghost use Rattle.window_config.specs.Endpoints.{IsEndpoint};
 ghost use Rattle.window_config.specs.Plans.{IsPlanLine};
 

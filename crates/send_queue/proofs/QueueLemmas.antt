@@ -11,10 +11,10 @@ use Rattle.std.specs.Int.Signed.{<ℤ-≤ℤ_trans}
 use Rattle.fh_time.proofs.Orders.{at_most, before_it, beyond_next, weak, not_eq}
 use Rattle.air_source.specs.declared.links.LinkFrame.{LinkFrame}
 use Rattle.fh_time.specs.declared.values.Ticks.{Ticks}
-use Rattle.uplink_model.specs.unit_model.specs.Lists.{each}
-use Rattle.uplink_model.specs.unit_model.proofs.SweepLaws.{each_none, each_same}
-use Rattle.uplink_model.specs.plan_model.proofs.ListLemmas.{all_map, all_join, filter_has, all_unit}
-use Rattle.uplink_model.specs.plan_model.proofs.TickLemmas.{next_tick}
+use Rattle.unit_model.specs.Lists.{each}
+use Rattle.unit_model.proofs.SweepLaws.{each_none, each_same}
+use Rattle.plan_model.proofs.ListLemmas.{all_map, all_join, filter_has, all_unit}
+use Rattle.plan_model.proofs.TickLemmas.{next_tick}
 use Rattle.uplink_model.specs.Sent.{leaves_at, leaving_at, frames_leaving}
 use Rattle.uplink_model.specs.SentLaws.{AreOf}
 use Rattle.send_queue.specs.Queues.{AllHaveLeft, LeaveFrom, AreQueuedInTurn, Gives, HasLeft, IsNextTime, IsSilentTo, Leaves, Took, WaitsFor, all_queued, first_time, leaves_after, queued, waiting_at}

@@ -1,8 +1,3 @@
-pub use Rattle.air_source
-pub use Rattle.uplink_model.specs.plan_model
-pub use Rattle.uplink_model.specs.unit_model
-pub use Rattle.uplink_model
-pub use Rattle.uplink_model.specs.window_config
 pub mod Queues
 pub mod QueueLaws
 pub mod Outboxes

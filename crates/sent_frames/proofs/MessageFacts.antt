@@ -10,23 +10,23 @@ use Rattle.std.specs.Option.{option_map_or}
 use Rattle.std.proofs.lemmas.Bool.{and_parts, eqb-true}
 use Rattle.std.proofs.lemmas.List.Sums.{sum_by-cons}
 use Rattle.fh_time.specs.Numbering.{symbols_of}
-use Rattle.schedule_laws.specs.fragment_laws.specs.Apart.{IsIn}
+use Rattle.fragment_laws.specs.Apart.{IsIn}
 use Rattle.window_config.specs.Configs.{IsConfig}
 use Rattle.window_config.specs.Plans.{IsPlanLine}
 use Rattle.window_config.specs.declared.config.Config.{Config}
 use Rattle.window_config.specs.declared.endpoints.EndpointConfig.{EndpointConfig}
 use Rattle.window_config.specs.declared.plan.PlanLine.{PlanLine}
-use Rattle.schedule_laws.specs.unit_model.specs.Claims.{same_slot}
-use Rattle.schedule_laws.specs.unit_model.specs.Proper.{IsAt}
-use Rattle.schedule_laws.specs.unit_laws.proofs.FarLemmas.{endpoints_equal}
-use Rattle.schedule_laws.specs.plan_model.specs.Lines.{planned}
-use Rattle.schedule_laws.specs.plan_model.specs.Packs.{Message, Numbered, packs, parts_of, size_of}
-use Rattle.schedule_laws.specs.plan_model.specs.Streams.{Part, frames_in, messages_of, part_fields, parts_in, section_size as plan_section_size}
-use Rattle.schedule_laws.specs.plan_model.specs.Valid.{IsValid}
-use Rattle.schedule_laws.specs.plan_model.specs.declared.lines.PlannedLine.{PlannedLine}
-use Rattle.schedule_laws.specs.plan_model.specs.declared.streams.Stream.{Stream}
-use Rattle.schedule_laws.specs.plan_model.specs.declared.streams.Stream.TheVariants.{DownData}
-use Rattle.schedule_laws.specs.plan_model.proofs.ListLemmas.{get_in}
+use Rattle.unit_model.specs.Claims.{same_slot}
+use Rattle.unit_model.specs.Proper.{IsAt}
+use Rattle.unit_laws.proofs.FarLemmas.{endpoints_equal}
+use Rattle.plan_model.specs.Lines.{planned}
+use Rattle.plan_model.specs.Packs.{Message, Numbered, packs, parts_of, size_of}
+use Rattle.plan_model.specs.Streams.{Part, frames_in, messages_of, part_fields, parts_in, section_size as plan_section_size}
+use Rattle.plan_model.specs.Valid.{IsValid}
+use Rattle.plan_model.specs.declared.lines.PlannedLine.{PlannedLine}
+use Rattle.plan_model.specs.declared.streams.Stream.{Stream}
+use Rattle.plan_model.specs.declared.streams.Stream.TheVariants.{DownData}
+use Rattle.plan_model.proofs.ListLemmas.{get_in}
 use Rattle.frame_bytes.specs.Messages.{MessageFits, SectionFits, message_size, sections_size}
 use Rattle.frame_bytes.proofs.Sections.{length_message}
 use Rattle.schedule_laws.specs.Flows.{messages_at}
@@ -38,7 +38,7 @@ use Rattle.schedule_laws.proofs.SentLemmas.{IsSentStream, message_part, part_is}
 use Rattle.sent_frames.specs.Messages.{Source, data_head, data_section, message_bytes, message_samples}
 use Rattle.fh_time.specs.declared.symbols.TheConstants.{SLOT_SYMBOLS}
 use Rattle.frame_bytes.specs.Headers.{carrier_of}
-use Rattle.schedule_laws.specs.unit_model.proofs.ClaimLemmas.{same_slot_is as slots_equal}
+use Rattle.unit_model.proofs.ClaimLemmas.{same_slot_is as slots_equal}
 use Rattle.ecpri_fragments.specs.declared.place.TheConstants.{MESSAGE_BYTES}
 
 -- a part of a message of an endpoint

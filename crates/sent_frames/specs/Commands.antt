@@ -11,8 +11,8 @@ use Rattle.uplane_sections.specs.Writes.{udCompHdr}
 use Rattle.window_config.specs.declared.endpoints.EndpointConfig.{EndpointConfig}
 use Rattle.window_config.specs.declared.plan.PlanKind.{PlanKind}
 use Rattle.window_config.specs.declared.plan.PlanKind.TheVariants.{Down, Up, Idle}
-use Rattle.schedule_laws.specs.plan_model.specs.Lines.{is_down_kind}
-use Rattle.schedule_laws.specs.plan_model.specs.declared.lines.PlannedLine.{PlannedLine}
+use Rattle.plan_model.specs.Lines.{is_down_kind}
+use Rattle.plan_model.specs.declared.lines.PlannedLine.{PlannedLine}
 use Rattle.frame_bytes.specs.Headers.{frame_id_of}
 
 -- udCompHdr: the endpoint's in an uplink command where the format is dynamic, else 0

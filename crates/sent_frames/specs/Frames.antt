@@ -3,10 +3,10 @@
 use Rattle.std.specs.Prelude.{ℕ, ◌+◌, ◌*◌, ◌%◌, ◌==◌, min, List, [], length}
 use Rattle.ecpri_fragments.specs.declared.sequence.SeqField.{SeqField}
 use Rattle.window_config.specs.declared.config.Config.{Config}
-use Rattle.schedule_laws.specs.plan_model.specs.Sent.{SentFrame}
-use Rattle.schedule_laws.specs.plan_model.specs.Streams.{frames_in}
-use Rattle.schedule_laws.specs.plan_model.specs.declared.streams.Stream.{Stream}
-use Rattle.schedule_laws.specs.plan_model.specs.declared.streams.Stream.TheVariants.{DownCommands, UpCommands, DownData, UpData}
+use Rattle.plan_model.specs.Sent.{SentFrame}
+use Rattle.plan_model.specs.Streams.{frames_in}
+use Rattle.plan_model.specs.declared.streams.Stream.{Stream}
+use Rattle.plan_model.specs.declared.streams.Stream.TheVariants.{DownCommands, UpCommands, DownData, UpData}
 use Rattle.frame_bytes.specs.Commands.{command_frame}
 use Rattle.frame_bytes.specs.Cuts.{piece_frame}
 use Rattle.sent_frames.specs.Commands.{command_head, command_section}

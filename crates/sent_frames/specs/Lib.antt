@@ -1,12 +1,3 @@
-pub use Rattle.schedule_laws.specs.air_source
-pub use Rattle.schedule_laws.specs.fragment_laws
-pub use Rattle.frame_bytes
-pub use Rattle.schedule_laws.specs.plan_model
-pub use Rattle.schedule_laws
-pub use Rattle.schedule_laws.specs.unit_laws
-pub use Rattle.schedule_laws.specs.unit_model
-pub use Rattle.uplane_sections
-pub use Rattle.window_config
 pub mod Commands
 pub mod Messages
 pub mod Frames

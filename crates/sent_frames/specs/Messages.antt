@@ -3,14 +3,13 @@ use Rattle.std.specs.Prelude.{ℕ, true, List, map}
 use Rattle.std.specs.List.{slice_index_or}
 use Rattle.bfp_codec.specs.declared.samples.Iq.{Iq}
 use Rattle.uplane_sections.specs.declared.values.UHead.{UHead}
-use Rattle.schedule_laws.specs.unit_model.specs.Claims.{cell_at}
-use Rattle.schedule_laws.specs.unit_model.specs.declared.cells.Cell.{Cell}
-use Rattle.schedule_laws.specs.plan_model.specs.Packs.{Message, parts_of}
-use Rattle.schedule_laws.specs.plan_model.specs.Streams.{Part}
+use Rattle.unit_model.specs.Claims.{cell_at}
+use Rattle.unit_model.specs.declared.cells.Cell.{Cell}
+use Rattle.plan_model.specs.Packs.{Message, parts_of}
+use Rattle.plan_model.specs.Streams.{Part}
 use Rattle.frame_bytes.specs.declared.messages.DataSection.{DataSection}
 use Rattle.frame_bytes.specs.Messages.{message_of}
-use Rattle.frame_bytes.specs.Headers.{frame_id_of}
-use Rattle.frame_bytes.specs.Headers.{carrier_of}
+use Rattle.frame_bytes.specs.Headers.{frame_id_of, carrier_of}
 
 -- the twelve samples of each cell
 abbrev pub Source : Type 0

@@ -2,17 +2,17 @@
 use Rattle.std.specs.Prelude.{◌≡◌, ℕ, ◌+◌, ◌*◌, ◌<◌, ◌==◌, min, List, length}
 use Rattle.std.specs.List.{slice_get}
 use Rattle.std.specs.Option.{option_map_or}
-use Rattle.schedule_laws.specs.air_source.specs.Answers.{block_of}
-use Rattle.schedule_laws.specs.air_source.specs.declared.places.RePlace.{RePlace}
+use Rattle.air_source.specs.Answers.{block_of}
+use Rattle.air_source.specs.declared.places.RePlace.{RePlace}
 use Rattle.bfp_codec.specs.declared.samples.Iq.{Iq}
 use Rattle.bfp_codec.specs.declared.samples.Wide.{Wide}
 use Rattle.ecpri_fragments.specs.declared.sequence.SeqField.{SeqField}
 use Rattle.window_config.specs.declared.endpoints.EndpointConfig.{EndpointConfig}
-use Rattle.schedule_laws.specs.plan_model.specs.declared.lines.PlannedLine.{PlannedLine}
+use Rattle.plan_model.specs.declared.lines.PlannedLine.{PlannedLine}
 use Rattle.frame_bytes.specs.Cuts.{piece_frame}
 use Rattle.frame_bytes.specs.Messages.{message_of, message_size}
 use Rattle.frame_bytes.specs.declared.messages.DataSection.{DataSection}
-use Rattle.schedule_laws.specs.plan_model.specs.Streams.{part_in}
+use Rattle.plan_model.specs.Streams.{part_in}
 use Rattle.sent_frames.specs.Messages.{Source, data_head}
 use Rattle.sent_frames.specs.declared.data.Fragment.{Fragment}
 use Rattle.frame_bytes.specs.Headers.{carrier_of}

@@ -4,7 +4,7 @@ ghost use Rattle.bfp_codec.specs.Layout.{HasWidth};
 ghost use Rattle.cplane_sections.specs.Message.{HeadFits, SectionFits};
 ghost use Rattle.window_config.specs.Endpoints.{IsEndpoint};
 ghost use Rattle.window_config.specs.Plans.{IsPlanLine};
-ghost use Rattle.schedule_laws.specs.plan_model.specs.Lines.{is_down_kind};
+ghost use Rattle.plan_model.specs.Lines.{is_down_kind};
 ghost use Rattle.frame_bytes.specs.Commands.{command_frame as frame_of_command};
 ghost use Rattle.sent_frames.specs.Commands.{beam_of, body_for, channel_body, command_head, command_section, comp_of};
 ghost use Rattle.frame_bytes.specs.Headers.{frame_id_of};

@@ -2,14 +2,14 @@
 ghost use Rattle.std.specs.Prelude.{◌≡◌, ℕ, ◌+◌, ◌-◌, ◌*◌, ◌≤◌, ◌<◌, min, List, length, take};
 ghost use Rattle.bfp_codec.specs.declared.samples.Iq.{Iq as SpecIq};
 ghost use Rattle.bfp_codec.specs.declared.samples.Wide.{Wide as SpecWide};
-ghost use Rattle.schedule_laws.specs.air_source.specs.Answers.{AnswersBy, block_of};
-ghost use Rattle.schedule_laws.specs.air_source.specs.Kept.{IsKept, closure_of};
-ghost use Rattle.schedule_laws.specs.air_source.specs.declared.places.RePlace.{RePlace as SpecPlace};
+ghost use Rattle.air_source.specs.Answers.{AnswersBy, block_of};
+ghost use Rattle.air_source.specs.Kept.{IsKept, closure_of};
+ghost use Rattle.air_source.specs.declared.places.RePlace.{RePlace as SpecPlace};
 ghost use Rattle.uplane_sections.specs.Writes.{HeadFits};
 ghost use Rattle.window_config.specs.Endpoints.{IsEndpoint};
 ghost use Rattle.window_config.specs.Plans.{IsPlanLine};
 ghost use Rattle.ecpri_fragments.specs.Pieces.{piece_count};
-ghost use Rattle.schedule_laws.specs.plan_model.specs.Streams.{part_in};
+ghost use Rattle.plan_model.specs.Streams.{part_in};
 ghost use Rattle.frame_bytes.specs.Messages.{MessageFits, message_size};
 ghost use Rattle.sent_frames.specs.Messages.{data_head, data_section};
 ghost use Rattle.sent_frames.specs.Sources.{AreAnswersIn, data_frame, field_of};

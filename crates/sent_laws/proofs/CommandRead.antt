@@ -3,7 +3,7 @@ use Rattle.std.proofs.Common.{◌≡◌, ℕ, ℤ, ◌+◌, ◌≤◌, Bool, fal
 use Rattle.std.specs.Prelude.{filter}
 use Rattle.std.proofs.lemmas.Bool.{eq-eqb, le-ltb}
 use Rattle.fh_time.specs.Numbering.{shape_of}
-use Rattle.sent_frames.specs.air_source.specs.declared.events.Side.TheVariants.{Ru}
+use Rattle.air_source.specs.declared.events.Side.TheVariants.{Ru}
 use Rattle.cplane_sections.specs.Tests.{checked}
 use Rattle.cplane_sections.specs.Writes.{IsReadAs}
 use Rattle.cplane_sections.specs.declared.values.CHead.{CHead}
@@ -13,11 +13,11 @@ use Rattle.ecpri_frames.specs.Gathering.{is_whole, whole_messages}
 use Rattle.ecpri_frames.specs.Messages.{Message, Reading}
 use Rattle.ecpri_frames.proofs.Spelled.{read_spelled}
 use Rattle.fault_counters.specs.declared.kinds.Counter.TheVariants.{CRefused}
-use Rattle.sent_frames.specs.window_config.specs.declared.endpoints.EndpointConfig.{EndpointConfig}
-use Rattle.sent_frames.specs.unit_model.specs.Meetings.{Commands, Ignored, Meeting, Piece, command, command_met, command_read, commands_with, find_endpoint, fragment_of, fragment_with, meet, met_in}
-use Rattle.sent_frames.specs.frame_bytes.specs.Commands.{whole_seq}
-use Rattle.sent_frames.specs.frame_bytes.specs.Transport.{IsOneMessage, IsTransport, frame_of}
-use Rattle.sent_frames.specs.frame_bytes.proofs.Frames.{frame_is_one}
+use Rattle.window_config.specs.declared.endpoints.EndpointConfig.{EndpointConfig}
+use Rattle.unit_model.specs.Meetings.{Commands, Ignored, Meeting, Piece, command, command_met, command_read, commands_with, find_endpoint, fragment_of, fragment_with, meet, met_in}
+use Rattle.frame_bytes.specs.Commands.{whole_seq}
+use Rattle.frame_bytes.specs.Transport.{IsOneMessage, IsTransport, frame_of}
+use Rattle.frame_bytes.proofs.Frames.{frame_is_one}
 use Rattle.ecpri_fragments.specs.Sequence.{id_of, sequence_of, application, is_fragmented}
 
 -- the message of a frame

@@ -1,11 +1,11 @@
 -- The fragments of a message: their sizes, and that joined they are the message.
 use Rattle.std.proofs.Common.{◌≡◌, ℕ, zero, suc, ◌+◌, ◌-◌, ◌*◌, ◌<◌, ◌≤◌, min, List, ◌++◌, length, refl, ap, sym, ◌∙◌, arith, append-nil, append_assoc, length-append, zero-add}
-use Rattle.sent_frames.specs.fragment_laws.specs.Flow.{size_to}
-use Rattle.sent_frames.specs.fragment_laws.specs.Once.{texts}
-use Rattle.sent_frames.specs.unit_model.proofs.CountLemmas.{no_time}
-use Rattle.sent_frames.specs.frame_bytes.specs.Cuts.{joined_from, piece_at}
-use Rattle.sent_frames.specs.frame_bytes.proofs.CutBytes.{length_cut}
-use Rattle.sent_frames.specs.frame_bytes.proofs.Joining.{joined_all}
+use Rattle.fragment_laws.specs.Flow.{size_to}
+use Rattle.fragment_laws.specs.Once.{texts}
+use Rattle.unit_model.proofs.CountLemmas.{no_time}
+use Rattle.frame_bytes.specs.Cuts.{joined_from, piece_at}
+use Rattle.frame_bytes.proofs.CutBytes.{length_cut}
+use Rattle.frame_bytes.proofs.Joining.{joined_all}
 use Rattle.ecpri_fragments.specs.Pieces.{joined, piece_count}
 use Rattle.ecpri_fragments.proofs.Cuts.{joined_one}
 

@@ -6,15 +6,15 @@ use Rattle.bfp_codec.specs.Shrunk.{shrunk}
 use Rattle.bfp_codec.specs.declared.methods.Method.{Method}
 use Rattle.bfp_codec.specs.declared.samples.Iq.{Iq}
 use Rattle.bfp_codec.specs.declared.samples.Wide.{Wide}
-use Rattle.sent_frames.specs.uplane_sections.specs.declared.values.UHead.{UHead}
-use Rattle.sent_frames.specs.unit_model.specs.Decoding.{Gathering, SectionBlocks, gathered}
-use Rattle.sent_frames.specs.unit_model.specs.Lists.{onto}
-use Rattle.sent_frames.specs.unit_model.proofs.CountLemmas.{no_time}
-use Rattle.sent_frames.specs.frame_bytes.specs.Reading.{read_as, section_items, sections_items, shrunk_prbs}
-use Rattle.sent_frames.specs.frame_bytes.specs.declared.messages.Carrier.{Carrier}
-use Rattle.sent_frames.specs.frame_bytes.specs.declared.messages.DataSection.{DataSection}
+use Rattle.uplane_sections.specs.declared.values.UHead.{UHead}
+use Rattle.unit_model.specs.Decoding.{Gathering, SectionBlocks, gathered}
+use Rattle.unit_model.specs.Lists.{onto}
+use Rattle.unit_model.proofs.CountLemmas.{no_time}
+use Rattle.frame_bytes.specs.Reading.{read_as, section_items, sections_items, shrunk_prbs}
+use Rattle.frame_bytes.specs.declared.messages.Carrier.{Carrier}
+use Rattle.frame_bytes.specs.declared.messages.DataSection.{DataSection}
 use Rattle.sent_laws.proofs.Fragments.{next_place}
-use Rattle.sent_frames.specs.unit_model.proofs.GatheringLemmas.{gathered-append as gathered_append}
+use Rattle.unit_model.proofs.GatheringLemmas.{gathered-append as gathered_append}
 
 -- n shrunk blocks from a PRB on
 abbrev pub shrunk_blocks : Method → (ℕ → List Iq) → ℕ → ℕ → List (List Wide)

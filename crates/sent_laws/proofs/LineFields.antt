@@ -17,22 +17,22 @@ use Rattle.bfp_codec.specs.declared.methods.Format.{Format}
 use Rattle.cplane_sections.specs.Header.{kind_of}
 use Rattle.cplane_sections.specs.Message.{Admits, AreAdmitted}
 use Rattle.cplane_sections.specs.Words.{BodyFits}
-use Rattle.sent_frames.specs.uplane_sections.specs.Writes.{udCompHdr}
-use Rattle.sent_frames.specs.window_config.specs.declared.endpoints.EndpointConfig.{EndpointConfig}
-use Rattle.sent_frames.specs.window_config.specs.declared.plan.PlanKind.{PlanKind}
-use Rattle.sent_frames.specs.window_config.specs.declared.plan.PlanKind.TheVariants.{Down, Up, Idle}
-use Rattle.sent_frames.specs.unit_model.specs.Commands.{has_no_offsets, has_offsets, is_for, is_idle}
-use Rattle.sent_frames.specs.unit_model.proofs.SweepLaws.{gap_is}
-use Rattle.sent_frames.specs.unit_model.proofs.CountLemmas.{no_time}
-use Rattle.sent_frames.specs.plan_model.specs.Lines.{is_idle_kind as is_idle_line}
-use Rattle.sent_frames.specs.plan_model.specs.declared.lines.PlannedLine.{PlannedLine}
-use Rattle.sent_frames.specs.schedule_laws.proofs.LineLemmas.{IsGoodLine}
-use Rattle.sent_frames.specs.schedule_laws.proofs.TimeLemmas.{id_below, first_less}
-use Rattle.sent_frames.specs.frame_bytes.specs.Commands.{IsCommand}
+use Rattle.uplane_sections.specs.Writes.{udCompHdr}
+use Rattle.window_config.specs.declared.endpoints.EndpointConfig.{EndpointConfig}
+use Rattle.window_config.specs.declared.plan.PlanKind.{PlanKind}
+use Rattle.window_config.specs.declared.plan.PlanKind.TheVariants.{Down, Up, Idle}
+use Rattle.unit_model.specs.Commands.{has_no_offsets, has_offsets, is_for, is_idle}
+use Rattle.unit_model.proofs.SweepLaws.{gap_is}
+use Rattle.unit_model.proofs.CountLemmas.{no_time}
+use Rattle.plan_model.specs.Lines.{is_idle_kind as is_idle_line}
+use Rattle.plan_model.specs.declared.lines.PlannedLine.{PlannedLine}
+use Rattle.schedule_laws.proofs.LineLemmas.{IsGoodLine}
+use Rattle.schedule_laws.proofs.TimeLemmas.{id_below, first_less}
+use Rattle.frame_bytes.specs.Commands.{IsCommand}
 use Rattle.sent_frames.specs.Commands.{beam_of, body_for, channel_body, command_head, command_section, comp_of}
 use Rattle.sent_frames.proofs.MessageFacts.{below_four}
-use Rattle.sent_frames.specs.frame_bytes.specs.Headers.{frame_id_of}
-use Rattle.sent_frames.specs.frame_bytes.proofs.ReadBack.{hdr_small as header_small}
+use Rattle.frame_bytes.specs.Headers.{frame_id_of}
+use Rattle.frame_bytes.proofs.ReadBack.{hdr_small as header_small}
 
 -- ---- the frame's low 8 bits
 

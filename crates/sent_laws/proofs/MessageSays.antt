@@ -8,38 +8,37 @@ use Rattle.fh_time.specs.Carrier.{count_of}
 use Rattle.fh_time.specs.Numbering.{shape_of, slots_of}
 use Rattle.fh_time.specs.declared.values.Shape.{Shape}
 use Rattle.fh_time.specs.declared.values.Slot.{Slot}
-use Rattle.sent_frames.specs.air_source.specs.declared.events.Side.TheVariants.{Ru}
+use Rattle.air_source.specs.declared.events.Side.TheVariants.{Ru}
 use Rattle.bfp_codec.specs.Shrunk.{CanPack, shrunk}
 use Rattle.bfp_codec.specs.declared.samples.Iq.{Iq}
-use Rattle.sent_frames.specs.uplane_sections.specs.Messages.{Head, Telling, told}
-use Rattle.sent_frames.specs.uplane_sections.specs.declared.values.UHead.{UHead}
-use Rattle.sent_frames.specs.uplane_sections.proofs.Back.{head_back}
-use Rattle.sent_frames.specs.fragment_laws.specs.Apart.{IsIn}
-use Rattle.sent_frames.specs.window_config.specs.declared.config.Config.{Config}
-use Rattle.sent_frames.specs.window_config.specs.declared.endpoints.EndpointConfig.{EndpointConfig}
-use Rattle.sent_frames.specs.unit_model.specs.Claims.{cell_at, first_prb, is_from, prb_count}
-use Rattle.sent_frames.specs.unit_model.specs.Decoding.{Gathering, SectionBlocks as ReadPart, Sections, data_with, decode, decoded_from, gathered, nothing_told}
-use Rattle.sent_frames.specs.unit_model.specs.Lists.{onto}
-use Rattle.sent_frames.specs.unit_model.specs.declared.decoded.UserSection.{UserSection}
-use Rattle.sent_frames.specs.plan_model.specs.Lines.{line_allocation}
-use Rattle.sent_frames.specs.plan_model.specs.Packs.{Message, parts_of, size_of}
-use Rattle.sent_frames.specs.plan_model.specs.Streams.{Part, part_fields}
-use Rattle.sent_frames.specs.frame_bytes.specs.Messages.{head_fields, message_of, sections_of}
-use Rattle.sent_frames.specs.frame_bytes.specs.Reading.{IsReadable, sections_items}
-use Rattle.sent_frames.specs.frame_bytes.specs.Spelled.{in_bytes}
-use Rattle.sent_frames.specs.frame_bytes.specs.declared.messages.Carrier.{Carrier}
-use Rattle.sent_frames.specs.frame_bytes.specs.declared.messages.DataSection.{DataSection}
-use Rattle.sent_frames.specs.frame_bytes.proofs.ReadBack.{head_written, sections_say}
-use Rattle.sent_frames.specs.schedule_laws.specs.Data.{AreSections, Blocks, IsDataFor}
-use Rattle.sent_frames.specs.schedule_laws.proofs.ListLemmas.{at_in}
+use Rattle.uplane_sections.specs.Messages.{Head, Telling, told}
+use Rattle.uplane_sections.specs.declared.values.UHead.{UHead}
+use Rattle.uplane_sections.proofs.Back.{head_back}
+use Rattle.fragment_laws.specs.Apart.{IsIn}
+use Rattle.window_config.specs.declared.config.Config.{Config}
+use Rattle.window_config.specs.declared.endpoints.EndpointConfig.{EndpointConfig}
+use Rattle.unit_model.specs.Claims.{cell_at, first_prb, is_from, prb_count}
+use Rattle.unit_model.specs.Decoding.{Gathering, SectionBlocks as ReadPart, Sections, data_with, decode, decoded_from, gathered, nothing_told}
+use Rattle.unit_model.specs.Lists.{onto}
+use Rattle.unit_model.specs.declared.decoded.UserSection.{UserSection}
+use Rattle.plan_model.specs.Lines.{line_allocation}
+use Rattle.plan_model.specs.Packs.{Message, parts_of, size_of}
+use Rattle.plan_model.specs.Streams.{Part, part_fields}
+use Rattle.frame_bytes.specs.Messages.{head_fields, message_of, sections_of}
+use Rattle.frame_bytes.specs.Reading.{IsReadable, sections_items}
+use Rattle.frame_bytes.specs.Spelled.{in_bytes}
+use Rattle.frame_bytes.specs.declared.messages.Carrier.{Carrier}
+use Rattle.frame_bytes.specs.declared.messages.DataSection.{DataSection}
+use Rattle.frame_bytes.proofs.ReadBack.{head_written, sections_say}
+use Rattle.schedule_laws.specs.Data.{AreSections, Blocks, IsDataFor}
+use Rattle.schedule_laws.proofs.ListLemmas.{at_in}
 use Rattle.sent_laws.specs.Frames.{blocks_of}
 use Rattle.sent_frames.specs.Messages.{Source, data_head, data_section, message_bytes, message_samples, part_samples}
 use Rattle.sent_laws.proofs.Gathered.{block_in, read_part, read_parts, sections_gathered, shrunk_blocks}
 use Rattle.sent_laws.proofs.LineFields.{at_most_nine, frame_id_is, frame_id_small}
 use Rattle.sent_frames.proofs.MessageFacts.{IsGoodMessage, IsGoodPart, all_map, message_fits}
-use Rattle.sent_frames.specs.frame_bytes.specs.Headers.{frame_id_of}
-use Rattle.sent_frames.specs.frame_bytes.specs.Headers.{carrier_of}
-use Rattle.sent_frames.specs.unit_model.proofs.ClaimLemmas.{starts_before as from_low, from_within as from_high}
+use Rattle.frame_bytes.specs.Headers.{frame_id_of, carrier_of}
+use Rattle.unit_model.proofs.ClaimLemmas.{starts_before as from_low, from_within as from_high}
 use Rattle.ecpri_fragments.specs.declared.place.TheConstants.{MESSAGE_BYTES}
 
 -- ---- what is told

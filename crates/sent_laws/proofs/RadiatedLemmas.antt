@@ -1,20 +1,20 @@
 -- What radiates where copies of the very bytes come.
 use Rattle.std.proofs.Common.{◌≡◌, ℕ, ℤ, ◌+ℤ◌, inl, inr, List, [], map, refl, ap, sym, subst}
-use Rattle.sent_frames.specs.air_source.specs.declared.events.Side.TheVariants.{Ru}
+use Rattle.air_source.specs.declared.events.Side.TheVariants.{Ru}
 use Rattle.ecpri_frames.specs.Gathering.{whole_messages}
-use Rattle.sent_frames.specs.fragment_laws.specs.Apart.{IsIn}
-use Rattle.sent_frames.specs.window_config.specs.Windows.{ticks_of_ns}
-use Rattle.sent_frames.specs.window_config.specs.declared.config.Config.{Config}
-use Rattle.sent_frames.specs.window_config.specs.declared.plan.PlanLine.{PlanLine}
-use Rattle.sent_frames.specs.unit_model.specs.Meetings.{Arrival, met_in}
-use Rattle.sent_frames.specs.plan_model.specs.Lines.{planned}
-use Rattle.sent_frames.specs.plan_model.specs.Sent.{SentFrame, sent}
-use Rattle.sent_frames.specs.schedule_laws.specs.Least.{least_arrival}
-use Rattle.sent_frames.specs.schedule_laws.specs.Premise.{AllArrive, IsCopyOf, IsReadBy}
-use Rattle.sent_frames.specs.schedule_laws.proofs.CellLemmas.{plan_radiates}
-use Rattle.sent_frames.specs.schedule_laws.proofs.LeastLemmas.{least_arrive, least_is, least_under}
-use Rattle.sent_frames.specs.schedule_laws.proofs.ListLemmas.{in_map, in_onto, of_map, onto_right}
-use Rattle.sent_frames.specs.schedule_laws.proofs.SingleLemmas.{radiates_once}
+use Rattle.fragment_laws.specs.Apart.{IsIn}
+use Rattle.window_config.specs.Windows.{ticks_of_ns}
+use Rattle.window_config.specs.declared.config.Config.{Config}
+use Rattle.window_config.specs.declared.plan.PlanLine.{PlanLine}
+use Rattle.unit_model.specs.Meetings.{Arrival, met_in}
+use Rattle.plan_model.specs.Lines.{planned}
+use Rattle.plan_model.specs.Sent.{SentFrame, sent}
+use Rattle.schedule_laws.specs.Least.{least_arrival}
+use Rattle.schedule_laws.specs.Premise.{AllArrive, IsCopyOf, IsReadBy}
+use Rattle.schedule_laws.proofs.CellLemmas.{plan_radiates}
+use Rattle.schedule_laws.proofs.LeastLemmas.{least_arrive, least_is, least_under}
+use Rattle.schedule_laws.proofs.ListLemmas.{in_map, in_onto, of_map, onto_right}
+use Rattle.schedule_laws.proofs.SingleLemmas.{radiates_once}
 use Rattle.sent_frames.specs.Frames.{sent_bytes}
 use Rattle.sent_laws.specs.Frames.{blocks_of, texts_of}
 use Rattle.sent_frames.specs.Messages.{Source}

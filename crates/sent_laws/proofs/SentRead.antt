@@ -4,45 +4,45 @@ use Rattle.std.specs.List.{slice_get}
 use Rattle.std.specs.Option.{option_map_or}
 use Rattle.std.proofs.lemmas.Nat.{mod_below}
 use Rattle.fh_time.specs.Numbering.{shape_of}
-use Rattle.sent_frames.specs.air_source.specs.declared.events.Side.TheVariants.{Ru}
+use Rattle.air_source.specs.declared.events.Side.TheVariants.{Ru}
 use Rattle.cplane_sections.specs.Header.{kind_of, size_of_head}
 use Rattle.cplane_sections.specs.Section.{size_of_section}
 use Rattle.cplane_sections.specs.Writes.{IsReadAs}
 use Rattle.cplane_sections.specs.declared.values.CHead.{CHead}
 use Rattle.cplane_sections.specs.declared.values.CSection.{CSection}
 use Rattle.ecpri_frames.specs.Gathering.{whole_messages}
-use Rattle.sent_frames.specs.fragment_laws.specs.Apart.{IsIn}
-use Rattle.sent_frames.specs.fragment_laws.specs.Flow.{size_to}
-use Rattle.sent_frames.specs.fragment_laws.specs.Once.{texts}
-use Rattle.sent_frames.specs.window_config.specs.declared.config.Config.{Config}
-use Rattle.sent_frames.specs.window_config.specs.declared.endpoints.EndpointConfig.{EndpointConfig}
-use Rattle.sent_frames.specs.window_config.specs.declared.plan.PlanLine.{PlanLine}
-use Rattle.sent_frames.specs.unit_model.specs.Commands.{is_for}
-use Rattle.sent_frames.specs.unit_model.specs.Decoding.{decode}
-use Rattle.sent_frames.specs.unit_model.specs.Meetings.{Piece, command, met_in}
-use Rattle.sent_frames.specs.unit_model.specs.Proper.{IsAt}
-use Rattle.sent_frames.specs.plan_model.specs.Lines.{planned}
-use Rattle.sent_frames.specs.plan_model.specs.Packs.{Message, Numbered, parts_of, size_of}
-use Rattle.sent_frames.specs.plan_model.specs.Sent.{SentFrame}
-use Rattle.sent_frames.specs.plan_model.specs.Streams.{Part, frames_in, messages_of, part_fields}
-use Rattle.sent_frames.specs.plan_model.specs.declared.lines.PlannedLine.{PlannedLine}
-use Rattle.sent_frames.specs.plan_model.specs.declared.streams.Stream.{Stream}
-use Rattle.sent_frames.specs.plan_model.specs.declared.streams.Stream.TheVariants.{DownCommands, UpCommands, DownData, UpData}
-use Rattle.sent_frames.specs.plan_model.proofs.SizeLemmas.{few_pieces}
-use Rattle.sent_frames.specs.frame_bytes.specs.Commands.{command_of, head_fields, section_fields}
-use Rattle.sent_frames.specs.frame_bytes.specs.Cuts.{piece_at}
-use Rattle.sent_frames.specs.frame_bytes.specs.Spelled.{in_bytes}
-use Rattle.sent_frames.specs.frame_bytes.proofs.CommandBack.{command_back}
-use Rattle.sent_frames.specs.frame_bytes.proofs.CommandFields.{head_width, section_width}
-use Rattle.sent_frames.specs.frame_bytes.proofs.Fields.{length-in_bytes}
-use Rattle.sent_frames.specs.schedule_laws.specs.Data.{IsDecoded}
-use Rattle.sent_frames.specs.schedule_laws.specs.Flows.{messages_at}
-use Rattle.sent_frames.specs.schedule_laws.specs.Least.{AreReadable, least_arrival}
-use Rattle.sent_frames.specs.schedule_laws.specs.Premise.{IsReadAsCommand, IsReadBy, fragment_at}
-use Rattle.sent_frames.specs.schedule_laws.proofs.FoundLemmas.{found}
-use Rattle.sent_frames.specs.schedule_laws.proofs.ListLemmas.{at_in, in_all}
-use Rattle.sent_frames.specs.schedule_laws.proofs.PlanLemmas.{line_of}
-use Rattle.sent_frames.specs.schedule_laws.proofs.SentLemmas.{IsOfMessage, IsSentStream, message_part, part_is, sent_is}
+use Rattle.fragment_laws.specs.Apart.{IsIn}
+use Rattle.fragment_laws.specs.Flow.{size_to}
+use Rattle.fragment_laws.specs.Once.{texts}
+use Rattle.window_config.specs.declared.config.Config.{Config}
+use Rattle.window_config.specs.declared.endpoints.EndpointConfig.{EndpointConfig}
+use Rattle.window_config.specs.declared.plan.PlanLine.{PlanLine}
+use Rattle.unit_model.specs.Commands.{is_for}
+use Rattle.unit_model.specs.Decoding.{decode}
+use Rattle.unit_model.specs.Meetings.{Piece, command, met_in}
+use Rattle.unit_model.specs.Proper.{IsAt}
+use Rattle.plan_model.specs.Lines.{planned}
+use Rattle.plan_model.specs.Packs.{Message, Numbered, parts_of, size_of}
+use Rattle.plan_model.specs.Sent.{SentFrame}
+use Rattle.plan_model.specs.Streams.{Part, frames_in, messages_of, part_fields}
+use Rattle.plan_model.specs.declared.lines.PlannedLine.{PlannedLine}
+use Rattle.plan_model.specs.declared.streams.Stream.{Stream}
+use Rattle.plan_model.specs.declared.streams.Stream.TheVariants.{DownCommands, UpCommands, DownData, UpData}
+use Rattle.plan_model.proofs.SizeLemmas.{few_pieces}
+use Rattle.frame_bytes.specs.Commands.{command_of, head_fields, section_fields}
+use Rattle.frame_bytes.specs.Cuts.{piece_at}
+use Rattle.frame_bytes.specs.Spelled.{in_bytes}
+use Rattle.frame_bytes.proofs.CommandBack.{command_back}
+use Rattle.frame_bytes.proofs.CommandFields.{head_width, section_width}
+use Rattle.frame_bytes.proofs.Fields.{length-in_bytes}
+use Rattle.schedule_laws.specs.Data.{IsDecoded}
+use Rattle.schedule_laws.specs.Flows.{messages_at}
+use Rattle.schedule_laws.specs.Least.{AreReadable, least_arrival}
+use Rattle.schedule_laws.specs.Premise.{IsReadAsCommand, IsReadBy, fragment_at}
+use Rattle.schedule_laws.proofs.FoundLemmas.{found}
+use Rattle.schedule_laws.proofs.ListLemmas.{at_in, in_all}
+use Rattle.schedule_laws.proofs.PlanLemmas.{line_of}
+use Rattle.schedule_laws.proofs.SentLemmas.{IsOfMessage, IsSentStream, message_part, part_is, sent_is}
 use Rattle.sent_frames.specs.Commands.{body_for, command_head, command_section}
 use Rattle.sent_frames.specs.Frames.{bytes_in, command_bytes, fragment_bytes, fragment_field, sent_bytes}
 use Rattle.sent_laws.specs.Frames.{blocks_of, texts_of}
@@ -54,7 +54,7 @@ use Rattle.sent_laws.proofs.LineFields.{body_idle, body_is_for, frame_id_is, lin
 use Rattle.sent_laws.proofs.MessageSays.{are_sections, is_decoded, sections_read}
 use Rattle.sent_frames.proofs.MessageFacts.{IsGoodPart, good_message, good_part, got_message, length_bytes, message_short}
 use Rattle.ecpri_fragments.specs.Pieces.{joined, piece_count}
-use Rattle.sent_frames.specs.window_config.specs.declared.config.TheConstants.{MOST_FRAGMENT, LEAST_FRAGMENT}
+use Rattle.window_config.specs.declared.config.TheConstants.{MOST_FRAGMENT, LEAST_FRAGMENT}
 
 -- ---- sizes
 

@@ -6,17 +6,17 @@ use Rattle.fh_time.specs.declared.spacing.Spacing.TheVariants.{Khz30}
 use Rattle.bfp_codec.specs.declared.samples.Iq.{Iq}
 use Rattle.bfp_codec.specs.declared.methods.Method.TheVariants.{Bfp}
 use Rattle.bfp_codec.specs.Layout.{be_bytes, number_bytes, packed_of}
-use Rattle.sent_frames.specs.window_config.specs.declared.config.Config.{Config}
-use Rattle.sent_frames.specs.window_config.specs.declared.endpoints.EndpointConfig.{EndpointConfig}
-use Rattle.sent_frames.specs.window_config.specs.declared.plan.PlanKind.{PlanKind}
-use Rattle.sent_frames.specs.window_config.specs.declared.plan.PlanKind.TheVariants.{Down, Up, Idle}
-use Rattle.sent_frames.specs.window_config.specs.declared.plan.PlanLine.{PlanLine}
-use Rattle.sent_frames.specs.plan_model.specs.Examples.{config_with, endpoint_of}
-use Rattle.sent_frames.specs.plan_model.specs.Sent.{SentFrame}
-use Rattle.sent_frames.specs.plan_model.specs.Streams.{Part}
-use Rattle.sent_frames.specs.plan_model.specs.declared.streams.Stream.{Stream}
-use Rattle.sent_frames.specs.plan_model.specs.declared.streams.Stream.TheVariants.{DownCommands, UpCommands, DownData}
-use Rattle.sent_frames.specs.frame_bytes.specs.Messages.{message_of, section_of}
+use Rattle.window_config.specs.declared.config.Config.{Config}
+use Rattle.window_config.specs.declared.endpoints.EndpointConfig.{EndpointConfig}
+use Rattle.window_config.specs.declared.plan.PlanKind.{PlanKind}
+use Rattle.window_config.specs.declared.plan.PlanKind.TheVariants.{Down, Up, Idle}
+use Rattle.window_config.specs.declared.plan.PlanLine.{PlanLine}
+use Rattle.plan_model.specs.Examples.{config_with, endpoint_of}
+use Rattle.plan_model.specs.Sent.{SentFrame}
+use Rattle.plan_model.specs.Streams.{Part}
+use Rattle.plan_model.specs.declared.streams.Stream.{Stream}
+use Rattle.plan_model.specs.declared.streams.Stream.TheVariants.{DownCommands, UpCommands, DownData}
+use Rattle.frame_bytes.specs.Messages.{message_of, section_of}
 use Rattle.sent_frames.specs.Frames.{sent_bytes}
 use Rattle.sent_frames.specs.Messages.{Source}
 

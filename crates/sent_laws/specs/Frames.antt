@@ -3,12 +3,12 @@ use Rattle.std.specs.Prelude.{[], List}
 use Rattle.std.specs.List.{slice_get}
 use Rattle.std.specs.Option.{option_map_or}
 use Rattle.bfp_codec.specs.Shrunk.{shrunk}
-use Rattle.sent_frames.specs.window_config.specs.declared.config.Config.{Config}
-use Rattle.sent_frames.specs.plan_model.specs.declared.lines.PlannedLine.{PlannedLine}
-use Rattle.sent_frames.specs.frame_bytes.specs.Cuts.{piece_at}
-use Rattle.sent_frames.specs.schedule_laws.specs.Data.{Blocks}
-use Rattle.sent_frames.specs.schedule_laws.specs.Flows.{messages_at}
-use Rattle.sent_frames.specs.schedule_laws.specs.Premise.{Texts}
+use Rattle.window_config.specs.declared.config.Config.{Config}
+use Rattle.plan_model.specs.declared.lines.PlannedLine.{PlannedLine}
+use Rattle.frame_bytes.specs.Cuts.{piece_at}
+use Rattle.schedule_laws.specs.Data.{Blocks}
+use Rattle.schedule_laws.specs.Flows.{messages_at}
+use Rattle.schedule_laws.specs.Premise.{Texts}
 use Rattle.sent_frames.specs.Messages.{Source, message_bytes}
 
 -- the bytes of each fragment, by endpoint, message and subsequence

@@ -1,11 +1,3 @@
-pub use Rattle.sent_frames.specs.air_source
-pub use Rattle.sent_frames.specs.frame_bytes
-pub use Rattle.sent_frames.specs.plan_model
-pub use Rattle.sent_frames.specs.schedule_laws
-pub use Rattle.sent_frames
-pub use Rattle.sent_frames.specs.unit_laws
-pub use Rattle.sent_frames.specs.unit_model
-pub use Rattle.sent_frames.specs.uplane_sections
 pub mod Frames
 pub mod Sent
 pub mod Radiated

@@ -2,22 +2,22 @@
 -- management). Times are ticks.
 use Rattle.std.specs.Prelude.{◌≡◌, ℕ, ℤ, ◌+ℤ◌, ◌<◌, ◌≤ℤ◌, true, false, List, [], ◌∷◌, filter}
 use Rattle.fh_time.specs.Air.{air_of}
-use Rattle.sent_frames.specs.fragment_laws.specs.Apart.{IsIn}
-use Rattle.sent_frames.specs.window_config.specs.Relations.{PassesCheck}
-use Rattle.sent_frames.specs.window_config.specs.Windows.{ticks_of_ns}
-use Rattle.sent_frames.specs.window_config.specs.declared.config.Config.{Config}
-use Rattle.sent_frames.specs.window_config.specs.declared.plan.PlanLine.{PlanLine}
-use Rattle.sent_frames.specs.unit_model.specs.Claims.{cell_of, names}
-use Rattle.sent_frames.specs.unit_model.specs.Meetings.{Arrival}
-use Rattle.sent_frames.specs.unit_model.specs.Reports.{ru_reported}
-use Rattle.sent_frames.specs.unit_model.specs.Standing.{same_cell}
-use Rattle.sent_frames.specs.plan_model.specs.Lines.{line_allocation, planned}
-use Rattle.sent_frames.specs.plan_model.specs.Sent.{SentFrame, sent}
-use Rattle.sent_frames.specs.plan_model.specs.declared.lines.PlannedLine.{PlannedLine}
-use Rattle.sent_frames.specs.schedule_laws.specs.Cells.{planned_air}
-use Rattle.sent_frames.specs.schedule_laws.specs.Least.{with_least_delay}
-use Rattle.sent_frames.specs.schedule_laws.specs.Premise.{AreInOrder}
-use Rattle.sent_frames.specs.schedule_laws.specs.Singles.{event_of}
+use Rattle.fragment_laws.specs.Apart.{IsIn}
+use Rattle.window_config.specs.Relations.{PassesCheck}
+use Rattle.window_config.specs.Windows.{ticks_of_ns}
+use Rattle.window_config.specs.declared.config.Config.{Config}
+use Rattle.window_config.specs.declared.plan.PlanLine.{PlanLine}
+use Rattle.unit_model.specs.Claims.{cell_of, names}
+use Rattle.unit_model.specs.Meetings.{Arrival}
+use Rattle.unit_model.specs.Reports.{ru_reported}
+use Rattle.unit_model.specs.Standing.{same_cell}
+use Rattle.plan_model.specs.Lines.{line_allocation, planned}
+use Rattle.plan_model.specs.Sent.{SentFrame, sent}
+use Rattle.plan_model.specs.declared.lines.PlannedLine.{PlannedLine}
+use Rattle.schedule_laws.specs.Cells.{planned_air}
+use Rattle.schedule_laws.specs.Least.{with_least_delay}
+use Rattle.schedule_laws.specs.Premise.{AreInOrder}
+use Rattle.schedule_laws.specs.Singles.{event_of}
 use Rattle.sent_frames.specs.Frames.{sent_bytes}
 use Rattle.sent_laws.specs.Frames.{blocks_of}
 use Rattle.sent_frames.specs.Messages.{Source}

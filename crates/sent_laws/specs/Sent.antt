@@ -2,17 +2,17 @@
 use Rattle.std.specs.Prelude.{ℕ, ◌<◌, ◌^◌, true, List, All}
 use Rattle.bfp_codec.specs.Shrunk.{CanPack}
 use Rattle.fh_time.specs.declared.values.Slot.{Slot}
-use Rattle.sent_frames.specs.window_config.specs.Configs.{IsConfig}
-use Rattle.sent_frames.specs.window_config.specs.Plans.{IsPlanLine}
-use Rattle.sent_frames.specs.window_config.specs.declared.config.Config.{Config}
-use Rattle.sent_frames.specs.window_config.specs.declared.endpoints.EndpointConfig.{EndpointConfig}
-use Rattle.sent_frames.specs.window_config.specs.declared.plan.PlanLine.{PlanLine}
-use Rattle.sent_frames.specs.unit_model.specs.Claims.{cell_at}
-use Rattle.sent_frames.specs.unit_model.specs.Proper.{IsAt}
-use Rattle.sent_frames.specs.plan_model.specs.Lines.{planned}
-use Rattle.sent_frames.specs.plan_model.specs.Valid.{IsValid}
-use Rattle.sent_frames.specs.schedule_laws.specs.Data.{AreWritten}
-use Rattle.sent_frames.specs.schedule_laws.specs.Least.{AreReadable}
+use Rattle.window_config.specs.Configs.{IsConfig}
+use Rattle.window_config.specs.Plans.{IsPlanLine}
+use Rattle.window_config.specs.declared.config.Config.{Config}
+use Rattle.window_config.specs.declared.endpoints.EndpointConfig.{EndpointConfig}
+use Rattle.window_config.specs.declared.plan.PlanLine.{PlanLine}
+use Rattle.unit_model.specs.Claims.{cell_at}
+use Rattle.unit_model.specs.Proper.{IsAt}
+use Rattle.plan_model.specs.Lines.{planned}
+use Rattle.plan_model.specs.Valid.{IsValid}
+use Rattle.schedule_laws.specs.Data.{AreWritten}
+use Rattle.schedule_laws.specs.Least.{AreReadable}
 use Rattle.sent_frames.specs.Frames.{sent_bytes}
 use Rattle.sent_laws.specs.Frames.{blocks_of, texts_of}
 use Rattle.sent_frames.specs.Messages.{Source}

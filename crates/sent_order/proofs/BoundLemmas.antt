@@ -11,21 +11,21 @@ use Rattle.window_config.specs.Windows.{ticks_of_ns}
 use Rattle.window_config.specs.declared.config.Config.{Config}
 use Rattle.window_config.specs.declared.endpoints.EndpointConfig.{EndpointConfig}
 use Rattle.window_config.specs.declared.plan.PlanLine.{PlanLine}
-use Rattle.schedule_laws.specs.unit_model.specs.Proper.{IsAt}
-use Rattle.schedule_laws.specs.unit_model.specs.Radiated.{first_clock}
-use Rattle.schedule_laws.specs.unit_model.specs.Times.{end_of_time}
-use Rattle.schedule_laws.specs.unit_model.proofs.SweepLaws.{gap_is}
-use Rattle.schedule_laws.specs.unit_laws.proofs.FarLemmas.{endpoints_equal}
-use Rattle.schedule_laws.specs.plan_model.specs.Departures.{departures_of, sending_window, sent_at, start_of_part, width_of}
-use Rattle.schedule_laws.specs.plan_model.specs.Lines.{planned}
-use Rattle.schedule_laws.specs.plan_model.specs.Packs.{Numbered}
-use Rattle.schedule_laws.specs.plan_model.specs.Sent.{SentFrame, endpoint_frames, frames_from, stream_frames}
-use Rattle.schedule_laws.specs.plan_model.specs.Streams.{Part, messages_of, parts_in}
-use Rattle.schedule_laws.specs.plan_model.specs.Valid.{IsValid}
-use Rattle.schedule_laws.specs.plan_model.specs.declared.lines.PlannedLine.{PlannedLine}
-use Rattle.schedule_laws.specs.plan_model.specs.declared.streams.Stream.{Stream}
-use Rattle.schedule_laws.specs.plan_model.specs.declared.streams.Stream.TheVariants.{DownCommands, UpCommands, DownData, UpData}
-use Rattle.schedule_laws.specs.plan_model.proofs.ListLemmas.{in_either}
+use Rattle.unit_model.specs.Proper.{IsAt}
+use Rattle.unit_model.specs.Radiated.{first_clock}
+use Rattle.unit_model.specs.Times.{end_of_time}
+use Rattle.unit_model.proofs.SweepLaws.{gap_is}
+use Rattle.unit_laws.proofs.FarLemmas.{endpoints_equal}
+use Rattle.plan_model.specs.Departures.{departures_of, sending_window, sent_at, start_of_part, width_of}
+use Rattle.plan_model.specs.Lines.{planned}
+use Rattle.plan_model.specs.Packs.{Numbered}
+use Rattle.plan_model.specs.Sent.{SentFrame, endpoint_frames, frames_from, stream_frames}
+use Rattle.plan_model.specs.Streams.{Part, messages_of, parts_in}
+use Rattle.plan_model.specs.Valid.{IsValid}
+use Rattle.plan_model.specs.declared.lines.PlannedLine.{PlannedLine}
+use Rattle.plan_model.specs.declared.streams.Stream.{Stream}
+use Rattle.plan_model.specs.declared.streams.Stream.TheVariants.{DownCommands, UpCommands, DownData, UpData}
+use Rattle.plan_model.proofs.ListLemmas.{in_either}
 use Rattle.schedule_laws.proofs.LineLemmas.{good, part_line, start_in_time}
 use Rattle.schedule_laws.proofs.SentLemmas.{IsSentStream, message_part, part_is}
 use Rattle.schedule_laws.proofs.TimeLemmas.{in_time, wait_most}

@@ -5,9 +5,9 @@ use Rattle.std.proofs.lemmas.Bool.Decides.{Decides-int_eq}
 use Rattle.std.proofs.lemmas.Int.{ints}
 use Rattle.std.proofs.lemmas.List.{map-append}
 use Rattle.fragment_laws.specs.Apart.{IsIn}
-use Rattle.schedule_laws.specs.unit_model.specs.Lists.{each_tick}
-use Rattle.schedule_laws.specs.plan_model.specs.Sent.{SentFrame}
-use Rattle.schedule_laws.specs.plan_model.proofs.TickLemmas.{int_cases, int_below, same_not, next_tick, ticks_same}
+use Rattle.unit_model.specs.Lists.{each_tick}
+use Rattle.plan_model.specs.Sent.{SentFrame}
+use Rattle.plan_model.proofs.TickLemmas.{int_cases, int_below, same_not, next_tick, ticks_same}
 use Rattle.frame_order.specs.Turns.{is_turn, times}
 use Rattle.frame_order.specs.declared.turns.Turn.{Turn}
 use Rattle.sent_order.specs.Runs.{turn_of}

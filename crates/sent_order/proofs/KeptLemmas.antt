@@ -10,21 +10,20 @@ use Rattle.std.proofs.lemmas.Int.{ints}
 use Rattle.fragment_laws.specs.Apart.{IsIn}
 use Rattle.window_config.specs.declared.config.Config.{Config}
 use Rattle.window_config.specs.declared.endpoints.EndpointConfig.{EndpointConfig}
-use Rattle.schedule_laws.specs.unit_model.specs.Lists.{each, each_tick}
-use Rattle.schedule_laws.specs.plan_model.specs.Packs.{Message, Numbered, PartFields, numbered_behind, packs}
-use Rattle.schedule_laws.specs.plan_model.specs.Sent.{SentFrame, endpoint_frames, frame_of, frames_from, message_frames, stream_frames}
-use Rattle.schedule_laws.specs.plan_model.specs.Streams.{Part, frames_in, messages_of, most_parts, part_fields, parts_in}
-use Rattle.schedule_laws.specs.plan_model.specs.declared.lines.PlannedLine.{PlannedLine}
-use Rattle.schedule_laws.specs.plan_model.specs.declared.streams.Stream.{Stream}
-use Rattle.schedule_laws.specs.plan_model.specs.declared.streams.Stream.TheVariants.{DownCommands, UpCommands, DownData}
-use Rattle.schedule_laws.specs.plan_model.proofs.ListLemmas.{in_either, of_filter, InOrder, order_join, order_filter}
-use Rattle.schedule_laws.specs.plan_model.proofs.TickLemmas.{nat_same, int_same}
-use Rattle.frame_order.specs.Turns.{AreRising, IsUpTo}
+use Rattle.unit_model.specs.Lists.{each, each_tick}
+use Rattle.plan_model.specs.Packs.{Message, Numbered, PartFields, numbered_behind, packs}
+use Rattle.plan_model.specs.Sent.{SentFrame, endpoint_frames, frame_of, frames_from, message_frames, stream_frames}
+use Rattle.plan_model.specs.Streams.{Part, frames_in, messages_of, most_parts, part_fields, parts_in}
+use Rattle.plan_model.specs.declared.lines.PlannedLine.{PlannedLine}
+use Rattle.plan_model.specs.declared.streams.Stream.{Stream}
+use Rattle.plan_model.specs.declared.streams.Stream.TheVariants.{DownCommands, UpCommands, DownData}
+use Rattle.plan_model.proofs.ListLemmas.{in_either, of_filter, InOrder, order_join, order_filter}
+use Rattle.plan_model.proofs.TickLemmas.{nat_same, int_same}
+use Rattle.frame_order.specs.Turns.{AreRising, IsUpTo, stream_place}
 use Rattle.schedule_laws.proofs.ListLemmas.{of_each, of_joined, of_map}
-use Rattle.frame_order.specs.Turns.{stream_place}
 use Rattle.sent_order.specs.Runs.{turn_of}
 use Rattle.fh_time.proofs.Orders.{nat_up, nat_less, int_less}
-use Rattle.schedule_laws.specs.unit_model.specs.Terms.{joined}
+use Rattle.unit_model.specs.Terms.{joined}
 
 -- ---- lists in which each stands so to all behind it
 

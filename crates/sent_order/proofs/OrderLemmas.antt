@@ -2,10 +2,10 @@
 use Rattle.std.proofs.Common.{ap, sym, ◌∙◌, List}
 use Rattle.std.specs.Int.{int_gap}
 use Rattle.std.specs.Prelude.{pos, ◌+ℤ◌}
-use Rattle.schedule_laws.specs.unit_model.specs.Radiated.{first_clock}
-use Rattle.schedule_laws.specs.unit_model.specs.Times.{end_of_time}
-use Rattle.schedule_laws.specs.plan_model.specs.Lines.{planned}
-use Rattle.schedule_laws.specs.plan_model.specs.Sent.{frames_from, sent}
+use Rattle.unit_model.specs.Radiated.{first_clock}
+use Rattle.unit_model.specs.Times.{end_of_time}
+use Rattle.plan_model.specs.Lines.{planned}
+use Rattle.plan_model.specs.Sent.{frames_from, sent}
 use Rattle.frame_order.specs.Turns.{times}
 use Rattle.frame_order.specs.declared.turns.Turn.{Turn}
 use Rattle.sent_order.specs.Runs.{SentIsInOrder}
@@ -13,7 +13,7 @@ use Rattle.sent_order.proofs.BoundLemmas.{all_in_time}
 use Rattle.sent_order.proofs.CountLemmas.{ticks_count}
 use Rattle.sent_order.proofs.KeptLemmas.{frames_kept, rising_of, ticks_kept, at_time}
 use Rattle.sent_order.proofs.RunLemmas.{runs_are}
-use Rattle.schedule_laws.specs.unit_model.specs.Lists.{each_tick}
+use Rattle.unit_model.specs.Lists.{each_tick}
 
 pub in_order : SentIsInOrder
 unfolding sent

@@ -11,16 +11,16 @@ use Rattle.window_config.specs.Windows.{ticks_of_ns}
 use Rattle.window_config.specs.declared.config.Config.{Config}
 use Rattle.window_config.specs.declared.endpoints.EndpointConfig.{EndpointConfig}
 use Rattle.window_config.specs.declared.plan.PlanLine.{PlanLine}
-use Rattle.schedule_laws.specs.unit_model.specs.Proper.{IsAt}
-use Rattle.schedule_laws.specs.unit_model.proofs.SweepLaws.{gap_is}
-use Rattle.schedule_laws.specs.plan_model.specs.Departures.{departures_of, sending_window, start_of_part, width_of}
-use Rattle.schedule_laws.specs.plan_model.specs.Lines.{planned}
-use Rattle.schedule_laws.specs.plan_model.specs.Packs.{Numbered, packs, size_of}
-use Rattle.schedule_laws.specs.plan_model.specs.Streams.{Part, frames_in, messages_of, part_fields, parts_in}
-use Rattle.schedule_laws.specs.plan_model.specs.Valid.{IsValid}
-use Rattle.schedule_laws.specs.plan_model.specs.declared.lines.PlannedLine.{PlannedLine}
-use Rattle.schedule_laws.specs.plan_model.specs.declared.streams.Stream.{Stream}
-use Rattle.schedule_laws.specs.plan_model.specs.declared.streams.Stream.TheVariants.{DownCommands, UpCommands, DownData, UpData}
+use Rattle.unit_model.specs.Proper.{IsAt}
+use Rattle.unit_model.proofs.SweepLaws.{gap_is}
+use Rattle.plan_model.specs.Departures.{departures_of, sending_window, start_of_part, width_of}
+use Rattle.plan_model.specs.Lines.{planned}
+use Rattle.plan_model.specs.Packs.{Numbered, packs, size_of}
+use Rattle.plan_model.specs.Streams.{Part, frames_in, messages_of, part_fields, parts_in}
+use Rattle.plan_model.specs.Valid.{IsValid}
+use Rattle.plan_model.specs.declared.lines.PlannedLine.{PlannedLine}
+use Rattle.plan_model.specs.declared.streams.Stream.{Stream}
+use Rattle.plan_model.specs.declared.streams.Stream.TheVariants.{DownCommands, UpCommands, DownData, UpData}
 use Rattle.frame_order.specs.Turns.{IsRun}
 use Rattle.frame_order.specs.declared.turns.Run.{Run}
 use Rattle.schedule_laws.proofs.FlowLemmas.{section_short, some_frames}
@@ -31,7 +31,7 @@ use Rattle.schedule_laws.proofs.SentLemmas.{IsSentStream, message_part, part_is}
 use Rattle.sent_order.specs.Runs.{MessagesAreRuns, endpoint_runs, latest, run_of, runs_from, stream_runs}
 use Rattle.sent_order.proofs.BoundLemmas.{most_before, part_time}
 use Rattle.window_config.proofs.TickLemmas.{in_ticks}
-use Rattle.schedule_laws.specs.unit_model.specs.Terms.{piece_count, MESSAGE_BYTES}
+use Rattle.unit_model.specs.Terms.{piece_count, MESSAGE_BYTES}
 use Rattle.window_config.specs.declared.config.TheConstants.{LEAST_FRAGMENT}
 
 few_frames : (fragment size : ℕ) → LEAST_FRAGMENT ≤ fragment → size ≤ MESSAGE_BYTES → piece_count fragment size ≤ 128

@@ -3,20 +3,20 @@ use Rattle.std.proofs.Common.{◌≡◌, ℕ, ℤ, pos, zero, suc, ◌+◌, ◌*
 use Rattle.std.proofs.lemmas.List.{map-append}
 use Rattle.window_config.specs.declared.config.Config.{Config}
 use Rattle.window_config.specs.declared.endpoints.EndpointConfig.{EndpointConfig}
-use Rattle.schedule_laws.specs.unit_model.specs.Lists.{each}
-use Rattle.schedule_laws.specs.plan_model.specs.Departures.{departures_of, sent_at, start_of_part}
-use Rattle.schedule_laws.specs.plan_model.specs.Packs.{Numbered}
-use Rattle.schedule_laws.specs.plan_model.specs.Sent.{SentFrame, endpoint_frames, frame_of, frames_from, message_frames, stream_frames}
-use Rattle.schedule_laws.specs.plan_model.specs.Streams.{Part, frames_in, messages_of}
-use Rattle.schedule_laws.specs.plan_model.specs.declared.lines.PlannedLine.{PlannedLine}
-use Rattle.schedule_laws.specs.plan_model.specs.declared.streams.Stream.{Stream}
-use Rattle.schedule_laws.specs.plan_model.specs.declared.streams.Stream.TheVariants.{DownCommands, UpCommands, DownData}
+use Rattle.unit_model.specs.Lists.{each}
+use Rattle.plan_model.specs.Departures.{departures_of, sent_at, start_of_part}
+use Rattle.plan_model.specs.Packs.{Numbered}
+use Rattle.plan_model.specs.Sent.{SentFrame, endpoint_frames, frame_of, frames_from, message_frames, stream_frames}
+use Rattle.plan_model.specs.Streams.{Part, frames_in, messages_of}
+use Rattle.plan_model.specs.declared.lines.PlannedLine.{PlannedLine}
+use Rattle.plan_model.specs.declared.streams.Stream.{Stream}
+use Rattle.plan_model.specs.declared.streams.Stream.TheVariants.{DownCommands, UpCommands, DownData}
 use Rattle.frame_order.specs.Turns.{leaves, rest_of, turn_at, turns}
 use Rattle.frame_order.specs.declared.turns.Turn.{Turn}
 use Rattle.frame_order.specs.declared.turns.Run.{Run}
 use Rattle.frame_order.proofs.TurnOrder.{leaves_in_time, made}
 use Rattle.sent_order.specs.Runs.{endpoint_runs, gap_ticks, rests_of, run_of, runs_from, stream_runs, turn_of}
-use Rattle.schedule_laws.specs.unit_model.specs.Terms.{joined}
+use Rattle.unit_model.specs.Terms.{joined}
 
 first_at : (start : ℤ) (i gap spread : ℕ) → start +ℤ pos (min ((i + 0) * gap) spread) ≡ start +ℤ pos (min (i * gap) spread)
 first_at start i gap spread = let e : i + 0 ≡ i = omega arith in ap (λ k. start +ℤ pos (min (k * gap) spread)) e

@@ -7,19 +7,19 @@ use Rattle.window_config.specs.Windows.{ticks_of_ns}
 use Rattle.window_config.specs.declared.config.Config.{Config}
 use Rattle.window_config.specs.declared.endpoints.EndpointConfig.{EndpointConfig}
 use Rattle.window_config.specs.declared.plan.PlanLine.{PlanLine}
-use Rattle.schedule_laws.specs.plan_model.specs.Departures.{departures_of, sent_at, start_of_part}
-use Rattle.schedule_laws.specs.plan_model.specs.Lines.{planned}
-use Rattle.schedule_laws.specs.plan_model.specs.Packs.{Numbered}
-use Rattle.schedule_laws.specs.plan_model.specs.Sent.{SentFrame, sent}
-use Rattle.schedule_laws.specs.plan_model.specs.Streams.{Part, frames_in, messages_of}
-use Rattle.schedule_laws.specs.plan_model.specs.Valid.{IsValid}
-use Rattle.schedule_laws.specs.plan_model.specs.declared.lines.PlannedLine.{PlannedLine}
-use Rattle.schedule_laws.specs.plan_model.specs.declared.streams.Stream.{Stream}
-use Rattle.schedule_laws.specs.plan_model.specs.declared.streams.Stream.TheVariants.{DownCommands, UpCommands, DownData}
+use Rattle.plan_model.specs.Departures.{departures_of, sent_at, start_of_part}
+use Rattle.plan_model.specs.Lines.{planned}
+use Rattle.plan_model.specs.Packs.{Numbered}
+use Rattle.plan_model.specs.Sent.{SentFrame, sent}
+use Rattle.plan_model.specs.Streams.{Part, frames_in, messages_of}
+use Rattle.plan_model.specs.Valid.{IsValid}
+use Rattle.plan_model.specs.declared.lines.PlannedLine.{PlannedLine}
+use Rattle.plan_model.specs.declared.streams.Stream.{Stream}
+use Rattle.plan_model.specs.declared.streams.Stream.TheVariants.{DownCommands, UpCommands, DownData}
 use Rattle.frame_order.specs.Turns.{AreRising, IsRun, rest_of, times}
 use Rattle.frame_order.specs.declared.turns.Run.{Run}
 use Rattle.frame_order.specs.declared.turns.Turn.{Turn}
-use Rattle.schedule_laws.specs.unit_model.specs.Terms.{joined}
+use Rattle.unit_model.specs.Terms.{joined}
 
 -- a frame, as the order sees it
 abbrev pub turn_of : SentFrame → Turn

@@ -1,2 +1,1 @@
-pub use Rattle.explain_reasons
 pub mod Silent

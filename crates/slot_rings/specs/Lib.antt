@@ -1,5 +1,3 @@
-pub use Rattle.unit_model.specs.air_source
-pub use Rattle.unit_model
 pub mod Places
 pub mod Blocks
 pub mod Rings

@@ -1,6 +1,6 @@
 -- Each judgement is sound.
 use Rattle.std.proofs.Common.{◌≡◌, ℕ, ℤ, Bool, true, false, List, [], ◌∷◌, ◌++◌, Option, Some, None, refl}
-use Rattle.std.specs.Prelude.{All, ◌==◌, ◌||◌, not, nat_lt, length, if◌then◌else◌}
+use Rattle.std.specs.Prelude.{All, ◌==◌, ◌||◌, not, nat_lt, length, if◌then◌else◌, Result, Ok, Err}
 use Rattle.std.proofs.lemmas.List.Elements.{All-nil, All-cons, All-head, All-tail, All-append}
 use Rattle.air_source.specs.declared.events.Side.{Side}
 use Rattle.air_source.specs.declared.events.Side.TheVariants.{Ru, Du}
@@ -17,7 +17,6 @@ use Rattle.ecpri_frames.specs.Gathering.{whole_messages}
 use Rattle.ecpri_frames.specs.Messages.{Message}
 use Rattle.ecpri_frames.specs.declared.heads.TheConstants.{IQ_DATA, ONE_WAY_DELAY, REAL_TIME_CONTROL}
 use Rattle.fh_time.specs.Numbering.{shape_of}
-use Rattle.std.specs.Prelude.{Result, Ok, Err}
 use Rattle.sound_judgements.specs.Sound.{CameTo, IsSoundJudgement, JudgementsAreSound}
 use Rattle.unit_laws.proofs.HistoryLemmas.{commands_are_proper, data_are_proper, found_at}
 use Rattle.unit_cells.specs.Headings.{IsSoundHeading}

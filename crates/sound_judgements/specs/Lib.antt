@@ -1,2 +1,1 @@
-pub use Rattle.unit_memory
 pub mod Sound

@@ -3,7 +3,7 @@ use Rattle.std.proofs.Common.{◌≡◌, ℕ, ◌<◌, ◌≤◌, true, arith}
 use Rattle.std.specs.Cmp.{first_so}
 use Rattle.std.proofs.lemmas.Bool.{ltb-true}
 use Rattle.std.proofs.lemmas.Int.{ints}
-use Rattle.report_lines.specs.air_source.specs.declared.events.AirCell.{AirCell}
+use Rattle.air_source.specs.declared.events.AirCell.{AirCell}
 use Rattle.sum_air.specs.OpenRuns.{OpenRun}
 use Rattle.sum_air.specs.Places.{place_of, same_place}
 use Rattle.sum_air.specs.States.{goes_on_with}

@@ -5,7 +5,7 @@ use Rattle.std.specs.List.{flat_map}
 use Rattle.std.proofs.lemmas.Int.{ints}
 use Rattle.std.proofs.lemmas.List.Concat.{flat_map-cons}
 use Rattle.std.proofs.lemmas.List.Sums.{fold_push}
-use Rattle.report_lines.specs.air_source.specs.declared.events.AirCell.{AirCell}
+use Rattle.air_source.specs.declared.events.AirCell.{AirCell}
 use Rattle.sum_air.specs.declared.totals.Totals.{Totals}
 use Rattle.sum_air.specs.Lines.{sum_line, line_text}
 use Rattle.sum_air.specs.OpenRuns.{OpenRun}

@@ -1,7 +1,7 @@
 -- Elements of a block that a mask has.
 use Rattle.std.proofs.Common.{◌≡◌, ℕ, ◌%◌, ◌<◌, refl, arith}
 use Rattle.std.proofs.lemmas.Int.{ints}
-use Rattle.report_lines.specs.bfp_codec.specs.declared.samples.Wide.{Wide}
+use Rattle.bfp_codec.specs.declared.samples.Wide.{Wide}
 use Rattle.report_lines.proofs.Masks.{is_full}
 use Rattle.sum_air.specs.declared.totals.Totals.{Totals}
 use Rattle.sum_air.specs.Totals.{no_totals, with_sample, with_element, IsWithin}

@@ -4,11 +4,11 @@ use Rattle.std.specs.Cmp.{first_so, second_so}
 use Rattle.std.specs.Ordering.{int_eq}
 use Rattle.std.proofs.lemmas.Bool.{eqb-true}
 use Rattle.fh_time.proofs.Orders.{same_z}
-use Rattle.report_lines.specs.air_source.specs.declared.events.Side.{Side}
-use Rattle.report_lines.specs.air_source.specs.declared.events.Side.TheVariants.{Ru, Du}
+use Rattle.air_source.specs.declared.events.Side.{Side}
+use Rattle.air_source.specs.declared.events.Side.TheVariants.{Ru, Du}
 use Rattle.sum_air.specs.declared.places.SymbolPlace.{SymbolPlace}
 use Rattle.sum_air.specs.Places.{same_place}
-use Rattle.report_lines.specs.air_source.specs.Units.{same_side}
+use Rattle.air_source.specs.Units.{same_side}
 
 side_same : (a b : Side) → same_side a b ≡ true → a ≡ b
 side_same Ru Ru h = refl

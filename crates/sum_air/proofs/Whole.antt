@@ -4,12 +4,12 @@ use Rattle.std.specs.List.{fold, AllByRecursion}
 use Rattle.std.proofs.lemmas.Grind.{flat_map-append}
 use Rattle.std.proofs.lemmas.List.Concat.{flat_map-cons}
 use Rattle.circular_buffer.specs.Buffer.{keep_last}
-use Rattle.report_lines.specs.air_source.specs.declared.events.Event.{Event}
-use Rattle.report_lines.specs.air_source.specs.declared.events.Event.TheVariants.{Cell, Delay, Arrival, Count}
-use Rattle.report_lines.specs.air_source.specs.declared.events.Side.{Side}
-use Rattle.report_lines.specs.air_source.specs.declared.events.Side.TheVariants.{Ru, Du}
-use Rattle.report_lines.specs.air_source.specs.Moves.{state_after, given_by}
-use Rattle.report_lines.specs.air_source.specs.MovesLaws.{state_after-append, given_by-append}
+use Rattle.air_source.specs.declared.events.Event.{Event}
+use Rattle.air_source.specs.declared.events.Event.TheVariants.{Cell, Delay, Arrival, Count}
+use Rattle.air_source.specs.declared.events.Side.{Side}
+use Rattle.air_source.specs.declared.events.Side.TheVariants.{Ru, Du}
+use Rattle.air_source.specs.Moves.{state_after, given_by}
+use Rattle.air_source.specs.MovesLaws.{state_after-append, given_by-append}
 use Rattle.report_lines.specs.Units.{count_text}
 use Rattle.sum_air.specs.Results.{delays_text}
 use Rattle.sum_air.specs.Summary.{cell_in, cells_in, cells_text, result_in, results_in, measured_text, count_in, counts_text, end_text, whole_summary}
@@ -17,7 +17,7 @@ use Rattle.sum_air.specs.SumStates.{SumState}
 use Rattle.sum_air.specs.States.{sum_start, sum_next, sum_gives, sum_ends, closing_text, delay_lines, after_closing, run_line, ended_by, after_cell, one_more}
 use Rattle.sum_air.proofs.Cut.{lines_by, lines_are}
 use Rattle.sum_air.proofs.Kept.{kept}
-use Rattle.report_lines.specs.air_source.specs.declared.events.AirCell.{AirCell}
+use Rattle.air_source.specs.declared.events.AirCell.{AirCell}
 
 -- an event before the counters, and a counter
 abbrev pub IsEarlier : Event → Type 0

@@ -2,11 +2,11 @@
 use Rattle.std.proofs.Common.{◌≡◌, ℕ, List, [], ◌∷◌, ◌++◌, Option, sym, ap, subst, ◌∙◌, append-nil}
 use Rattle.std.specs.Io.KnownBytes.{append_known}
 use Rattle.fh_base.specs.Told.{WritesFront}
-use Rattle.report_lines.specs.air_source.specs.declared.airs.AirFault.{AirFault}
-use Rattle.report_lines.specs.air_source.specs.declared.events.Event.{Event}
-use Rattle.report_lines.specs.air_source.specs.Moves.{state_after, given_by}
-use Rattle.report_lines.specs.air_source.specs.MovesLaws.{given_by-append}
-use Rattle.report_lines.specs.air_source.specs.Stops.{StopsIn}
+use Rattle.air_source.specs.declared.airs.AirFault.{AirFault}
+use Rattle.air_source.specs.declared.events.Event.{Event}
+use Rattle.air_source.specs.Moves.{state_after, given_by}
+use Rattle.air_source.specs.MovesLaws.{given_by-append}
+use Rattle.air_source.specs.Stops.{StopsIn}
 use Rattle.owed_bytes.specs.Owed.{Carried}
 use Rattle.air_sinks.specs.Stopping.{Halted}
 use Rattle.air_sinks.proofs.Fronts.{IsFront, WritesOut, front_of, stops_front, carried_from, front_from, all_from}

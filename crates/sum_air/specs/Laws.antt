@@ -1,9 +1,9 @@
 -- The laws of an air that carries a summary to a sink.
 use Rattle.std.specs.Prelude.{ℕ, List, [], ◌++◌, ◌≡◌, Option}
 use Rattle.std.proofs.Common.{refl, subst, ap, ◌∙◌}
-use Rattle.report_lines.specs.air_source.specs.declared.events.Event.{Event}
-use Rattle.report_lines.specs.air_source.specs.Moves.{state_after, given_by}
-use Rattle.report_lines.specs.air_source.specs.MovesLaws.{state_after-append, given_by-append}
+use Rattle.air_source.specs.declared.events.Event.{Event}
+use Rattle.air_source.specs.Moves.{state_after, given_by}
+use Rattle.air_source.specs.MovesLaws.{state_after-append, given_by-append}
 use Rattle.owed_bytes.specs.Owed.{Carried}
 use Rattle.owed_bytes.specs.CarriedLaws.{carried_none, carried_more}
 use Rattle.sum_air.specs.States.{sum_next, sum_gives}

@@ -1,4 +1,3 @@
-pub use Rattle.delay_measure
 pub mod Airs
 pub mod Laws
 pub mod Lines

@@ -5,7 +5,7 @@ use Rattle.text_lines.specs.Words.{spaced_text, spaced_signed_text, hex4_text}
 use Rattle.sum_air.specs.OpenRuns.{OpenRun}
 use Rattle.sum_air.specs.declared.places.SymbolPlace.{SymbolPlace}
 use Rattle.sum_air.specs.declared.totals.Totals.{Totals}
-use Rattle.report_lines.specs.air_source.specs.Units.{way_text}
+use Rattle.air_source.specs.Units.{way_text}
 
 -- the direction, the symbol's start in ticks, the endpoint, and frame, subframe, slot and symbol
 abbrev pub place_text : SymbolPlace → List ℕ

@@ -1,9 +1,9 @@
 -- The symbol of an endpoint that a line of a summary speaks of (this project's profile).
 use Rattle.std.specs.Prelude.{◌==◌, ◌&&◌, Bool}
 use Rattle.std.specs.Ordering.{int_eq}
-use Rattle.report_lines.specs.air_source.specs.declared.events.AirCell.{AirCell}
+use Rattle.air_source.specs.declared.events.AirCell.{AirCell}
 use Rattle.sum_air.specs.declared.places.SymbolPlace.{SymbolPlace}
-use Rattle.report_lines.specs.air_source.specs.Units.{same_side}
+use Rattle.air_source.specs.Units.{same_side}
 
 -- the symbol of a cell
 abbrev pub place_of : AirCell → SymbolPlace

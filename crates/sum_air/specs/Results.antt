@@ -1,10 +1,9 @@
 -- The line of the delays that a unit measured (this project's profile).
-use Rattle.std.specs.Prelude.{ℤ, List, [], ◌∷◌, ◌++◌, codes, length}
+use Rattle.std.specs.Prelude.{ℤ, List, [], ◌∷◌, ◌++◌, codes, length, ℕ}
 use Rattle.std.specs.List.{fold}
 use Rattle.std.specs.Int.{int_min, int_max}
 use Rattle.std.specs.Fmt.{signed_decimal}
-use Rattle.std.specs.Prelude.{ℕ}
-use Rattle.report_lines.specs.air_source.specs.declared.events.Side.{Side}
+use Rattle.air_source.specs.declared.events.Side.{Side}
 use Rattle.report_lines.specs.Units.{side_text}
 use Rattle.text_lines.specs.Words.{spaced_text}
 

@@ -1,11 +1,11 @@
 -- The summary by a state, event by event, as an air writes it.
 use Rattle.std.specs.Prelude.{ℕ, ℤ, ◌&&◌, Bool, true, false, List, [], ◌∷◌, ◌++◌, nat_lt, if◌then◌else◌, Option, Some, None}
 use Rattle.circular_buffer.specs.Buffer.{keep_last}
-use Rattle.report_lines.specs.air_source.specs.declared.events.AirCell.{AirCell}
-use Rattle.report_lines.specs.air_source.specs.declared.events.Event.{Event}
-use Rattle.report_lines.specs.air_source.specs.declared.events.Event.TheVariants.{Cell, Delay, Arrival, Count}
-use Rattle.report_lines.specs.air_source.specs.declared.events.Side.{Side}
-use Rattle.report_lines.specs.air_source.specs.declared.events.Side.TheVariants.{Ru, Du}
+use Rattle.air_source.specs.declared.events.AirCell.{AirCell}
+use Rattle.air_source.specs.declared.events.Event.{Event}
+use Rattle.air_source.specs.declared.events.Event.TheVariants.{Cell, Delay, Arrival, Count}
+use Rattle.air_source.specs.declared.events.Side.{Side}
+use Rattle.air_source.specs.declared.events.Side.TheVariants.{Ru, Du}
 use Rattle.report_lines.specs.Units.{count_text}
 use Rattle.sum_air.specs.Lines.{line_text}
 use Rattle.sum_air.specs.OpenRuns.{OpenRun}

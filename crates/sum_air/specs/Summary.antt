@@ -2,17 +2,17 @@
 use Rattle.std.specs.Prelude.{ℕ, ℤ, ◌&&◌, Bool, List, [], ◌∷◌, ◌++◌, codes, nat_lt, if◌then◌else◌}
 use Rattle.std.specs.List.{flat_map}
 use Rattle.circular_buffer.specs.Buffer.{keep_last}
-use Rattle.report_lines.specs.air_source.specs.declared.events.AirCell.{AirCell}
-use Rattle.report_lines.specs.air_source.specs.declared.events.Event.{Event}
-use Rattle.report_lines.specs.air_source.specs.declared.events.Event.TheVariants.{Cell, Delay, Arrival, Count}
-use Rattle.report_lines.specs.air_source.specs.declared.events.Side.{Side}
-use Rattle.report_lines.specs.air_source.specs.declared.events.Side.TheVariants.{Ru, Du}
+use Rattle.air_source.specs.declared.events.AirCell.{AirCell}
+use Rattle.air_source.specs.declared.events.Event.{Event}
+use Rattle.air_source.specs.declared.events.Event.TheVariants.{Cell, Delay, Arrival, Count}
+use Rattle.air_source.specs.declared.events.Side.{Side}
+use Rattle.air_source.specs.declared.events.Side.TheVariants.{Ru, Du}
 use Rattle.report_lines.specs.Units.{count_text}
 use Rattle.sum_air.specs.Lines.{sum_line}
 use Rattle.sum_air.specs.Places.{place_of, same_place}
 use Rattle.sum_air.specs.Results.{delays_text}
 use Rattle.sum_air.specs.Totals.{run_totals}
-use Rattle.report_lines.specs.air_source.specs.Units.{same_side}
+use Rattle.air_source.specs.Units.{same_side}
 
 -- ---- the cells, and the runs that they are cut into
 

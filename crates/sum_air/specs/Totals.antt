@@ -1,9 +1,9 @@
 -- What is added up of the cells of a line (this project's profile).
 use Rattle.std.specs.Prelude.{ℕ, zero, suc, pos, neg_ℤ, ◌+◌, ◌*◌, ◌^◌, ◌≤◌, ◌+ℤ◌, ◌≤ℤ◌, ◌==◌, if◌then◌else◌, List, Option, Some, None}
 use Rattle.std.specs.List.{slice_index_or, fold}
-use Rattle.report_lines.specs.air_source.specs.declared.events.AirCell.{AirCell}
-use Rattle.report_lines.specs.bfp_codec.specs.Samples.{no_wide}
-use Rattle.report_lines.specs.bfp_codec.specs.declared.samples.Wide.{Wide}
+use Rattle.air_source.specs.declared.events.AirCell.{AirCell}
+use Rattle.bfp_codec.specs.Samples.{no_wide}
+use Rattle.bfp_codec.specs.declared.samples.Wide.{Wide}
 use Rattle.report_lines.specs.Cells.{in_mask}
 use Rattle.sum_air.specs.declared.totals.Totals.{Totals}
 

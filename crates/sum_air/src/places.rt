@@ -1,7 +1,7 @@
 // The symbol of an endpoint that a line speaks of.
 ghost use Rattle.std.specs.Prelude.{◌≡◌};
 ghost use Rattle.sum_air.specs.Places.{place_of, same_place};
-ghost use Rattle.report_lines.specs.air_source.specs.Units.{same_side};
+ghost use Rattle.air_source.specs.Units.{same_side};
 
 use air_source::{AirCell, Side};
 use fh_time::{Slot, Ticks};

@@ -1,7 +1,7 @@
 // The line of a run.
 ghost use Rattle.std.specs.Prelude.{◌≡◌, ◌+◌, ◌≤◌, ◌++◌, length};
 ghost use Rattle.report_lines.specs.Cells.{slot_text};
-ghost use Rattle.report_lines.specs.air_source.specs.Units.{way_text};
+ghost use Rattle.air_source.specs.Units.{way_text};
 ghost use Rattle.sum_air.specs.Lines.{place_text, totals_text, line_text};
 
 use crate::places::SymbolPlace;

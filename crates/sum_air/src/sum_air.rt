@@ -3,7 +3,7 @@ ghost use Rattle.std.specs.Prelude.{◌≡◌, [], ◌∷◌, ◌++◌, refl, On
 ghost use Rattle.std.proofs.Common.{◌∙◌};
 ghost use Rattle.std.specs.Io.KnownBytes.{append_known};
 ghost use Rattle.fh_base.specs.Told.{WritesFront, WritesPart};
-ghost use Rattle.report_lines.specs.air_source.specs.Causes.{HasAirCause};
+ghost use Rattle.air_source.specs.Causes.{HasAirCause};
 ghost use Rattle.owed_bytes.specs.Owed.{Carried};
 ghost use Rattle.air_sinks.specs.Causes.{HasRefusal};
 ghost use Rattle.air_sinks.specs.Stopping.{Halted};

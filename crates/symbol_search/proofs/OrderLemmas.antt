@@ -5,10 +5,10 @@ use Rattle.std.specs.Ordering.{int_eq}
 use Rattle.std.proofs.lemmas.Int.{ints}
 use Rattle.std.proofs.lemmas.Bool.{eq-eqb, false_from_ne_true, lt-ltb}
 use Rattle.std.proofs.lemmas.Bool.Decides.{nat_tests, Decides-int_eq}
-use Rattle.unit_cells.specs.unit_model.specs.Claims.{same_slot}
-use Rattle.unit_cells.specs.unit_model.specs.Order.{comes_before, slot_before}
-use Rattle.unit_cells.specs.unit_model.specs.declared.symbol_start.SymbolStart.{SymbolStart}
-use Rattle.unit_cells.specs.unit_model.proofs.ClaimLemmas.{slot_self as slot_own}
+use Rattle.unit_model.specs.Claims.{same_slot}
+use Rattle.unit_model.specs.Order.{comes_before, slot_before}
+use Rattle.unit_model.specs.declared.symbol_start.SymbolStart.{SymbolStart}
+use Rattle.unit_model.proofs.ClaimLemmas.{slot_self as slot_own}
 
 -- ---- by a signed number, and then by something else
 

@@ -2,9 +2,9 @@
 use Rattle.std.proofs.Common.{◌≡◌, ℕ, ℤ, List, sym, ap, ◌∙◌, subst}
 use Rattle.fh_time.specs.declared.values.Slot.{Slot}
 use Rattle.window_config.specs.declared.endpoints.EndpointConfig.{EndpointConfig}
-use Rattle.unit_cells.specs.unit_model.specs.Proper.{IsAt}
-use Rattle.unit_cells.specs.unit_model.specs.Starts.{start_at}
-use Rattle.unit_cells.specs.unit_model.specs.declared.symbol_start.SymbolStart.{SymbolStart}
+use Rattle.unit_model.specs.Proper.{IsAt}
+use Rattle.unit_model.specs.Starts.{start_at}
+use Rattle.unit_model.specs.declared.symbol_start.SymbolStart.{SymbolStart}
 use Rattle.unit_cells.specs.Cells.{CellsValue, endpoints_of}
 use Rattle.symbol_search.specs.Symbols.{IsSymbol}
 use Rattle.fh_time.proofs.Options.{some_is as some_equal}

@@ -1,8 +1,8 @@
 -- A slot that has its place (this project's profile).
 use Rattle.std.specs.Prelude.{◌≡◌, ℕ, ◌<◌, true}
-use Rattle.unit_cells.specs.unit_model.specs.Proper.{IsAt, IsSlot}
-use Rattle.unit_cells.specs.unit_model.specs.Starts.{start_at}
-use Rattle.unit_cells.specs.unit_model.specs.declared.symbol_start.SymbolStart.{SymbolStart}
+use Rattle.unit_model.specs.Proper.{IsAt, IsSlot}
+use Rattle.unit_model.specs.Starts.{start_at}
+use Rattle.unit_model.specs.declared.symbol_start.SymbolStart.{SymbolStart}
 use Rattle.unit_cells.specs.Cells.{CellsValue, cells_has, cells_index, cells_places, endpoints_of}
 use Rattle.symbol_search.specs.declared.places.SlotPlace.{SlotPlace}
 

@@ -1,8 +1,8 @@
 -- A search for the symbol that is told first, over some symbols of the rings (this project's profile).
 use Rattle.std.specs.Prelude.{◌≡◌, ℕ, ℤ, Bool, true, false, ◌&&◌, ◌||◌, nat_lt, int_lt, Option, Some, None, IfSome}
 use Rattle.std.specs.Ordering.{int_eq}
-use Rattle.unit_cells.specs.unit_model.specs.Order.{comes_before}
-use Rattle.unit_cells.specs.unit_model.specs.declared.symbol_start.SymbolStart.{SymbolStart}
+use Rattle.unit_model.specs.Order.{comes_before}
+use Rattle.unit_model.specs.declared.symbol_start.SymbolStart.{SymbolStart}
 use Rattle.unit_cells.specs.Cells.{CellsValue, cells_index}
 use Rattle.symbol_search.specs.Symbols.{IsFitting, IsFound}
 

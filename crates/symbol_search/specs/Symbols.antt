@@ -4,9 +4,9 @@ use Rattle.fh_time.specs.Air.{air_of}
 use Rattle.fh_time.specs.Numbering.{symbols_of}
 use Rattle.fh_time.specs.declared.values.Slot.{Slot}
 use Rattle.fh_time.specs.declared.values.Ticks.{Ticks}
-use Rattle.unit_cells.specs.unit_model.specs.Order.{comes_before}
-use Rattle.unit_cells.specs.unit_model.specs.Proper.{IsAt, IsSlot}
-use Rattle.unit_cells.specs.unit_model.specs.declared.symbol_start.SymbolStart.{SymbolStart}
+use Rattle.unit_model.specs.Order.{comes_before}
+use Rattle.unit_model.specs.Proper.{IsAt, IsSlot}
+use Rattle.unit_model.specs.declared.symbol_start.SymbolStart.{SymbolStart}
 use Rattle.unit_cells.specs.Cells.{CellsValue, cells_has, endpoints_of}
 
 -- a symbol of one of the endpoints, in a slot that has its place

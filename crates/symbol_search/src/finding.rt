@@ -1,7 +1,7 @@
 // The first symbol that fits.
 ghost use Rattle.std.specs.Prelude.{◌≡◌, ℕ, ◌<◌, None, IfSome, length};
 ghost use Rattle.unit_cells.specs.Cells.{cells_places, endpoints_of};
-ghost use Rattle.unit_cells.specs.unit_model.specs.Proper.{IsAt};
+ghost use Rattle.unit_model.specs.Proper.{IsAt};
 ghost use Rattle.symbol_search.specs.Places.{IsPlace};
 ghost use Rattle.symbol_search.specs.Searches.{HasLead, InPlace, Searched, is_earlier, is_passed};
 ghost use Rattle.symbol_search.specs.Symbols.{InSlot, IsFirst, IsFitting, OfEndpoint};

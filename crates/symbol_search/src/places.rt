@@ -1,8 +1,8 @@
 // A slot of an endpoint, and where it lies in the endpoint's ring.
 ghost use Rattle.std.specs.Prelude.{◌≡◌, ◌<◌};
 ghost use Rattle.fh_time.specs.Numbering.{symbols_of};
-ghost use Rattle.unit_cells.specs.unit_model.specs.Proper.{IsSlot};
-ghost use Rattle.unit_cells.specs.unit_model.specs.Starts.{start_at};
+ghost use Rattle.unit_model.specs.Proper.{IsSlot};
+ghost use Rattle.unit_model.specs.Starts.{start_at};
 
 use fh_time::{Slot, air};
 use unit_model::SymbolStart;

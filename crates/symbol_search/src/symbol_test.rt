@@ -2,7 +2,7 @@
 ghost use Rattle.std.specs.Prelude.{◌≡◌, ◌<◌, Bool, false, length, IfNone, IfSome};
 ghost use Rattle.fh_time.specs.Numbering.{symbols_of};
 ghost use Rattle.unit_cells.specs.Cells.{CellsValue, cells_places, endpoints_of};
-ghost use Rattle.unit_cells.specs.unit_model.specs.declared.symbol_start.SymbolStart.{SymbolStart as SpecStart};
+ghost use Rattle.unit_model.specs.declared.symbol_start.SymbolStart.{SymbolStart as SpecStart};
 ghost use Rattle.symbol_search.specs.Places.{IsPlace, start_in};
 ghost use Rattle.symbol_search.specs.Symbols.{FitsFrom, HasNone, InSlot, OfEndpoint};
 ghost use Rattle.symbol_search.specs.Searches.{InPlace};

@@ -1,8 +1,8 @@
 -- The text of the events of a report (this project's profile): a line for each, none for an arrival, and the line `end` behind them.
 use Rattle.std.specs.Prelude.{ℕ, List, [], ◌++◌, codes}
 use Rattle.std.specs.List.{flat_map}
-use Rattle.report_lines.specs.air_source.specs.declared.events.Event.{Event}
-use Rattle.report_lines.specs.air_source.specs.declared.events.Event.TheVariants.{Cell, Delay, Arrival, Count}
+use Rattle.air_source.specs.declared.events.Event.{Event}
+use Rattle.air_source.specs.declared.events.Event.TheVariants.{Cell, Delay, Arrival, Count}
 use Rattle.report_lines.specs.Cells.{cell_text}
 use Rattle.report_lines.specs.Units.{delay_text, count_text}
 

@@ -1,3 +1,2 @@
-pub use Rattle.air_source
 pub mod Tones
 pub mod Steps

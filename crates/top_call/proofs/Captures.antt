@@ -1,8 +1,8 @@
 -- A capture that was shown, or was refused.
 use Rattle.std.proofs.Common.{◌≡◌, ◌∙◌, ℕ, List, [], Option, Result, Ok, Err, OnOk, OnErr, IfErr, refl, sym, ap, subst}
 use Rattle.std.specs.Io.KnownBytes.{append_known}
-use Rattle.capture_show.specs.capture_records.specs.declared.refusals.CaptureRefusal.{CaptureRefusal}
-use Rattle.capture_show.specs.capture_records.specs.declared.refusals.CaptureWhy.{CaptureWhy}
+use Rattle.capture_records.specs.declared.refusals.CaptureRefusal.{CaptureRefusal}
+use Rattle.capture_records.specs.declared.refusals.CaptureWhy.{CaptureWhy}
 use Rattle.capture_show.specs.declared.showing.ShowFault.{ShowFault}
 use Rattle.capture_show.specs.declared.showing.ShowFault.TheVariants as show
 use Rattle.fh_base.specs.Causes.{Counts}

@@ -2,11 +2,11 @@
 use Rattle.std.proofs.Common.{◌≡◌, ℕ, List, [], Option, Result, Err, refl, sym, ap, subst}
 use Rattle.fh_base.specs.KnownLaws.{append_nothing}
 use Rattle.fh_base.proofs.Progress.{front_none}
-use Rattle.pcap_lines.specs.fh_document.specs.declared.document.Document.{Document}
-use Rattle.pcap_lines.specs.fh_document.specs.declared.refusals.DocFault.{DocFault}
-use Rattle.pcap_lines.specs.fh_document.specs.declared.refusals.DocFault.TheVariants as doc
-use Rattle.pcap_lines.specs.fh_document.specs.Answered.{Answers}
-use Rattle.pcap_lines.specs.fh_document.specs.Document.{document_of}
+use Rattle.fh_document.specs.declared.document.Document.{Document}
+use Rattle.fh_document.specs.declared.refusals.DocFault.{DocFault}
+use Rattle.fh_document.specs.declared.refusals.DocFault.TheVariants as doc
+use Rattle.fh_document.specs.Answered.{Answers}
+use Rattle.fh_document.specs.Document.{document_of}
 use Rattle.top_call.specs.declared.status.LineWhy.{LineWhy}
 use Rattle.top_call.specs.declared.status.LineWhy.TheVariants.{Doc}
 use Rattle.top_call.specs.declared.status.Status.{Status}

@@ -3,13 +3,13 @@ use Rattle.std.proofs.Common.{◌≡◌, ℕ, List, Result, Ok, Err, IfOk, OnOk,
 use Rattle.explain_text.specs.Text.{HasFewFrames}
 use Rattle.fronthaul_replay.specs.declared.report.TextFault.{TextFault}
 use Rattle.fronthaul_replay.specs.declared.report.TextFault.TheVariants as text
-use Rattle.fronthaul_replay.specs.plan_check.specs.declared.testing.PlanRefusal.{PlanRefusal}
-use Rattle.fronthaul_replay.specs.plan_check.specs.declared.testing.PlanRefusal.TheVariants as refusal
-use Rattle.pcap_lines.specs.fh_document.specs.Answered.{Answers}
-use Rattle.pcap_lines.specs.fh_document.specs.Document.{document_of}
-use Rattle.pcap_lines.specs.fh_document.specs.declared.document.Document.{Document}
-use Rattle.pcap_lines.specs.fh_document.specs.declared.refusals.DocFault.{DocFault}
-use Rattle.pcap_lines.specs.fh_document.specs.declared.refusals.DocFault.TheVariants as doc
+use Rattle.plan_check.specs.declared.testing.PlanRefusal.{PlanRefusal}
+use Rattle.plan_check.specs.declared.testing.PlanRefusal.TheVariants as refusal
+use Rattle.fh_document.specs.Answered.{Answers}
+use Rattle.fh_document.specs.Document.{document_of}
+use Rattle.fh_document.specs.declared.document.Document.{Document}
+use Rattle.fh_document.specs.declared.refusals.DocFault.{DocFault}
+use Rattle.fh_document.specs.declared.refusals.DocFault.TheVariants as doc
 use Rattle.top_call.specs.declared.status.Status.TheVariants.{Done}
 use Rattle.top_call.specs.Endings.{text_status, unplanned_status, unread_status}
 

@@ -1,9 +1,9 @@
 -- What follows from the outcome of a run, status by status.
 use Rattle.std.proofs.Common.{◌≡◌, ◌⊎◌, ◌∙◌, inr, ℕ, ◌≤◌, List, [], length, true, Option, Some, None, Result, Ok, Err, IsSome, map, refl, sym, ap, subst}
 use Rattle.std.specs.Io.KnownBytes.{append_known, IsAtEnd}
-use Rattle.capture_show.specs.capture_records.specs.declared.refusals.CaptureRefusal.{CaptureRefusal}
-use Rattle.capture_show.specs.capture_records.specs.Reading.{checked as capture_checked}
-use Rattle.capture_show.specs.capture_records.specs.Records.{capture_bytes}
+use Rattle.capture_records.specs.declared.refusals.CaptureRefusal.{CaptureRefusal}
+use Rattle.capture_records.specs.Reading.{checked as capture_checked}
+use Rattle.capture_records.specs.Records.{capture_bytes}
 use Rattle.capture_show.specs.Messages.{capture_lines}
 use Rattle.capture_show.specs.Texts.{lines_text}
 use Rattle.command_words.specs.Words.{command_of}
@@ -11,9 +11,9 @@ use Rattle.command_words.specs.declared.commands.Command.{Command}
 use Rattle.command_words.specs.declared.commands.Command.TheVariants.{Replay, Summary, Capture, Show, Explain, Sent, Windows, Fit, Generate, Trial, Shared, Idle, DrawGrid, DrawWindows, Pcap, PcapCapture}
 use Rattle.fh_base.specs.Causes.{Rose}
 use Rattle.fh_base.specs.KnownLaws.{append_nothing}
-use Rattle.pcap_lines.specs.fh_document.specs.declared.document.Document.{Document}
-use Rattle.pcap_lines.specs.fh_document.specs.declared.refusals.DocWhy.{DocWhy}
-use Rattle.pcap_lines.specs.fh_document.specs.Document.{document_of}
+use Rattle.fh_document.specs.declared.document.Document.{Document}
+use Rattle.fh_document.specs.declared.refusals.DocWhy.{DocWhy}
+use Rattle.fh_document.specs.Document.{document_of}
 use Rattle.pcap_frames.specs.declared.refusals.PcapRefusal.{PcapRefusal}
 use Rattle.pcap_frames.specs.Checked.{checked as pcap_checked}
 use Rattle.pcap_frames.specs.Frames.{frames_of}
@@ -21,13 +21,13 @@ use Rattle.grid_picture.specs.Picture.{drawn as grid_of, span_of}
 use Rattle.window_picture.specs.Picture.{drawn as windows_of}
 use Rattle.picture_lines.specs.declared.faults.TextWhy.{TextWhy}
 use Rattle.pcap_lines.specs.Texts.{arrived_as, lines_of}
-use Rattle.fronthaul_replay.specs.plan_model.specs.Valid.{plan_refusal}
-use Rattle.fronthaul_replay.specs.plan_model.specs.declared.refusals.PlanWhy.{PlanWhy}
-use Rattle.window_lines.specs.window_config.specs.declared.delays.Delays.{Delays}
-use Rattle.window_lines.specs.window_config.specs.declared.relations.Failing.{Failing}
-use Rattle.window_lines.specs.window_config.specs.Relations.{checked}
-use Rattle.window_lines.specs.window_plan.specs.declared.refusals.NoFit.{NoFit as Refusal}
-use Rattle.window_lines.specs.window_plan.specs.Fitting.{fitted}
+use Rattle.plan_model.specs.Valid.{plan_refusal}
+use Rattle.plan_model.specs.declared.refusals.PlanWhy.{PlanWhy}
+use Rattle.window_config.specs.declared.delays.Delays.{Delays}
+use Rattle.window_config.specs.declared.relations.Failing.{Failing}
+use Rattle.window_config.specs.Relations.{checked}
+use Rattle.window_plan.specs.declared.refusals.NoFit.{NoFit as Refusal}
+use Rattle.window_plan.specs.Fitting.{fitted}
 use Rattle.top_call.specs.declared.status.LineWhy.{LineWhy}
 use Rattle.top_call.specs.declared.status.Status.{Status}
 use Rattle.top_call.specs.declared.status.Status.TheVariants.{Done, BadWords, BadDocument, BadCapture, ReadFault, WriteFault, NoMemory, TooLong, CheckFails, BadPcap, BadText, NoFit}

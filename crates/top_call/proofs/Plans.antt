@@ -1,13 +1,13 @@
 -- A command over a document whose plan was tested.
 use Rattle.std.proofs.Common.{◌≡◌, ℕ, zero, suc, List, [], ◌∷◌, Option, None, Result, Err, refl, sym, subst}
 use Rattle.std.specs.Prelude.{slice_get, slice_index}
-use Rattle.fronthaul_replay.specs.du_scheduler.specs.Plans.{Checks, HasToSend}
-use Rattle.fronthaul_replay.specs.du_scheduler.specs.declared.plans.Plan.{Plan as Schedule}
-use Rattle.pcap_lines.specs.fh_document.specs.declared.document.Document.{Document}
-use Rattle.fronthaul_replay.specs.plan_model.specs.Sent.{SentFrame}
-use Rattle.fronthaul_replay.specs.plan_model.specs.declared.refusals.PlanWhy.{PlanWhy}
-use Rattle.fronthaul_replay.specs.plan_check.specs.declared.testing.PlanRefusal.{PlanRefusal}
-use Rattle.fronthaul_replay.specs.plan_check.specs.declared.testing.PlanRefusal.TheVariants as refusal
+use Rattle.du_scheduler.specs.Plans.{Checks, HasToSend}
+use Rattle.du_scheduler.specs.declared.plans.Plan.{Plan as Schedule}
+use Rattle.fh_document.specs.declared.document.Document.{Document}
+use Rattle.plan_model.specs.Sent.{SentFrame}
+use Rattle.plan_model.specs.declared.refusals.PlanWhy.{PlanWhy}
+use Rattle.plan_check.specs.declared.testing.PlanRefusal.{PlanRefusal}
+use Rattle.plan_check.specs.declared.testing.PlanRefusal.TheVariants as refusal
 use Rattle.top_call.specs.declared.status.LineWhy.TheVariants.{Plan}
 use Rattle.top_call.specs.declared.status.Status.{Status}
 use Rattle.top_call.specs.declared.status.Status.TheVariants.{BadDocument}

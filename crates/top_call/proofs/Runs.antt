@@ -12,10 +12,10 @@ use Rattle.fh_base.proofs.Known.{prepend_nothing, came_all}
 use Rattle.fh_base.specs.KnownLaws.{append_nothing}
 use Rattle.fh_base.proofs.Progress.{front_none}
 use Rattle.explain_text.proofs.DocumentLemmas.{explained as is_explained}
-use Rattle.pcap_lines.specs.fh_document.specs.Document.{document_of}
-use Rattle.pcap_lines.specs.fh_document.specs.declared.document.Document.{Document}
-use Rattle.pcap_lines.specs.fh_document.specs.Proper.{IsDocument}
-use Rattle.pcap_lines.specs.fh_document.proofs.Properness.{document_of_in}
+use Rattle.fh_document.specs.Document.{document_of}
+use Rattle.fh_document.specs.declared.document.Document.{Document}
+use Rattle.fh_document.specs.Proper.{IsDocument}
+use Rattle.fh_document.proofs.Properness.{document_of_in}
 use Rattle.fronthaul_replay.proofs.LawLemmas.{is_sound}
 use Rattle.idle_replay.proofs.IdleLemmas.{is_idle}
 use Rattle.idle_spans.specs.Tables.{AreFrames}

@@ -7,9 +7,9 @@ use Rattle.fh_base.specs.declared.fault.SinkFault.{SinkFault}
 use Rattle.fh_base.specs.declared.fault.SinkFault.TheVariants as sink
 use Rattle.top_call.specs.declared.status.Status.{Status}
 use Rattle.top_call.specs.declared.status.Status.TheVariants.{Done, BadWords, BadDocument, BadCapture, ReadFault, WriteFault, NoMemory, TooLong, CheckFails, BadPcap, BadText, NoFit}
-use Rattle.window_lines.specs.window_config.specs.declared.delays.Delays.{Delays}
-use Rattle.window_lines.specs.window_config.specs.declared.relations.Failing.{Failing}
-use Rattle.window_lines.specs.window_plan.specs.declared.refusals.NoFit.{NoFit as Refusal}
+use Rattle.window_config.specs.declared.delays.Delays.{Delays}
+use Rattle.window_config.specs.declared.relations.Failing.{Failing}
+use Rattle.window_plan.specs.declared.refusals.NoFit.{NoFit as Refusal}
 use Rattle.top_call.specs.Answers.{Answer, fit_verdict, verdict_of}
 use Rattle.top_call.specs.Endings.{ending_of}
 use Rattle.top_call.specs.Run.{AnswersCommand, IsRefusal, IsStopped, IsVerdict, Performs, has_write_fault}

@@ -1,16 +1,16 @@
 -- What the words and the input name: the one text, and the status of a run that nothing keeps from its end.
 use Rattle.std.specs.Prelude.{ℕ, List, [], map, Bool, true, false, Option, None, Some, Result, Ok, Err, slice_index}
-use Rattle.capture_show.specs.capture_records.specs.declared.refusals.CaptureRefusal.{CaptureRefusal}
-use Rattle.capture_show.specs.capture_records.specs.Reading.{checked as capture_checked}
-use Rattle.capture_show.specs.capture_records.specs.Records.{capture_bytes}
+use Rattle.capture_records.specs.declared.refusals.CaptureRefusal.{CaptureRefusal}
+use Rattle.capture_records.specs.Reading.{checked as capture_checked}
+use Rattle.capture_records.specs.Records.{capture_bytes}
 use Rattle.capture_show.specs.Messages.{capture_lines}
 use Rattle.capture_show.specs.Texts.{lines_text}
 use Rattle.command_words.specs.declared.commands.Command.{Command}
 use Rattle.command_words.specs.declared.commands.Command.TheVariants.{Replay, Summary, Capture, Show, Explain, Sent, Windows, Fit, Generate, Trial, Shared, Idle, DrawGrid, DrawWindows, Pcap, PcapCapture}
-use Rattle.pcap_lines.specs.fh_document.specs.declared.document.Document.{Document}
-use Rattle.pcap_lines.specs.fh_document.specs.declared.refusals.DocWhy.{DocWhy}
-use Rattle.pcap_lines.specs.fh_document.specs.Document.{document_of}
-use Rattle.pcap_lines.specs.fh_document.specs.Generated.{generated}
+use Rattle.fh_document.specs.declared.document.Document.{Document}
+use Rattle.fh_document.specs.declared.refusals.DocWhy.{DocWhy}
+use Rattle.fh_document.specs.Document.{document_of}
+use Rattle.fh_document.specs.Generated.{generated}
 use Rattle.generated_documents.specs.Documents.{document}
 use Rattle.fronthaul_replay.specs.Reports.{capture_of, document_counts, document_report, summary_of}
 use Rattle.pcap_frames.specs.declared.refusals.PcapRefusal.{PcapRefusal}
@@ -21,16 +21,16 @@ use Rattle.grid_picture.specs.Picture.{drawn as grid_of, span_of}
 use Rattle.window_picture.specs.Picture.{drawn as windows_of}
 use Rattle.picture_lines.specs.declared.faults.TextWhy.{TextWhy}
 use Rattle.pcap_lines.specs.Texts.{arrived_as, lines_of}
-use Rattle.fronthaul_replay.specs.plan_model.specs.Valid.{plan_refusal}
-use Rattle.fronthaul_replay.specs.plan_model.specs.declared.refusals.PlanWhy.{PlanWhy}
-use Rattle.window_lines.specs.window_config.specs.declared.config.Config.{Config}
-use Rattle.window_lines.specs.window_config.specs.declared.delays.Delays.{Delays}
-use Rattle.window_lines.specs.window_config.specs.declared.relations.Failing.{Failing}
-use Rattle.window_lines.specs.window_config.specs.Relations.{checked}
+use Rattle.plan_model.specs.Valid.{plan_refusal}
+use Rattle.plan_model.specs.declared.refusals.PlanWhy.{PlanWhy}
+use Rattle.window_config.specs.declared.config.Config.{Config}
+use Rattle.window_config.specs.declared.delays.Delays.{Delays}
+use Rattle.window_config.specs.declared.relations.Failing.{Failing}
+use Rattle.window_config.specs.Relations.{checked}
 use Rattle.window_lines.specs.Fit.{fit_text}
 use Rattle.window_lines.specs.Windows.{windows_text}
-use Rattle.window_lines.specs.window_plan.specs.declared.refusals.NoFit.{NoFit as Refusal}
-use Rattle.window_lines.specs.window_plan.specs.Fitting.{fitted}
+use Rattle.window_plan.specs.declared.refusals.NoFit.{NoFit as Refusal}
+use Rattle.window_plan.specs.Fitting.{fitted}
 use Rattle.sent_text.specs.Text.{sent_text}
 use Rattle.explain_text.specs.Text.{explanation}
 use Rattle.shared_text.specs.Shared.{shared_text}

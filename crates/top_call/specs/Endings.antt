@@ -6,13 +6,13 @@ use Rattle.fh_base.specs.declared.fault.ReadAllFault.{ReadAllFault}
 use Rattle.fh_base.specs.declared.fault.ReadAllFault.TheVariants as source
 use Rattle.fh_base.specs.declared.fault.SinkFault.{SinkFault}
 use Rattle.fh_base.specs.declared.fault.SinkFault.TheVariants as sink
-use Rattle.pcap_lines.specs.fh_document.specs.declared.document.Document.{Document}
-use Rattle.pcap_lines.specs.fh_document.specs.declared.refusals.DocFault.{DocFault}
-use Rattle.pcap_lines.specs.fh_document.specs.declared.refusals.DocFault.TheVariants as doc
+use Rattle.fh_document.specs.declared.document.Document.{Document}
+use Rattle.fh_document.specs.declared.refusals.DocFault.{DocFault}
+use Rattle.fh_document.specs.declared.refusals.DocFault.TheVariants as doc
 use Rattle.fronthaul_replay.specs.declared.report.TextFault.{TextFault}
 use Rattle.fronthaul_replay.specs.declared.report.TextFault.TheVariants as text
-use Rattle.fronthaul_replay.specs.plan_check.specs.declared.testing.PlanRefusal.{PlanRefusal}
-use Rattle.fronthaul_replay.specs.plan_check.specs.declared.testing.PlanRefusal.TheVariants as plan
+use Rattle.plan_check.specs.declared.testing.PlanRefusal.{PlanRefusal}
+use Rattle.plan_check.specs.declared.testing.PlanRefusal.TheVariants as plan
 use Rattle.pcap_frames.specs.declared.refusals.PcapFault.{PcapFault}
 use Rattle.pcap_frames.specs.declared.refusals.PcapFault.TheVariants as pcap
 use Rattle.picture_lines.specs.declared.faults.DrawFault.{DrawFault}

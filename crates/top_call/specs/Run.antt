@@ -8,10 +8,10 @@ use Rattle.fh_base.specs.Causes.{Counts, Rose}
 use Rattle.fh_base.specs.Told.{WritesFront, WritesPart}
 use Rattle.explain_text.specs.Explained.{IsExplainedDocument}
 use Rattle.explain_text.specs.Text.{HasFewFrames}
-use Rattle.pcap_lines.specs.fh_document.specs.Document.{document_of}
-use Rattle.pcap_lines.specs.fh_document.specs.declared.document.Document.{Document}
+use Rattle.fh_document.specs.Document.{document_of}
+use Rattle.fh_document.specs.declared.document.Document.{Document}
 use Rattle.fronthaul_replay.specs.Laws.{IsSound}
-use Rattle.fronthaul_replay.specs.plan_model.specs.Valid.{IsValid}
+use Rattle.plan_model.specs.Valid.{IsValid}
 use Rattle.idle_replay.specs.Idle.{IsIdle}
 use Rattle.idle_spans.specs.Tables.{AreFrames}
 use Rattle.sent_text.specs.Laws.{IsListed}

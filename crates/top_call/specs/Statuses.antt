@@ -1,19 +1,19 @@
 -- What a status ends the process with, and the line that it writes (this project's profile).
 use Rattle.std.specs.Prelude.{ℕ, List, [], ◌++◌, codes, decimal}
-use Rattle.capture_show.specs.capture_records.specs.declared.refusals.CaptureWhy.{CaptureWhy}
-use Rattle.capture_show.specs.capture_records.specs.Refusals.{name_of as capture_name}
-use Rattle.pcap_lines.specs.fh_document.specs.Refusals.{name_of}
+use Rattle.capture_records.specs.declared.refusals.CaptureWhy.{CaptureWhy}
+use Rattle.capture_records.specs.Refusals.{name_of as capture_name}
+use Rattle.fh_document.specs.Refusals.{name_of}
 use Rattle.pcap_frames.specs.declared.refusals.PcapRefusal.{PcapRefusal}
 use Rattle.pcap_frames.specs.Refusals.{name_of as pcap_name}
-use Rattle.fronthaul_replay.specs.plan_model.specs.declared.refusals.PlanWhy.{PlanWhy}
-use Rattle.fronthaul_replay.specs.plan_model.specs.declared.refusals.PlanWhy.TheVariants.{UnknownEndpoint, Range, Overlap, TooManySections, SequenceDense}
+use Rattle.plan_model.specs.declared.refusals.PlanWhy.{PlanWhy}
+use Rattle.plan_model.specs.declared.refusals.PlanWhy.TheVariants.{UnknownEndpoint, Range, Overlap, TooManySections, SequenceDense}
 use Rattle.picture_lines.specs.Refusals.{why_name as text_name}
 use Rattle.picture_lines.specs.declared.faults.TextWhy.{TextWhy}
 use Rattle.text_lines.specs.Words.{spaced_signed_text}
-use Rattle.window_lines.specs.window_config.specs.declared.relations.Failing.{Failing}
-use Rattle.window_lines.specs.window_config.specs.Relations.{name_of as relation_name}
-use Rattle.window_lines.specs.window_plan.specs.declared.refusals.NoFit.{NoFit as Refusal}
-use Rattle.window_lines.specs.window_plan.specs.Names.{name_of as window_name}
+use Rattle.window_config.specs.declared.relations.Failing.{Failing}
+use Rattle.window_config.specs.Relations.{name_of as relation_name}
+use Rattle.window_plan.specs.declared.refusals.NoFit.{NoFit as Refusal}
+use Rattle.window_plan.specs.Names.{name_of as window_name}
 use Rattle.top_call.specs.declared.status.LineWhy.{LineWhy}
 use Rattle.top_call.specs.declared.status.LineWhy.TheVariants.{Doc, Plan}
 use Rattle.top_call.specs.declared.status.Status.{Status}

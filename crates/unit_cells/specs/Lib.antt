@@ -1,8 +1,3 @@
-pub use Rattle.unit_model.specs.air_source
-pub use Rattle.slot_rings
-pub use Rattle.unit_laws
-pub use Rattle.unit_model
-pub use Rattle.window_config
 pub mod Headings
 pub mod Told
 pub mod Cells

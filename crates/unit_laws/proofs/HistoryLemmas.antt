@@ -26,9 +26,7 @@ use Rattle.unit_laws.specs.Far.{IsHeard, IsHeardData}
 use Rattle.unit_laws.specs.Histories.{CommandsAreHeard, DataAreHeard, CommandsAreProper, DataAreProper}
 use Rattle.unit_laws.proofs.OrderLemmas.{All-onto}
 use Rattle.unit_laws.proofs.ReadLemmas.{IsReadCommand, IsReadData, commands_read, decode_read}
-use Rattle.ecpri_frames.specs.declared.heads.TheConstants.{ONE_WAY_DELAY}
-use Rattle.ecpri_frames.specs.declared.heads.TheConstants.{REAL_TIME_CONTROL}
-use Rattle.ecpri_frames.specs.declared.heads.TheConstants.{IQ_DATA}
+use Rattle.ecpri_frames.specs.declared.heads.TheConstants.{ONE_WAY_DELAY, REAL_TIME_CONTROL, IQ_DATA}
 use Rattle.ecpri_fragments.proofs.Standing.{all_stood}
 use Rattle.fh_time.proofs.Orders.{at_most}
 use Rattle.std.specs.Int.Signed.{≤ℤ_refl}

@@ -17,9 +17,7 @@ use Rattle.window_config.specs.declared.endpoints.EndpointConfig.{EndpointConfig
 use Rattle.unit_model.specs.Lists.{onto}
 use Rattle.unit_model.specs.Meetings.{Arrival, Meeting, Ignored, Commands, Piece, command, command_read, commands, control_met, find_endpoint, meet, meetings, met_by, met_in, fragment_of}
 use Rattle.unit_laws.specs.Past.{IsInOrder, CommandsAreInOrder}
-use Rattle.ecpri_frames.specs.declared.heads.TheConstants.{ONE_WAY_DELAY}
-use Rattle.ecpri_frames.specs.declared.heads.TheConstants.{REAL_TIME_CONTROL}
-use Rattle.ecpri_frames.specs.declared.heads.TheConstants.{IQ_DATA}
+use Rattle.ecpri_frames.specs.declared.heads.TheConstants.{ONE_WAY_DELAY, REAL_TIME_CONTROL, IQ_DATA}
 use Rattle.ecpri_fragments.specs.Sequence.{id_of, sequence_of, application, is_fragmented}
 
 pub All-onto : {A : Type 0} (P : A → Type 0) (earlier xs : List A) → All P earlier → All P xs → All P (onto earlier xs)

@@ -8,7 +8,7 @@ use Rattle.cplane_sections.specs.declared.values.CHead.{CHead}
 use Rattle.cplane_sections.specs.declared.values.CSection.{CSection}
 use Rattle.cplane_sections.specs.Header.{kind_of}
 use Rattle.cplane_sections.specs.Message.{Admits, AreAdmitted, MessageFits, SectionFits, sections_in}
-use Rattle.unit_model.specs.uplane_sections.specs.Messages.{told}
+use Rattle.uplane_sections.specs.Messages.{told}
 use Rattle.fh_time.specs.Carrier.{is_outside}
 use Rattle.window_config.specs.declared.endpoints.EndpointConfig.{EndpointConfig}
 use Rattle.unit_model.specs.Blocks.{data_prb_count}

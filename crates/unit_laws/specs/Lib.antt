@@ -1,7 +1,3 @@
-pub use Rattle.unit_model.specs.air_source
-pub use Rattle.unit_model
-pub use Rattle.unit_model.specs.uplane_sections
-pub use Rattle.window_config
 pub mod Acceptance
 pub mod Changes
 pub mod Far

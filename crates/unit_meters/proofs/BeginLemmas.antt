@@ -12,9 +12,9 @@ use Rattle.air_source.specs.Units.{same_side}
 use Rattle.air_source.specs.declared.events.Side.{Side}
 use Rattle.air_source.specs.declared.events.Side.TheVariants.{Ru, Du}
 use Rattle.delay_exchange.specs.Meters.{HasDoings}
-use Rattle.delay_exchange.specs.delay_laws.specs.Nodes.{Compensation}
-use Rattle.delay_exchange.specs.delay_laws.specs.Ticks.{Begin, due}
-use Rattle.delay_exchange.specs.delay_model.specs.Doings.{Doings, told_in, with_begins}
+use Rattle.delay_laws.specs.Nodes.{Compensation}
+use Rattle.delay_laws.specs.Ticks.{Begin, due}
+use Rattle.delay_model.specs.Doings.{Doings, told_in, with_begins}
 use Rattle.delay_measure.specs.After.{begins}
 use Rattle.delay_measure.specs.declared.edge.Edge.{Edge}
 use Rattle.fh_document.specs.Proper.{IsMeasure}

@@ -8,7 +8,7 @@ use Rattle.std.proofs.lemmas.Int.{ints}
 use Rattle.std.proofs.lemmas.List.{length-map, map-append, take_more}
 use Rattle.std.proofs.lemmas.List.Elements.{All-cons, All-head, All-nil, All-tail}
 use Rattle.std.proofs.lemmas.Option.{get_or_from_slice_get, slice_get_within}
-use Rattle.delay_exchange.specs.delay_laws.specs.Ticks.{Begin, due}
+use Rattle.delay_laws.specs.Ticks.{Begin, due}
 use Rattle.fh_document.specs.Proper.{IsMeasure}
 use Rattle.fh_document.specs.declared.document.Measure.{Measure}
 use Rattle.fh_time.specs.declared.values.Ticks.{Ticks}

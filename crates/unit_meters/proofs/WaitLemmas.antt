@@ -6,7 +6,7 @@ use Rattle.std.specs.Option.{option_to_list}
 use Rattle.std.specs.Int.Signed.{≤ℤ_refl}
 use Rattle.std.proofs.lemmas.List.Elements.{All-head, All-tail}
 use Rattle.std.proofs.lemmas.Option.{slice_get-get_or}
-use Rattle.delay_exchange.specs.delay_laws.specs.Ticks.{Begin, due}
+use Rattle.delay_laws.specs.Ticks.{Begin, due}
 use Rattle.fh_document.specs.declared.document.Measure.{Measure}
 use Rattle.fh_time.proofs.Orders.{at_most, beyond_next, is_same, later_than}
 use Rattle.fh_time.specs.declared.values.Ticks.{Ticks}

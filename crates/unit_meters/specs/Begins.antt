@@ -6,11 +6,11 @@ use Rattle.air_source.specs.Units.{same_side}
 use Rattle.air_source.specs.declared.events.Side.{Side}
 use Rattle.air_source.specs.declared.events.Side.TheVariants.{Ru, Du}
 use Rattle.delay_exchange.specs.Meters.{HasDoings}
-use Rattle.delay_exchange.specs.delay_laws.specs.Nodes.{Compensation}
-use Rattle.delay_exchange.specs.delay_laws.specs.Ticks.{Begin, due}
+use Rattle.delay_laws.specs.Nodes.{Compensation}
+use Rattle.delay_laws.specs.Ticks.{Begin, due}
 use Rattle.delay_measure.specs.declared.edge.Edge.{Edge}
 use Rattle.delay_measure.specs.declared.edge.Edge.TheVariants.{Sending, Receiving}
-use Rattle.delay_exchange.specs.delay_model.specs.Doings.{Doings, with_begins}
+use Rattle.delay_model.specs.Doings.{Doings, with_begins}
 use Rattle.fh_document.specs.Proper.{IsMeasure}
 use Rattle.fh_document.specs.declared.document.Measure.{Measure}
 use Rattle.fh_time.specs.declared.values.Ticks.{Ticks}

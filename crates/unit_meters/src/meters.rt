@@ -50,10 +50,10 @@ impl<'a, C: Fn(Edge) -> i64, D: Fn(Edge) -> i64> Meters<'a, C, D> {
     ghost use Rattle.air_source.specs.declared.events.Side.TheVariants.{Du as AtDu, Ru as AtRu};
     ghost use Rattle.delay_exchange.specs.Meters.{HasDoings};
     ghost use Rattle.delay_exchange.specs.Units.{meter_of};
-    ghost use Rattle.delay_exchange.specs.delay_laws.specs.Nodes.{Compensation};
-    ghost use Rattle.delay_exchange.specs.delay_laws.specs.Ticks.{Begin, due};
+    ghost use Rattle.delay_laws.specs.Nodes.{Compensation};
+    ghost use Rattle.delay_laws.specs.Ticks.{Begin, due};
     ghost use Rattle.delay_measure.specs.Kept.{IsCompensation, IsKept};
-    ghost use Rattle.delay_exchange.specs.delay_model.specs.Doings.{Doings, nothing, with_begins};
+    ghost use Rattle.delay_model.specs.Doings.{Doings, nothing, with_begins};
     ghost use Rattle.fh_time.specs.Least.{IsLeastOf};
     ghost use Rattle.unit_meters.specs.Begins.{AnswersAs, Awaits, HasBegun, MetersStand, NoneBeginsTo, begin_of, begins_of};
 

@@ -3,13 +3,11 @@ use Rattle.std.proofs.Common.{◌≡◌, ℕ, ℤ, ◌==◌, Bool, true, false, 
 use Rattle.air_source.specs.declared.events.Side.{Side}
 use Rattle.air_source.specs.declared.events.Side.TheVariants.{Ru, Du}
 use Rattle.ecpri_frames.specs.Messages.{Message}
-use Rattle.air_source.specs.fault_counters.specs.declared.kinds.Counter.TheVariants.{OtherType, Delay, Short, WrongWay}
+use Rattle.fault_counters.specs.declared.kinds.Counter.TheVariants.{OtherType, Delay, Short, WrongWay}
 use Rattle.window_config.specs.declared.endpoints.EndpointConfig.{EndpointConfig}
 use Rattle.unit_model.specs.Meetings.{Meeting, Ignored, Commands, Piece, met_by, meet, find_endpoint, fragment_of}
 use Rattle.unit_model.specs.declared.decoded.ControlSection.{ControlSection}
-use Rattle.ecpri_frames.specs.declared.heads.TheConstants.{ONE_WAY_DELAY}
-use Rattle.ecpri_frames.specs.declared.heads.TheConstants.{REAL_TIME_CONTROL}
-use Rattle.ecpri_frames.specs.declared.heads.TheConstants.{IQ_DATA}
+use Rattle.ecpri_frames.specs.declared.heads.TheConstants.{ONE_WAY_DELAY, REAL_TIME_CONTROL, IQ_DATA}
 use Rattle.ecpri_fragments.specs.Sequence.{id_of}
 
 abbrev pub IsNoCommand : Meeting → Type 0

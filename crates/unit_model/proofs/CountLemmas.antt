@@ -1,9 +1,9 @@
 -- What is counted, one step further.
 use Rattle.std.proofs.Common.{◌≡◌, ℕ, ◌+◌, List, [], ◌∷◌, ◌++◌, refl, ap, ◌∙◌, arith}
 use Rattle.std.specs.Prelude.{true, false, Option, Some, None, is_some}
-use Rattle.air_source.specs.fault_counters.specs.declared.kinds.Counter.{Counter}
-use Rattle.air_source.specs.fault_counters.specs.declared.kinds.Counter.TheVariants as counter
-use Rattle.air_source.specs.fault_counters.specs.Counts.{capped, once, times}
+use Rattle.fault_counters.specs.declared.kinds.Counter.{Counter}
+use Rattle.fault_counters.specs.declared.kinds.Counter.TheVariants as counter
+use Rattle.fault_counters.specs.Counts.{capped, once, times}
 use Rattle.ecpri_frames.specs.declared.refusals.PduRefusal.{PduRefusal}
 use Rattle.air_source.specs.declared.events.Side.{Side}
 use Rattle.ecpri_fragments.specs.Generations.{Fragment}

@@ -1,7 +1,7 @@
 -- What was accepted and what is counted of commands, one section further.
 use Rattle.std.proofs.Common.{◌≡◌, ℕ, ◌+◌, List, ◌∷◌, ap, ◌∙◌}
-use Rattle.air_source.specs.fault_counters.specs.declared.kinds.Counter.{Counter}
-use Rattle.air_source.specs.fault_counters.specs.Counts.{capped, once, times}
+use Rattle.fault_counters.specs.declared.kinds.Counter.{Counter}
+use Rattle.fault_counters.specs.Counts.{capped, once, times}
 use Rattle.window_config.specs.declared.delays.Delays.{Delays}
 use Rattle.unit_model.specs.Commands.{accepted, command_verdict, command_verdicts, with_accepted, allocation_of}
 use Rattle.unit_model.specs.Counts.{command_counter, commands_counted}

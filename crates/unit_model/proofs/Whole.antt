@@ -6,9 +6,9 @@ use Rattle.std.proofs.lemmas.Bool.Decides.{nat_tests}
 use Rattle.fh_time.specs.declared.values.Shape.{Shape}
 use Rattle.fh_time.specs.Numbering.{shape_of, slots_of}
 use Rattle.air_source.specs.declared.events.Side.{Side}
-use Rattle.uplane_sections.specs.bfp_codec.specs.declared.methods.Format.{Format}
-use Rattle.uplane_sections.specs.bfp_codec.specs.declared.methods.Method.{Method}
-use Rattle.uplane_sections.specs.bfp_codec.specs.Layout.{length_of, unpacked_of}
+use Rattle.bfp_codec.specs.declared.methods.Format.{Format}
+use Rattle.bfp_codec.specs.declared.methods.Method.{Method}
+use Rattle.bfp_codec.specs.Layout.{length_of, unpacked_of}
 use Rattle.uplane_sections.specs.declared.values.UHead.{UHead}
 use Rattle.uplane_sections.specs.declared.values.URefusal.{URefusal}
 use Rattle.uplane_sections.specs.declared.values.USection.{USection}

@@ -2,16 +2,16 @@
 use Rattle.std.specs.Prelude.{◌≡◌, ℕ, ℤ, ◌+◌, List, [], ◌∷◌, ◌++◌, map, Option, Some, None}
 use Rattle.air_source.specs.declared.events.AirCell.{AirCell}
 use Rattle.air_source.specs.declared.events.Side.{Side}
-use Rattle.uplane_sections.specs.bfp_codec.specs.declared.samples.Wide.{Wide}
+use Rattle.bfp_codec.specs.declared.samples.Wide.{Wide}
 use Rattle.ecpri_fragments.specs.declared.verdict.Verdict.{Verdict}
 use Rattle.ecpri_fragments.specs.declared.verdict.Verdict.TheVariants as fragment
 use Rattle.ecpri_fragments.specs.Generations.{Fragment}
 use Rattle.ecpri_fragments.specs.Verdicts.{verdict_on}
 use Rattle.ecpri_frames.specs.declared.refusals.PduRefusal.{PduRefusal}
 use Rattle.ecpri_frames.specs.Messages.{pdu}
-use Rattle.air_source.specs.fault_counters.specs.declared.kinds.Counter.{Counter}
-use Rattle.air_source.specs.fault_counters.specs.declared.kinds.Counter.TheVariants as counter
-use Rattle.air_source.specs.fault_counters.specs.Counts.{capped, times, count_of}
+use Rattle.fault_counters.specs.declared.kinds.Counter.{Counter}
+use Rattle.fault_counters.specs.declared.kinds.Counter.TheVariants as counter
+use Rattle.fault_counters.specs.Counts.{capped, times, count_of}
 use Rattle.unit_model.specs.Decoding.{Decoded, Refused, Backwards, Sections, data_now}
 use Rattle.unit_model.specs.Meetings.{Arrival, Meeting, Ignored, Commands, Piece, fragments}
 use Rattle.unit_model.specs.declared.verdicts.CommandVerdict.{CommandVerdict}

@@ -3,7 +3,7 @@ use Rattle.std.specs.Prelude.{ℕ, ℤ, not, if◌then◌else◌, Bool, List, []
 use Rattle.fh_time.specs.Numbering.{shape_of}
 use Rattle.air_source.specs.declared.events.Side.{Side}
 use Rattle.air_source.specs.declared.events.Side.TheVariants.{Ru, Du}
-use Rattle.uplane_sections.specs.bfp_codec.specs.declared.samples.Wide.{Wide}
+use Rattle.bfp_codec.specs.declared.samples.Wide.{Wide}
 use Rattle.ecpri_fragments.specs.Generations.{Fragment}
 use Rattle.ecpri_fragments.specs.Verdicts.{Message, whole_now}
 use Rattle.uplane_sections.specs.declared.values.UHead.{UHead}

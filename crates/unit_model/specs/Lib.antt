@@ -1,7 +1,3 @@
-pub use Rattle.air_source
-pub use Rattle.ecpri_fragments
-pub use Rattle.uplane_sections
-pub use Rattle.window_config
 pub mod Lists
 pub mod Meetings
 pub mod Decoding

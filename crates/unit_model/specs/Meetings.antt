@@ -14,14 +14,12 @@ use Rattle.ecpri_fragments.specs.Generations.{Fragment}
 use Rattle.ecpri_fragments.specs.Sequence.{id_of, sequence_of, application, is_fragmented}
 use Rattle.ecpri_frames.specs.Gathering.{whole_messages}
 use Rattle.ecpri_frames.specs.Messages.{Message}
-use Rattle.air_source.specs.fault_counters.specs.declared.kinds.Counter.{Counter}
-use Rattle.air_source.specs.fault_counters.specs.declared.kinds.Counter.TheVariants.{OtherType, Delay, Short, UnknownEndpoint, WrongWay, CRefused}
+use Rattle.fault_counters.specs.declared.kinds.Counter.{Counter}
+use Rattle.fault_counters.specs.declared.kinds.Counter.TheVariants.{OtherType, Delay, Short, UnknownEndpoint, WrongWay, CRefused}
 use Rattle.window_config.specs.declared.endpoints.EndpointConfig.{EndpointConfig}
 use Rattle.unit_model.specs.Lists.{onto}
 use Rattle.unit_model.specs.declared.decoded.ControlSection.{ControlSection}
-use Rattle.ecpri_frames.specs.declared.heads.TheConstants.{ONE_WAY_DELAY}
-use Rattle.ecpri_frames.specs.declared.heads.TheConstants.{REAL_TIME_CONTROL}
-use Rattle.ecpri_frames.specs.declared.heads.TheConstants.{IQ_DATA}
+use Rattle.ecpri_frames.specs.declared.heads.TheConstants.{ONE_WAY_DELAY, REAL_TIME_CONTROL, IQ_DATA}
 
 -- a frame, and when it came, in ticks
 pub record Arrival : Type 0 where

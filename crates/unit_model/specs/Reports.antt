@@ -3,7 +3,7 @@ use Rattle.std.specs.Prelude.{ℤ, List, ◌++◌}
 use Rattle.air_source.specs.declared.events.AirCell.{AirCell}
 use Rattle.air_source.specs.declared.events.Side.{Side}
 use Rattle.air_source.specs.declared.events.Side.TheVariants.{Ru, Du}
-use Rattle.air_source.specs.fault_counters.specs.declared.kinds.Counter.{Counter}
+use Rattle.fault_counters.specs.declared.kinds.Counter.{Counter}
 use Rattle.window_config.specs.declared.config.Config.{Config}
 use Rattle.window_config.specs.declared.delays.Delays.{Delays}
 use Rattle.window_config.specs.Windows.{ticks_of_ns}

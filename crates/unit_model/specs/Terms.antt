@@ -33,4 +33,4 @@ pub use Rattle.window_config.specs.Configs.{IsConfig}
 pub use Rattle.window_config.specs.Limits.{IsWithinLimits}
 pub use Rattle.window_config.specs.Windows.{ticks_of_ns}
 -- counters
-pub use Rattle.air_source.specs.fault_counters.specs.declared.kinds.Counter.{Counter}
+pub use Rattle.fault_counters.specs.declared.kinds.Counter.{Counter}

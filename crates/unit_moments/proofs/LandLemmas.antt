@@ -4,12 +4,12 @@ use Rattle.air_source.specs.declared.events.Event.{Event}
 use Rattle.air_source.specs.declared.events.Side.{Side}
 use Rattle.delay_exchange.specs.Meters.{HasDoings}
 use Rattle.delay_exchange.specs.declared.unit.UnitMeter.{UnitMeter}
-use Rattle.delay_exchange.specs.delay_laws.specs.Nodes.{Compensation}
-use Rattle.delay_exchange.specs.delay_model.specs.Doings.{Doings, results_of, with_frame, with_frames}
-use Rattle.delay_exchange.specs.replay_events.proofs.HeardLemmas.{arrivals-append, arrivals-own}
-use Rattle.delay_exchange.specs.replay_events.proofs.ToldLemmas.{none_told, told_next, told_one}
-use Rattle.delay_exchange.specs.replay_events.specs.Events.{arrival_told}
-use Rattle.delay_exchange.specs.replay_events.specs.Heard.{arrivals_heard}
+use Rattle.delay_laws.specs.Nodes.{Compensation}
+use Rattle.delay_model.specs.Doings.{Doings, results_of, with_frame, with_frames}
+use Rattle.replay_events.proofs.HeardLemmas.{arrivals-append, arrivals-own}
+use Rattle.replay_events.proofs.ToldLemmas.{none_told, told_next, told_one}
+use Rattle.replay_events.specs.Events.{arrival_told}
+use Rattle.replay_events.specs.Heard.{arrivals_heard}
 use Rattle.delay_measure.specs.declared.edge.Edge.{Edge}
 use Rattle.frame_deliveries.specs.Landing.{arrival_at, landing_at}
 use Rattle.frame_ways.specs.Landed.{bytes_of}
@@ -22,7 +22,7 @@ use Rattle.unit_model.specs.Lists.{onto}
 use Rattle.unit_model.specs.Meetings.{Arrival}
 use Rattle.unit_model.specs.Standing.{History, arrived, at_clock}
 use Rattle.unit_model.specs.declared.allocations.Allocation.{Allocation}
-use Rattle.unit_model.specs.window_config.specs.declared.config.Config.{Config}
+use Rattle.window_config.specs.declared.config.Config.{Config}
 use Rattle.unit_moments.specs.Landing.{HasTaken, HaveLanded, MayLand, clock_behind, landed, told_of_frame, told_of_frames}
 use Rattle.unit_moments.specs.Stops.{HaltsBehind, StopsBehind}
 use Rattle.unit_moments.proofs.StopLemmas.{halts_ahead, halts_behind, halts_moved, stops_ahead, stops_behind, stops_moved}

@@ -2,16 +2,16 @@
 use Rattle.std.proofs.Common.{◌≡◌, ◌∷◌, ◌++◌, All, ℤ, List, [], sym, subst, Result, Ok, Err, OnOk, OnErr, IfErr, IfOk}
 use Rattle.std.specs.Prelude.{Option, Some, None, IfSome, IfNone}
 use Rattle.std.proofs.lemmas.List.Elements.{All-nil, All-push}
-use Rattle.plain_units.specs.air_source.specs.declared.airs.AirFault.{AirFault}
-use Rattle.plain_units.specs.air_source.specs.declared.events.Event.{Event}
+use Rattle.air_source.specs.declared.airs.AirFault.{AirFault}
+use Rattle.air_source.specs.declared.events.Event.{Event}
 use Rattle.fh_base.specs.declared.fault.NoMemory.{NoMemory}
-use Rattle.plain_units.specs.unit_model.specs.Proper.{IsTime}
+use Rattle.unit_model.specs.Proper.{IsTime}
 use Rattle.plain_units.specs.declared.report.TimedFrame.{TimedFrame as SpecFrame}
-use Rattle.plain_units.specs.unit_model.specs.Standing.{History, at_clock, handed, heard, nothing_yet}
-use Rattle.plain_units.specs.unit_model.specs.declared.jobs.UplinkJob.{UplinkJob}
-use Rattle.plain_units.specs.window_config.specs.declared.config.Config.{Config}
+use Rattle.unit_model.specs.Standing.{History, at_clock, handed, heard, nothing_yet}
+use Rattle.unit_model.specs.declared.jobs.UplinkJob.{UplinkJob}
+use Rattle.window_config.specs.declared.config.Config.{Config}
 use Rattle.ru_buffers.specs.Calls.{GivesJob, StandsFor, StandsForSome, StopsAtDue}
-use Rattle.ru_buffers.specs.radio_laws.specs.Reporting.{due_of}
+use Rattle.radio_laws.specs.Reporting.{due_of}
 use Rattle.ru_buffers.specs.declared.unit.Ru.{Ru}
 
 pub some_at_first : (c : Config) (r : Result Ru NoMemory) → IfOk r (λ u. StandsFor c u nothing_yet) → IfOk r (λ u. StandsForSome u)

@@ -1,8 +1,8 @@
 // One endpoint of 4 PRBs at 30 kHz, and six frames of one cell in each of their 720 orders: the unit in fixed memory agrees with the
 // plain program of `plain_units`, which keeps all that came.
 ghost use Rattle.std.specs.Prelude.{◌≡◌, ◌<◌, IfOk, All};
-ghost use Rattle.plain_units.specs.window_config.specs.Configs.{IsConfig};
-ghost use Rattle.plain_units.specs.unit_model.specs.Proper.{IsTime};
+ghost use Rattle.window_config.specs.Configs.{IsConfig};
+ghost use Rattle.unit_model.specs.Proper.{IsTime};
 ghost use Rattle.plain_units.specs.declared.report.TimedFrame.{TimedFrame as SpecFrame};
 ghost use Rattle.ru_buffers.specs.Calls.{HasGivenPast, StandsForSome};
 

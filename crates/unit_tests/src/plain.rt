@@ -1,9 +1,9 @@
 // Frames of each plane, with values worked out by hand.
 ghost use Rattle.std.specs.Prelude.{◌≡◌, [], ◌∷◌, All, IfOk, IfSome};
 ghost use Rattle.bfp_codec.specs.Layout.{HasWidth};
-ghost use Rattle.plain_units.specs.window_config.specs.Configs.{IsConfig};
-ghost use Rattle.plain_units.specs.window_config.specs.Endpoints.{IsEndpoint};
-ghost use Rattle.plain_units.specs.unit_model.specs.Proper.{IsProperAllocation, IsTime};
+ghost use Rattle.window_config.specs.Configs.{IsConfig};
+ghost use Rattle.window_config.specs.Endpoints.{IsEndpoint};
+ghost use Rattle.unit_model.specs.Proper.{IsProperAllocation, IsTime};
 ghost use Rattle.plain_units.specs.declared.report.TimedFrame.{TimedFrame as SpecFrame};
 
 use air_source::{AirCell, Side};

@@ -1,8 +1,8 @@
 // What the tests build: configurations of one endpoint, and frames of their bytes.
 ghost use Rattle.std.specs.Prelude.{◌≡◌, ◌≤◌, [], ◌∷◌};
-ghost use Rattle.plain_units.specs.window_config.specs.Configs.{IsConfig};
-ghost use Rattle.plain_units.specs.window_config.specs.Endpoints.{IsEndpoint};
-ghost use Rattle.plain_units.specs.window_config.specs.Limits.{IsWithinLimits};
+ghost use Rattle.window_config.specs.Configs.{IsConfig};
+ghost use Rattle.window_config.specs.Endpoints.{IsEndpoint};
+ghost use Rattle.window_config.specs.Limits.{IsWithinLimits};
 
 use air_source::{AirCell, Side};
 use bfp_codec::{Format, Method, Wide};

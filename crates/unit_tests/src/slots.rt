@@ -1,7 +1,7 @@
 // One endpoint of 4 PRBs, with the usual windows at 30 kHz and with the greatest at 240 kHz; commands and data of many slots. A slot
 // has 768000000 ticks at 30 kHz. At 240 kHz one has 122752 Tc, of 781.25 ticks each, and the first and the ninth of a subframe have
 // 1024 Tc more.
-ghost use Rattle.plain_units.specs.window_config.specs.Limits.{IsWithinLimits};
+ghost use Rattle.window_config.specs.Limits.{IsWithinLimits};
 ghost use Rattle.ru_buffers.specs.Calls.{HasGivenPast, StandsForSome};
 
 use crate::samples::{COMMAND, DATA, cell, config, endpoint, samples};

@@ -1,9 +1,9 @@
 // The unit's calls, as tests make them: what a call requires holds after the calls before it.
 ghost use Rattle.std.specs.Prelude.{◌≡◌, [], true, IfOk, OnErr, pos, ◌≤ℤ◌, ◌-ℤ◌};
-ghost use Rattle.plain_units.specs.window_config.specs.Configs.{IsConfig};
-ghost use Rattle.plain_units.specs.window_config.specs.declared.config.Config.{Config as SpecConfig};
-ghost use Rattle.plain_units.specs.unit_model.specs.Proper.{IsTime};
-ghost use Rattle.plain_units.specs.unit_model.specs.Standing.{History, owed_until};
+ghost use Rattle.window_config.specs.Configs.{IsConfig};
+ghost use Rattle.window_config.specs.declared.config.Config.{Config as SpecConfig};
+ghost use Rattle.unit_model.specs.Proper.{IsTime};
+ghost use Rattle.unit_model.specs.Standing.{History, owed_until};
 ghost use Rattle.ru_buffers.specs.Calls.{HasGivenPast, StandsFor, StandsForSome};
 
 use air_source::{AirCell, AirFault, Event, MemoryAir};

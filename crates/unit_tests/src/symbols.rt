@@ -2,8 +2,8 @@
 // symbol. Commands name PRBs 0 and 1 in symbols 0 and 2 of frame 1; data come for PRB 0 of symbol 0.
 ghost use Rattle.std.specs.Prelude.{◌≡◌, ◌<◌, ◌≤ℤ◌, pos, List, [], ◌∷◌, true, IfSome};
 ghost use Rattle.fh_time.specs.Numbering.{slots_of, symbols_of};
-ghost use Rattle.plain_units.specs.air_source.specs.declared.events.Side.TheVariants.{Ru};
-ghost use Rattle.ru_buffers.specs.unit_cells.specs.Cells.{endpoints_of};
+ghost use Rattle.air_source.specs.declared.events.Side.TheVariants.{Ru};
+ghost use Rattle.unit_cells.specs.Cells.{endpoints_of};
 
 use crate::samples::{config, endpoint};
 use crate::steps::cell_heard;

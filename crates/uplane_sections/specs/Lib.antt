@@ -1,4 +1,3 @@
-pub use Rattle.bfp_codec
 pub mod Header
 pub mod Section
 pub mod Messages

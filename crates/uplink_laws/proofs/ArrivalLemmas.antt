@@ -4,8 +4,8 @@ use Rattle.std.specs.Prelude.{filter}
 use Rattle.std.specs.List.{slice_get}
 use Rattle.std.specs.Option.{option_map_or}
 use Rattle.std.proofs.lemmas.Bool.{eq-eqb}
-use Rattle.sent_laws.specs.air_source.specs.declared.events.Side.TheVariants.{Du}
-use Rattle.sent_laws.specs.air_source.specs.declared.links.LinkFrame.{LinkFrame}
+use Rattle.air_source.specs.declared.events.Side.TheVariants.{Du}
+use Rattle.air_source.specs.declared.links.LinkFrame.{LinkFrame}
 use Rattle.ecpri_fragments.specs.Generations.{Fragment}
 use Rattle.ecpri_frames.specs.Gathering.{whole_messages}
 use Rattle.fragment_laws.specs.Apart.{IsFalling, IsIn}
@@ -15,23 +15,23 @@ use Rattle.window_config.specs.Windows.{ticks_of_ns}
 use Rattle.window_config.specs.declared.config.Config.{Config}
 use Rattle.window_config.specs.declared.endpoints.EndpointConfig.{EndpointConfig}
 use Rattle.window_config.specs.declared.plan.PlanLine.{PlanLine}
-use Rattle.sent_laws.specs.unit_model.specs.Lists.{onto}
-use Rattle.sent_laws.specs.unit_model.specs.Meetings.{Arrival, Meeting, Piece, fragments, meetings, met_in}
-use Rattle.sent_laws.specs.unit_model.specs.Proper.{IsAt}
-use Rattle.sent_laws.specs.unit_model.specs.Times.{end_of_time}
-use Rattle.sent_laws.specs.unit_model.specs.declared.jobs.UplinkJob.{UplinkJob}
-use Rattle.sent_laws.specs.plan_model.specs.Departures.{sent_at}
-use Rattle.sent_laws.specs.plan_model.specs.Lines.{planned}
-use Rattle.sent_laws.specs.plan_model.specs.Packs.{Message, Numbered}
-use Rattle.sent_laws.specs.plan_model.specs.Streams.{Part, frames_in, messages_of}
-use Rattle.sent_laws.specs.plan_model.specs.declared.lines.PlannedLine.{PlannedLine}
-use Rattle.sent_laws.specs.plan_model.specs.declared.streams.Stream.TheVariants.{UpData}
-use Rattle.sent_laws.specs.plan_model.proofs.ListLemmas.{in_either, in_filter, of_filter, get_in, the_one}
-use Rattle.sent_laws.specs.schedule_laws.specs.Premise.{AreInOrder}
-use Rattle.sent_laws.specs.schedule_laws.proofs.ListLemmas.{in_each, in_joined, in_map, of_each, of_joined, of_map}
-use Rattle.sent_laws.specs.sent_frames.specs.Messages.{Source}
-use Rattle.uplink_streams.specs.uplink_model.specs.Frames.{Antenna, uplink_frame_of, frames_behind, uplink_frames_from, uplink_message_frames}
-use Rattle.uplink_streams.specs.uplink_model.specs.Messages.{frame_count, uplink_frames_before, uplink_messages_of as job_messages, number_behind}
+use Rattle.unit_model.specs.Lists.{onto}
+use Rattle.unit_model.specs.Meetings.{Arrival, Meeting, Piece, fragments, meetings, met_in}
+use Rattle.unit_model.specs.Proper.{IsAt}
+use Rattle.unit_model.specs.Times.{end_of_time}
+use Rattle.unit_model.specs.declared.jobs.UplinkJob.{UplinkJob}
+use Rattle.plan_model.specs.Departures.{sent_at}
+use Rattle.plan_model.specs.Lines.{planned}
+use Rattle.plan_model.specs.Packs.{Message, Numbered}
+use Rattle.plan_model.specs.Streams.{Part, frames_in, messages_of}
+use Rattle.plan_model.specs.declared.lines.PlannedLine.{PlannedLine}
+use Rattle.plan_model.specs.declared.streams.Stream.TheVariants.{UpData}
+use Rattle.plan_model.proofs.ListLemmas.{in_either, in_filter, of_filter, get_in, the_one}
+use Rattle.schedule_laws.specs.Premise.{AreInOrder}
+use Rattle.schedule_laws.proofs.ListLemmas.{in_each, in_joined, in_map, of_each, of_joined, of_map}
+use Rattle.sent_frames.specs.Messages.{Source}
+use Rattle.uplink_model.specs.Frames.{Antenna, uplink_frame_of, frames_behind, uplink_frames_from, uplink_message_frames}
+use Rattle.uplink_model.specs.Messages.{frame_count, uplink_frames_before, uplink_messages_of as job_messages, number_behind}
 use Rattle.uplink_streams.specs.Streams.{frame_for, message_frames_for, planned_frames, stream_frames_for}
 use Rattle.uplink_streams.proofs.StreamLemmas.{frames_are_the_stream}
 use Rattle.uplink_laws.specs.Flows.{uplink_bounds_of, uplink_flow_of}

@@ -2,7 +2,7 @@
 use Rattle.std.proofs.Common.{◌≡◌, ℕ, ◌-◌, inl, inr, true, false, not, List, [], ◌∷◌, Some, refl, ap, sym, ◌∙◌, true≢false}
 use Rattle.std.specs.List.{slice_index_or}
 use Rattle.std.proofs.lemmas.Bool.{cases_Bool, and_parts, and_from, eq-eqb}
-use Rattle.sent_laws.specs.air_source.specs.declared.events.Side.TheVariants.{Du}
+use Rattle.air_source.specs.declared.events.Side.TheVariants.{Du}
 use Rattle.fragment_laws.specs.Apart.{IsIn}
 use Rattle.window_config.specs.declared.config.Config.{Config}
 use Rattle.window_config.specs.declared.delays.Delays.{Delays}
@@ -11,29 +11,27 @@ use Rattle.window_config.specs.declared.plan.PlanKind.TheVariants.{Down, Up, Idl
 use Rattle.window_config.specs.declared.plan.PlanLine.{PlanLine}
 use Rattle.window_config.specs.declared.verdicts.Class.{Class}
 use Rattle.window_config.specs.declared.verdicts.Class.TheVariants.{OnTime}
-use Rattle.sent_laws.specs.unit_model.specs.Blocks.{block_at, block_of, data_class, data_covers, data_prb_count, data_slot, first_data_prb, timely, with_timely}
-use Rattle.sent_laws.specs.unit_model.specs.Claims.{cell_at, covers, first_prb, is_from, prb_count, same_slot, same_way}
-use Rattle.sent_laws.specs.unit_model.specs.Meetings.{Arrival}
-use Rattle.sent_laws.specs.unit_model.specs.declared.allocations.Allocation.{Allocation}
-use Rattle.sent_laws.specs.unit_model.specs.declared.cells.Block.{Block}
-use Rattle.sent_laws.specs.unit_model.specs.declared.cells.Cell.{Cell}
-use Rattle.sent_laws.specs.unit_model.specs.declared.decoded.UserSection.{UserSection}
-use Rattle.sent_laws.specs.unit_laws.proofs.CellLemmas.{data_covers_is}
-use Rattle.sent_laws.specs.plan_model.specs.Lines.{line_allocation, is_down_kind, is_idle_kind, planned}
-use Rattle.sent_laws.specs.plan_model.specs.Streams.{Part, part_in}
-use Rattle.sent_laws.specs.plan_model.specs.declared.lines.PlannedLine.{PlannedLine}
-use Rattle.sent_laws.specs.schedule_laws.specs.Data.{Blocks, planned_block, radiates_in}
-use Rattle.sent_laws.specs.schedule_laws.proofs.BlockLemmas.{Radiating, find_radiating, no_block, one_block, planned_none, planned_one, radiated_by, same_block, same_cell, silent}
-use Rattle.sent_laws.specs.schedule_laws.proofs.CellLemmas.{one_section}
-use Rattle.sent_laws.specs.sent_frames.specs.Messages.{Source}
-use Rattle.uplink_streams.specs.uplink_model.specs.Frames.{Antenna}
-use Rattle.uplink_laws.specs.Data.{AreUplinksDecodedOnce, IsUplinkDataFor, antenna_blocks}
+use Rattle.unit_model.specs.Blocks.{block_at, block_of, data_class, data_covers, data_prb_count, data_slot, first_data_prb, timely, with_timely}
+use Rattle.unit_model.specs.Claims.{cell_at, covers, first_prb, is_from, prb_count, same_slot, same_way}
+use Rattle.unit_model.specs.Meetings.{Arrival}
+use Rattle.unit_model.specs.declared.allocations.Allocation.{Allocation}
+use Rattle.unit_model.specs.declared.cells.Block.{Block}
+use Rattle.unit_model.specs.declared.cells.Cell.{Cell}
+use Rattle.unit_model.specs.declared.decoded.UserSection.{UserSection}
+use Rattle.unit_laws.proofs.CellLemmas.{data_covers_is}
+use Rattle.plan_model.specs.Lines.{line_allocation, is_down_kind, is_idle_kind, planned, is_up_line}
+use Rattle.plan_model.specs.Streams.{Part, part_in}
+use Rattle.plan_model.specs.declared.lines.PlannedLine.{PlannedLine}
+use Rattle.schedule_laws.specs.Data.{Blocks, planned_block, radiates_in}
+use Rattle.schedule_laws.proofs.BlockLemmas.{Radiating, find_radiating, no_block, one_block, planned_none, planned_one, radiated_by, same_block, same_cell, silent}
+use Rattle.schedule_laws.proofs.CellLemmas.{one_section}
+use Rattle.sent_frames.specs.Messages.{Source}
+use Rattle.uplink_model.specs.Frames.{Antenna}
+use Rattle.uplink_laws.specs.Data.{AreUplinksDecodedOnce, IsUplinkDataFor, antenna_blocks, EachUplinkIsDecodedOnce}
 use Rattle.uplink_laws.specs.Premise.{BothArrive}
 use Rattle.uplink_laws.proofs.DecodedLemmas.{IsTimely, ds, each_timely, line_sent, sections_of_wholes}
 use Rattle.uplink_laws.proofs.ReadLemmas.{is_decoded}
-use Rattle.sent_laws.specs.plan_model.specs.Lines.{is_up_line}
-use Rattle.sent_laws.specs.unit_model.proofs.ClaimLemmas.{way_self as way_own, slot_self as slot_own, covers_is}
-use Rattle.uplink_laws.specs.Data.{EachUplinkIsDecodedOnce}
+use Rattle.unit_model.proofs.ClaimLemmas.{way_self as way_own, slot_self as slot_own, covers_is}
 
 -- ---- data that are all on time
 

@@ -4,45 +4,42 @@ use Rattle.std.specs.Prelude.{filter}
 use Rattle.std.proofs.lemmas.Bool.{cases_Bool, and_parts, and_from, eq-eqb}
 use Rattle.fh_time.specs.Air.{air_of}
 use Rattle.fh_time.specs.declared.values.Slot.{Slot}
-use Rattle.sent_laws.specs.air_source.specs.declared.events.AirCell.{AirCell}
-use Rattle.sent_laws.specs.air_source.specs.declared.events.Side.TheVariants.{Du}
+use Rattle.air_source.specs.declared.events.AirCell.{AirCell}
+use Rattle.air_source.specs.declared.events.Side.TheVariants.{Du}
 use Rattle.fragment_laws.specs.Apart.{IsIn}
 use Rattle.window_config.specs.declared.config.Config.{Config}
 use Rattle.window_config.specs.declared.endpoints.EndpointConfig.{EndpointConfig}
 use Rattle.window_config.specs.declared.plan.PlanLine.{PlanLine}
-use Rattle.sent_laws.specs.unit_model.specs.Blocks.{block_at}
-use Rattle.sent_laws.specs.unit_model.specs.Claims.{cell_at, claim_at, claim_of, covers, in_mask, names}
-use Rattle.sent_laws.specs.unit_model.specs.Meetings.{Arrival}
-use Rattle.sent_laws.specs.unit_model.specs.Radiated.{cell_id, cell_report, first_clock, report_of, reported, samples_under, symbol_report, used_mask, wait_of}
-use Rattle.sent_laws.specs.unit_model.specs.Reports.{du_known, du_reported, timely_of}
-use Rattle.sent_laws.specs.unit_model.specs.declared.allocations.Allocation.{Allocation}
-use Rattle.sent_laws.specs.unit_model.specs.declared.cells.Block.{Block}
-use Rattle.sent_laws.specs.unit_model.specs.declared.cells.Cell.{Cell}
-use Rattle.sent_laws.specs.unit_laws.proofs.ListLemmas.{each_same}
-use Rattle.sent_laws.specs.unit_laws.proofs.ReportLemmas.{report_same}
-use Rattle.sent_laws.specs.unit_laws.proofs.SweepLemmas.{sweep-same}
-use Rattle.sent_laws.specs.plan_model.specs.Lines.{line_allocation, planned}
-use Rattle.sent_laws.specs.plan_model.specs.declared.lines.PlannedLine.{PlannedLine}
-use Rattle.sent_laws.specs.plan_model.proofs.ListLemmas.{among, in_filter}
-use Rattle.sent_laws.specs.schedule_laws.specs.Cells.{planned_mask, planned_section, radiates}
-use Rattle.sent_laws.specs.schedule_laws.specs.Data.{Blocks, planned_block, radiates_in}
-use Rattle.sent_laws.specs.schedule_laws.proofs.AcceptedLemmas.{AreAllowed}
-use Rattle.sent_laws.specs.schedule_laws.proofs.BlockLemmas.{planned_one}
-use Rattle.sent_laws.specs.schedule_laws.proofs.CellLemmas.{all_under, has_element, id_is, line_claims, mask_is, one_section, own_samples, section_is}
-use Rattle.sent_laws.specs.schedule_laws.proofs.ClashLemmas.{IsClear, find_named, named_by, no_claim, own_claim, unnamed}
-use Rattle.sent_laws.specs.schedule_laws.proofs.LineLemmas.{allowed}
-use Rattle.sent_laws.specs.schedule_laws.proofs.ListLemmas.{in_map, of_map}
-use Rattle.sent_laws.specs.sent_frames.specs.Messages.{Source}
-use Rattle.uplink_streams.specs.uplink_model.specs.Frames.{Antenna}
-use Rattle.uplink_laws.specs.Cells.{taken_air, taken_cell, taken_event, taken_symbol}
+use Rattle.unit_model.specs.Blocks.{block_at}
+use Rattle.unit_model.specs.Claims.{cell_at, claim_at, claim_of, covers, in_mask, names}
+use Rattle.unit_model.specs.Meetings.{Arrival}
+use Rattle.unit_model.specs.Radiated.{cell_id, cell_report, first_clock, report_of, reported, samples_under, symbol_report, used_mask, wait_of}
+use Rattle.unit_model.specs.Reports.{du_known, du_reported, timely_of}
+use Rattle.unit_model.specs.declared.allocations.Allocation.{Allocation}
+use Rattle.unit_model.specs.declared.cells.Block.{Block}
+use Rattle.unit_model.specs.declared.cells.Cell.{Cell}
+use Rattle.unit_laws.proofs.ListLemmas.{each_same}
+use Rattle.unit_laws.proofs.ReportLemmas.{report_same}
+use Rattle.unit_laws.proofs.SweepLemmas.{sweep-same}
+use Rattle.plan_model.specs.Lines.{line_allocation, planned, uplink_allocations, is_up_line}
+use Rattle.plan_model.specs.declared.lines.PlannedLine.{PlannedLine}
+use Rattle.plan_model.proofs.ListLemmas.{among, in_filter}
+use Rattle.schedule_laws.specs.Cells.{planned_mask, planned_section, radiates}
+use Rattle.schedule_laws.specs.Data.{Blocks, planned_block, radiates_in}
+use Rattle.schedule_laws.proofs.AcceptedLemmas.{AreAllowed}
+use Rattle.schedule_laws.proofs.BlockLemmas.{planned_one}
+use Rattle.schedule_laws.proofs.CellLemmas.{all_under, has_element, id_is, line_claims, mask_is, one_section, own_samples, section_is}
+use Rattle.schedule_laws.proofs.ClashLemmas.{IsClear, find_named, named_by, no_claim, own_claim, unnamed}
+use Rattle.schedule_laws.proofs.LineLemmas.{allowed}
+use Rattle.schedule_laws.proofs.ListLemmas.{in_map, of_map}
+use Rattle.sent_frames.specs.Messages.{Source}
+use Rattle.uplink_model.specs.Frames.{Antenna}
+use Rattle.uplink_laws.specs.Cells.{taken_air, taken_cell, taken_event, taken_symbol, ThePlanIsTakenIn}
 use Rattle.uplink_laws.specs.Data.{antenna_blocks}
 use Rattle.uplink_laws.specs.Premise.{BothArrive}
 use Rattle.uplink_laws.proofs.BlockLemmas.{decoded_once, is_up}
 use Rattle.uplink_laws.proofs.JobLemmas.{of_uplink}
-use Rattle.sent_laws.specs.plan_model.specs.Lines.{uplink_allocations}
-use Rattle.sent_laws.specs.plan_model.specs.Lines.{is_up_line}
-use Rattle.sent_laws.specs.unit_model.proofs.ClaimLemmas.{covers_is}
-use Rattle.uplink_laws.specs.Cells.{ThePlanIsTakenIn}
+use Rattle.unit_model.proofs.ClaimLemmas.{covers_is}
 
 module _ (c : Config) (lines : List PlanLine) (source : Source) (antenna : Antenna) (down up : List Arrival) (h : BothArrive c lines source antenna down up) where
   abbrev ps : List PlannedLine

@@ -6,7 +6,7 @@ use Rattle.std.proofs.lemmas.Int.{ints}
 use Rattle.fh_time.specs.Air.{air_of}
 use Rattle.fh_time.specs.Frame.{absolute_frame}
 use Rattle.fh_time.specs.declared.values.Slot.{Slot}
-use Rattle.sent_laws.specs.air_source.specs.declared.events.Side.TheVariants.{Du}
+use Rattle.air_source.specs.declared.events.Side.TheVariants.{Du}
 use Rattle.ecpri_fragments.specs.Generations.{Fragment}
 use Rattle.ecpri_fragments.specs.Verdicts.{Message as WholeMessage, message, standing_before, verdict_on, whole_of}
 use Rattle.ecpri_fragments.specs.declared.verdict.Verdict.{Verdict}
@@ -21,27 +21,27 @@ use Rattle.window_config.specs.declared.endpoints.EndpointConfig.{EndpointConfig
 use Rattle.window_config.specs.declared.plan.PlanLine.{PlanLine}
 use Rattle.window_config.specs.declared.verdicts.Class.TheVariants.{OnTime}
 use Rattle.window_config.proofs.Timing.{class_up_on_time}
-use Rattle.sent_laws.specs.unit_model.specs.Blocks.{data_class, data_slot, data_start}
-use Rattle.sent_laws.specs.unit_model.specs.Claims.{is_from}
-use Rattle.sent_laws.specs.unit_model.specs.Decoding.{Decoded, data_now, data_sections, data_told, decode, decode_message, decoded_now, sections_of}
-use Rattle.sent_laws.specs.unit_model.specs.Lists.{onto}
-use Rattle.sent_laws.specs.unit_model.specs.Meetings.{Arrival, Meeting, Piece, fragments, meetings}
-use Rattle.sent_laws.specs.unit_model.specs.Proper.{IsAt}
-use Rattle.sent_laws.specs.unit_model.specs.declared.decoded.UserSection.{UserSection}
-use Rattle.sent_laws.specs.unit_model.proofs.ReachLaws.{symbol_soon}
-use Rattle.sent_laws.specs.unit_laws.proofs.FarLemmas.{endpoints_equal}
-use Rattle.sent_laws.specs.plan_model.specs.Departures.{start_of_part}
-use Rattle.sent_laws.specs.plan_model.specs.Lines.{planned}
-use Rattle.sent_laws.specs.plan_model.specs.Packs.{Numbered, parts_of}
-use Rattle.sent_laws.specs.plan_model.specs.Streams.{Part, frames_in, messages_of, part_in}
-use Rattle.sent_laws.specs.plan_model.specs.declared.lines.PlannedLine.{PlannedLine}
-use Rattle.sent_laws.specs.plan_model.specs.declared.streams.Stream.TheVariants.{UpData}
-use Rattle.sent_laws.specs.plan_model.proofs.ListLemmas.{in_either, in_left, in_right}
-use Rattle.sent_laws.specs.schedule_laws.proofs.FragmentLemmas.{answers_from, answers_there, the_whole, whole_in}
-use Rattle.sent_laws.specs.schedule_laws.proofs.ListLemmas.{in_onto, numerology_short, onto_right}
-use Rattle.sent_laws.specs.schedule_laws.proofs.TimeLemmas.{frame_is}
-use Rattle.sent_laws.specs.sent_frames.specs.Messages.{Source}
-use Rattle.uplink_streams.specs.uplink_model.specs.Frames.{Antenna}
+use Rattle.unit_model.specs.Blocks.{data_class, data_slot, data_start}
+use Rattle.unit_model.specs.Claims.{is_from}
+use Rattle.unit_model.specs.Decoding.{Decoded, data_now, data_sections, data_told, decode, decode_message, decoded_now, sections_of}
+use Rattle.unit_model.specs.Lists.{onto}
+use Rattle.unit_model.specs.Meetings.{Arrival, Meeting, Piece, fragments, meetings}
+use Rattle.unit_model.specs.Proper.{IsAt}
+use Rattle.unit_model.specs.declared.decoded.UserSection.{UserSection}
+use Rattle.unit_model.proofs.ReachLaws.{symbol_soon}
+use Rattle.unit_laws.proofs.FarLemmas.{endpoints_equal}
+use Rattle.plan_model.specs.Departures.{start_of_part}
+use Rattle.plan_model.specs.Lines.{planned, is_up_line}
+use Rattle.plan_model.specs.Packs.{Numbered, parts_of}
+use Rattle.plan_model.specs.Streams.{Part, frames_in, messages_of, part_in}
+use Rattle.plan_model.specs.declared.lines.PlannedLine.{PlannedLine}
+use Rattle.plan_model.specs.declared.streams.Stream.TheVariants.{UpData}
+use Rattle.plan_model.proofs.ListLemmas.{in_either, in_left, in_right}
+use Rattle.schedule_laws.proofs.FragmentLemmas.{answers_from, answers_there, the_whole, whole_in}
+use Rattle.schedule_laws.proofs.ListLemmas.{in_onto, numerology_short, onto_right}
+use Rattle.schedule_laws.proofs.TimeLemmas.{frame_is}
+use Rattle.sent_frames.specs.Messages.{Source}
+use Rattle.uplink_model.specs.Frames.{Antenna}
 use Rattle.uplink_laws.specs.Data.{AreUplinkSections, IsUplinkDataFor, IsUplinkDecoded, antenna_blocks, said_by}
 use Rattle.uplink_laws.specs.Flows.{uplink_bounds_of, uplink_flow_of, fragment_text}
 use Rattle.uplink_laws.specs.Premise.{BothArrive}
@@ -52,11 +52,10 @@ use Rattle.uplink_laws.proofs.ReadLemmas.{IsSectionOf, fragment_at, is_decoded, 
 use Rattle.uplink_laws.proofs.WholeLemmas.{InTime, in_time, whole_once}
 use Rattle.fh_time.specs.declared.frames.TheConstants.{FRAME, HALF_CYCLE}
 use Rattle.window_config.specs.declared.delays.TheConstants.{MOST_DELAY}
-use Rattle.sent_laws.specs.plan_model.specs.Lines.{is_up_line}
 use Rattle.fh_time.proofs.Order.{same_fields as same_slot_fields}
 use Rattle.ecpri_fragments.specs.Pieces.{joined}
 use Rattle.fh_time.specs.declared.nanoseconds.TheConstants.{NANOSECOND}
-use Rattle.sent_laws.specs.schedule_laws.proofs.DataLemmas.{told_whole, whole_told}
+use Rattle.schedule_laws.proofs.DataLemmas.{told_whole, whole_told}
 
 -- ---- the sections that a fragment makes
 

@@ -8,8 +8,7 @@ use Rattle.std.proofs.lemmas.Int.{ints}
 use Rattle.fh_time.specs.Air.{air_of}
 use Rattle.fh_time.specs.declared.values.Slot.{Slot}
 use Rattle.fragment_laws.specs.Apart.{IsIn}
-use Rattle.fragment_laws.specs.Flow.{IsDistant, IsSound, size_to}
-use Rattle.fragment_laws.specs.Flow.{sent_at as flow_sent_at}
+use Rattle.fragment_laws.specs.Flow.{IsDistant, IsSound, size_to, sent_at as flow_sent_at}
 use Rattle.window_config.specs.Configs.{IsConfig}
 use Rattle.window_config.specs.Plans.{IsPlanLine}
 use Rattle.window_config.specs.Relations.{PassesCheck}
@@ -17,27 +16,27 @@ use Rattle.window_config.specs.Windows.{ticks_of_ns}
 use Rattle.window_config.specs.declared.config.Config.{Config}
 use Rattle.window_config.specs.declared.endpoints.EndpointConfig.{EndpointConfig}
 use Rattle.window_config.specs.declared.plan.PlanLine.{PlanLine}
-use Rattle.sent_laws.specs.unit_model.specs.Proper.{IsAt}
-use Rattle.sent_laws.specs.unit_model.specs.Radiated.{first_clock}
-use Rattle.sent_laws.specs.unit_model.specs.Sweeps.{of_endpoint}
-use Rattle.sent_laws.specs.unit_model.specs.Times.{end_of_time}
-use Rattle.sent_laws.specs.unit_model.proofs.SweepLaws.{gap_is}
-use Rattle.sent_laws.specs.unit_laws.proofs.SweepLemmas.{of_endpoint_related}
-use Rattle.sent_laws.specs.unit_laws.proofs.FarLemmas.{endpoints_equal}
-use Rattle.sent_laws.specs.plan_model.specs.Dense.{dense_from, dense_in, down_distance, sending_of, sendings, up_distance}
-use Rattle.sent_laws.specs.plan_model.specs.Departures.{departures_of, sent_at, start_of_part}
-use Rattle.sent_laws.specs.plan_model.specs.Lines.{planned}
-use Rattle.sent_laws.specs.plan_model.specs.Packs.{Numbered, packs, size_of}
-use Rattle.sent_laws.specs.plan_model.specs.Streams.{Part, frames_in, messages_of, part_fields, parts_in, symbol_parts}
-use Rattle.sent_laws.specs.plan_model.specs.Valid.{IsValid}
-use Rattle.sent_laws.specs.plan_model.specs.declared.lines.PlannedLine.{PlannedLine}
-use Rattle.sent_laws.specs.plan_model.specs.declared.streams.Stream.TheVariants.{DownData, UpData}
-use Rattle.sent_laws.specs.schedule_laws.proofs.FlowLemmas.{distant, no_lesser, none_dense, not_near, some_frames}
-use Rattle.sent_laws.specs.schedule_laws.proofs.LineLemmas.{good}
-use Rattle.sent_laws.specs.schedule_laws.proofs.ListLemmas.{IsAll, all_kept, at_in}
-use Rattle.sent_laws.specs.schedule_laws.proofs.OrderLemmas.{IsRising, below_get, get_below, get_drop, get_map, numbered_rising, packs_rising, rising_at, ticks_rising}
-use Rattle.sent_laws.specs.schedule_laws.proofs.PlanLemmas.{valid_apart}
-use Rattle.uplink_streams.specs.uplink_model.specs.Frames.{Antenna}
+use Rattle.unit_model.specs.Proper.{IsAt}
+use Rattle.unit_model.specs.Radiated.{first_clock}
+use Rattle.unit_model.specs.Sweeps.{of_endpoint}
+use Rattle.unit_model.specs.Times.{end_of_time}
+use Rattle.unit_model.proofs.SweepLaws.{gap_is}
+use Rattle.unit_laws.proofs.SweepLemmas.{of_endpoint_related}
+use Rattle.unit_laws.proofs.FarLemmas.{endpoints_equal}
+use Rattle.plan_model.specs.Dense.{dense_from, dense_in, down_distance, sending_of, sendings, up_distance}
+use Rattle.plan_model.specs.Departures.{departures_of, sent_at, start_of_part}
+use Rattle.plan_model.specs.Lines.{planned}
+use Rattle.plan_model.specs.Packs.{Numbered, packs, size_of}
+use Rattle.plan_model.specs.Streams.{Part, frames_in, messages_of, part_fields, parts_in, symbol_parts}
+use Rattle.plan_model.specs.Valid.{IsValid}
+use Rattle.plan_model.specs.declared.lines.PlannedLine.{PlannedLine}
+use Rattle.plan_model.specs.declared.streams.Stream.TheVariants.{DownData, UpData}
+use Rattle.schedule_laws.proofs.FlowLemmas.{distant, no_lesser, none_dense, not_near, some_frames}
+use Rattle.schedule_laws.proofs.LineLemmas.{good}
+use Rattle.schedule_laws.proofs.ListLemmas.{IsAll, all_kept, at_in}
+use Rattle.schedule_laws.proofs.OrderLemmas.{IsRising, below_get, get_below, get_drop, get_map, numbered_rising, packs_rising, rising_at, ticks_rising}
+use Rattle.schedule_laws.proofs.PlanLemmas.{valid_apart}
+use Rattle.uplink_model.specs.Frames.{Antenna}
 use Rattle.uplink_laws.specs.Flows.{uplink_bounds_of, uplink_flow_of, fragment_text, uplink_messages_at, flow_start_at, text_of}
 use Rattle.uplink_laws.proofs.PartLemmas.{message_number, message_short, sent_in, symbol_part}
 use Rattle.fh_time.specs.declared.nanoseconds.TheConstants.{NANOSECOND}

@@ -4,9 +4,9 @@ use Rattle.std.specs.Prelude.{filter, reverse, IsPermutation}
 use Rattle.std.proofs.lemmas.List.{reverse-append}
 use Rattle.std.proofs.lemmas.List.Sorted.{IsPermutation-cons, IsPermutation-middle, IsPermutation-refl, IsPermutation-sym, IsPermutation-trans}
 use Rattle.fragment_laws.specs.Apart.{IsIn}
-use Rattle.sent_laws.specs.unit_model.specs.declared.allocations.Allocation.{Allocation}
-use Rattle.sent_laws.specs.plan_model.proofs.ListLemmas.{in_left, in_right, in_either, of_filter}
-use Rattle.sent_laws.specs.schedule_laws.proofs.AcceptedLemmas.{AreDistinct}
+use Rattle.unit_model.specs.declared.allocations.Allocation.{Allocation}
+use Rattle.plan_model.proofs.ListLemmas.{in_left, in_right, in_either, of_filter}
+use Rattle.schedule_laws.proofs.AcceptedLemmas.{AreDistinct}
 
 -- where an element stands
 pub record Split {X : Type 0} (x : X) (ys : List X) : Type 0 where

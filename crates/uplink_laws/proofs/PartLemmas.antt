@@ -11,33 +11,32 @@ use Rattle.window_config.specs.Plans.{IsPlanLine}
 use Rattle.window_config.specs.declared.config.Config.{Config}
 use Rattle.window_config.specs.declared.endpoints.EndpointConfig.{EndpointConfig}
 use Rattle.window_config.specs.declared.plan.PlanLine.{PlanLine}
-use Rattle.sent_laws.specs.unit_model.specs.Claims.{is_from, same_slot}
-use Rattle.sent_laws.specs.unit_model.specs.Commands.{is_uplink as is_sent_up}
-use Rattle.sent_laws.specs.unit_model.specs.Lists.{in_order, put_in}
-use Rattle.sent_laws.specs.unit_model.specs.Proper.{IsAt}
-use Rattle.sent_laws.specs.unit_model.specs.Radiated.{first_clock}
-use Rattle.sent_laws.specs.unit_model.specs.Times.{end_of_time}
-use Rattle.sent_laws.specs.unit_model.specs.Uplink.{sends_in}
-use Rattle.sent_laws.specs.unit_laws.proofs.FarLemmas.{endpoints_equal}
-use Rattle.sent_laws.specs.plan_model.specs.Departures.{start_of_part}
-use Rattle.sent_laws.specs.plan_model.specs.Lines.{line_allocation, is_down_kind, is_idle_kind, planned}
-use Rattle.sent_laws.specs.plan_model.specs.Packs.{Numbered, packs, parts_of, size_of}
-use Rattle.sent_laws.specs.plan_model.specs.Streams.{Part, frames_in, line_before, messages_of, part_fields, part_in, parts_in, symbol_parts}
-use Rattle.sent_laws.specs.plan_model.specs.Valid.{IsValid}
-use Rattle.sent_laws.specs.plan_model.specs.declared.lines.PlannedLine.{PlannedLine}
-use Rattle.sent_laws.specs.plan_model.specs.declared.streams.Stream.TheVariants.{UpData}
-use Rattle.sent_laws.specs.plan_model.proofs.ListLemmas.{in_filter, of_filter}
-use Rattle.sent_laws.specs.schedule_laws.proofs.FlowLemmas.{section_short}
-use Rattle.sent_laws.specs.schedule_laws.proofs.LineLemmas.{IsGoodLine, good, start_in_time}
-use Rattle.sent_laws.specs.schedule_laws.proofs.ListLemmas.{in_map, in_symbols, of_map, of_symbols}
-use Rattle.sent_laws.specs.schedule_laws.proofs.OrderLemmas.{all_short, number_is, one_symbol}
-use Rattle.sent_laws.specs.schedule_laws.proofs.PackLemmas.{message_from}
-use Rattle.sent_laws.specs.schedule_laws.proofs.SentLemmas.{message_part, part_message}
-use Rattle.sent_laws.specs.schedule_laws.proofs.TimeLemmas.{in_end}
-use Rattle.sent_laws.specs.sent_frames.proofs.MessageFacts.{IsGoodMessage, IsGoodPart}
+use Rattle.unit_model.specs.Claims.{is_from, same_slot}
+use Rattle.unit_model.specs.Commands.{is_uplink as is_sent_up}
+use Rattle.unit_model.specs.Lists.{in_order, put_in}
+use Rattle.unit_model.specs.Proper.{IsAt}
+use Rattle.unit_model.specs.Radiated.{first_clock}
+use Rattle.unit_model.specs.Times.{end_of_time}
+use Rattle.unit_model.specs.Uplink.{sends_in}
+use Rattle.unit_laws.proofs.FarLemmas.{endpoints_equal}
+use Rattle.plan_model.specs.Departures.{start_of_part}
+use Rattle.plan_model.specs.Lines.{line_allocation, is_down_kind, is_idle_kind, planned, is_up_line}
+use Rattle.plan_model.specs.Packs.{Numbered, packs, parts_of, size_of}
+use Rattle.plan_model.specs.Streams.{Part, frames_in, line_before, messages_of, part_fields, part_in, parts_in, symbol_parts}
+use Rattle.plan_model.specs.Valid.{IsValid}
+use Rattle.plan_model.specs.declared.lines.PlannedLine.{PlannedLine}
+use Rattle.plan_model.specs.declared.streams.Stream.TheVariants.{UpData}
+use Rattle.plan_model.proofs.ListLemmas.{in_filter, of_filter}
+use Rattle.schedule_laws.proofs.FlowLemmas.{section_short}
+use Rattle.schedule_laws.proofs.LineLemmas.{IsGoodLine, good, start_in_time}
+use Rattle.schedule_laws.proofs.ListLemmas.{in_map, in_symbols, of_map, of_symbols}
+use Rattle.schedule_laws.proofs.OrderLemmas.{all_short, number_is, one_symbol}
+use Rattle.schedule_laws.proofs.PackLemmas.{message_from}
+use Rattle.schedule_laws.proofs.SentLemmas.{message_part, part_message}
+use Rattle.schedule_laws.proofs.TimeLemmas.{in_end}
+use Rattle.sent_frames.proofs.MessageFacts.{IsGoodMessage, IsGoodPart}
 use Rattle.uplink_streams.proofs.ListLemmas.{of_order}
-use Rattle.sent_laws.specs.plan_model.specs.Lines.{is_up_line}
-use Rattle.sent_laws.specs.unit_model.proofs.ClaimLemmas.{same_slot_is as slots_equal, slot_self as slot_own, from_within}
+use Rattle.unit_model.proofs.ClaimLemmas.{same_slot_is as slots_equal, slot_self as slot_own, from_within}
 use Rattle.ecpri_fragments.specs.declared.place.TheConstants.{MESSAGE_BYTES}
 use Rattle.uplink_laws.proofs.JobLemmas.{up_sent}
 

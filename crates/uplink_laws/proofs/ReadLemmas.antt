@@ -9,47 +9,47 @@ use Rattle.std.proofs.Math.Nat.{mod-eq_of_lt}
 use Rattle.fh_time.specs.Carrier.{count_of}
 use Rattle.fh_time.specs.Numbering.{shape_of, slots_of}
 use Rattle.fh_time.specs.declared.values.Slot.{Slot}
-use Rattle.sent_laws.specs.air_source.specs.Answers.{block_of}
-use Rattle.sent_laws.specs.air_source.specs.declared.events.Side.TheVariants.{Du}
+use Rattle.air_source.specs.Answers.{block_of}
+use Rattle.air_source.specs.declared.events.Side.TheVariants.{Du}
 use Rattle.bfp_codec.specs.Shrunk.{shrunk}
 use Rattle.bfp_codec.specs.declared.samples.Iq.{Iq}
 use Rattle.ecpri_fragments.specs.Generations.{Fragment}
 use Rattle.ecpri_fragments.specs.declared.sequence.SeqField.{SeqField}
 use Rattle.ecpri_frames.specs.Gathering.{whole_messages}
-use Rattle.sent_laws.specs.uplane_sections.specs.Messages.{Head, Telling, told}
-use Rattle.sent_laws.specs.uplane_sections.specs.declared.values.UHead.{UHead}
+use Rattle.uplane_sections.specs.Messages.{Head, Telling, told}
+use Rattle.uplane_sections.specs.declared.values.UHead.{UHead}
 use Rattle.fragment_laws.specs.Apart.{IsIn}
 use Rattle.fragment_laws.specs.Flow.{size_to}
 use Rattle.fragment_laws.specs.Once.{texts}
 use Rattle.window_config.specs.declared.config.Config.{Config}
 use Rattle.window_config.specs.declared.endpoints.EndpointConfig.{EndpointConfig}
 use Rattle.window_config.specs.declared.plan.PlanLine.{PlanLine}
-use Rattle.sent_laws.specs.unit_model.specs.Claims.{cell_at, first_prb, is_from, prb_count}
-use Rattle.sent_laws.specs.unit_model.specs.Decoding.{Gathering, SectionBlocks as ReadPart, Sections, data_with, decode, decoded_from, gathered, nothing_told}
-use Rattle.sent_laws.specs.unit_model.specs.Lists.{onto}
-use Rattle.sent_laws.specs.unit_model.specs.Meetings.{Meeting, Piece, find_endpoint, fragment_of, fragment_with, meet, met_in}
-use Rattle.sent_laws.specs.unit_model.specs.Proper.{IsAt}
-use Rattle.sent_laws.specs.unit_model.specs.declared.decoded.UserSection.{UserSection}
-use Rattle.sent_laws.specs.plan_model.specs.Lines.{line_allocation, planned}
-use Rattle.sent_laws.specs.plan_model.specs.Packs.{Message, Numbered, parts_of, size_of}
-use Rattle.sent_laws.specs.plan_model.specs.Streams.{Part, frames_in, messages_of, part_fields, section_size}
-use Rattle.sent_laws.specs.plan_model.specs.declared.lines.PlannedLine.{PlannedLine}
-use Rattle.sent_laws.specs.plan_model.specs.declared.streams.Stream.TheVariants.{UpData}
-use Rattle.sent_laws.specs.plan_model.proofs.SizeLemmas.{few_pieces}
-use Rattle.sent_laws.specs.schedule_laws.specs.Data.{Blocks}
-use Rattle.sent_laws.specs.schedule_laws.proofs.FoundLemmas.{found}
-use Rattle.sent_laws.specs.schedule_laws.proofs.ListLemmas.{at_in, in_all}
-use Rattle.sent_laws.specs.schedule_laws.proofs.PlanLemmas.{line_of}
-use Rattle.sent_laws.specs.frame_bytes.specs.Cuts.{cut, piece_at}
-use Rattle.sent_laws.specs.frame_bytes.specs.Messages.{message_of}
-use Rattle.sent_laws.specs.frame_bytes.specs.Reading.{IsReadable, sections_items}
-use Rattle.sent_laws.specs.frame_bytes.specs.Transport.{IsTransport, frame_of}
-use Rattle.sent_laws.specs.frame_bytes.specs.declared.messages.Carrier.{Carrier}
-use Rattle.sent_laws.specs.frame_bytes.specs.declared.messages.DataSection.{DataSection}
-use Rattle.sent_laws.specs.frame_bytes.proofs.Frames.{frame_is_one}
-use Rattle.sent_laws.specs.frame_bytes.proofs.Sections.{length_message}
-use Rattle.sent_laws.specs.sent_frames.specs.Messages.{Source, data_section}
-use Rattle.sent_laws.specs.sent_frames.proofs.MessageFacts.{IsGoodMessage, IsGoodPart, all_map, message_fits, message_size_is}
+use Rattle.unit_model.specs.Claims.{cell_at, first_prb, is_from, prb_count}
+use Rattle.unit_model.specs.Decoding.{Gathering, SectionBlocks as ReadPart, Sections, data_with, decode, decoded_from, gathered, nothing_told}
+use Rattle.unit_model.specs.Lists.{onto}
+use Rattle.unit_model.specs.Meetings.{Meeting, Piece, find_endpoint, fragment_of, fragment_with, meet, met_in}
+use Rattle.unit_model.specs.Proper.{IsAt}
+use Rattle.unit_model.specs.declared.decoded.UserSection.{UserSection}
+use Rattle.plan_model.specs.Lines.{line_allocation, planned}
+use Rattle.plan_model.specs.Packs.{Message, Numbered, parts_of, size_of}
+use Rattle.plan_model.specs.Streams.{Part, frames_in, messages_of, part_fields, section_size}
+use Rattle.plan_model.specs.declared.lines.PlannedLine.{PlannedLine}
+use Rattle.plan_model.specs.declared.streams.Stream.TheVariants.{UpData}
+use Rattle.plan_model.proofs.SizeLemmas.{few_pieces}
+use Rattle.schedule_laws.specs.Data.{Blocks}
+use Rattle.schedule_laws.proofs.FoundLemmas.{found}
+use Rattle.schedule_laws.proofs.ListLemmas.{at_in, in_all}
+use Rattle.schedule_laws.proofs.PlanLemmas.{line_of}
+use Rattle.frame_bytes.specs.Cuts.{cut, piece_at}
+use Rattle.frame_bytes.specs.Messages.{message_of}
+use Rattle.frame_bytes.specs.Reading.{IsReadable, sections_items}
+use Rattle.frame_bytes.specs.Transport.{IsTransport, frame_of}
+use Rattle.frame_bytes.specs.declared.messages.Carrier.{Carrier}
+use Rattle.frame_bytes.specs.declared.messages.DataSection.{DataSection}
+use Rattle.frame_bytes.proofs.Frames.{frame_is_one}
+use Rattle.frame_bytes.proofs.Sections.{length_message}
+use Rattle.sent_frames.specs.Messages.{Source, data_section}
+use Rattle.sent_frames.proofs.MessageFacts.{IsGoodMessage, IsGoodPart, all_map, message_fits, message_size_is}
 use Rattle.sent_laws.specs.Sent.{IsSendable}
 use Rattle.sent_laws.proofs.CommandRead.{found_by, long, message_of as whole_message, one_whole}
 use Rattle.sent_laws.proofs.Fragments.{fragments_joined, piece_short, size_joined}
@@ -57,16 +57,15 @@ use Rattle.sent_laws.proofs.Gathered.{block_in, read_part, read_parts, sections_
 use Rattle.sent_laws.proofs.LineFields.{at_most_nine, frame_id_is, frame_id_small}
 use Rattle.sent_laws.proofs.MessageSays.{message_told, the_place, in_count}
 use Rattle.sent_laws.proofs.SentRead.{some_bytes, in_size}
-use Rattle.uplink_streams.specs.uplink_model.specs.Frames.{Antenna, uplink_fragment_bytes, head_of, uplink_message_bytes, samples_of, section_of}
-use Rattle.uplink_streams.specs.uplink_model.specs.Messages.{job_fields}
+use Rattle.uplink_model.specs.Frames.{Antenna, uplink_fragment_bytes, head_of, uplink_message_bytes, samples_of, section_of}
+use Rattle.uplink_model.specs.Messages.{job_fields}
 use Rattle.uplink_streams.specs.Streams.{job_for, message_for}
 use Rattle.uplink_laws.specs.Data.{AreUplinkSections, IsUplinkDataFor, IsUplinkDecoded, antenna_blocks}
 use Rattle.uplink_laws.specs.Flows.{fragment_text}
 use Rattle.uplink_laws.specs.Premise.{CanAnswer}
 use Rattle.uplink_laws.proofs.PartLemmas.{good_message, message_facts, message_short}
-use Rattle.sent_laws.specs.frame_bytes.specs.Headers.{frame_id_of}
-use Rattle.sent_laws.specs.frame_bytes.specs.Headers.{carrier_of}
-use Rattle.sent_laws.specs.unit_model.proofs.ClaimLemmas.{starts_before as from_low, from_within as from_high}
+use Rattle.frame_bytes.specs.Headers.{frame_id_of, carrier_of}
+use Rattle.unit_model.proofs.ClaimLemmas.{starts_before as from_low, from_within as from_high}
 use Rattle.ecpri_fragments.specs.Sequence.{id_of}
 use Rattle.ecpri_fragments.specs.Pieces.{joined, piece_count}
 use Rattle.ecpri_fragments.specs.declared.place.TheConstants.{MESSAGE_BYTES}

@@ -4,11 +4,11 @@ use Rattle.std.proofs.lemmas.Bool.{cases_Bool, cases_lt, cases_eq, lt-ltb, eq-eq
 use Rattle.std.proofs.lemmas.Bool.Decides.{nat_tests}
 use Rattle.fh_time.specs.declared.values.Slot.{Slot}
 use Rattle.fragment_laws.specs.Apart.{IsIn}
-use Rattle.sent_laws.specs.unit_model.specs.Lists.{in_order, put_in}
-use Rattle.sent_laws.specs.unit_model.specs.Uplink.{is_before, job_of}
-use Rattle.sent_laws.specs.unit_model.specs.declared.allocations.Allocation.{Allocation}
-use Rattle.sent_laws.specs.unit_model.specs.declared.jobs.UplinkJob.{UplinkJob}
-use Rattle.sent_laws.specs.schedule_laws.proofs.AcceptedLemmas.{AreDistinct}
+use Rattle.unit_model.specs.Lists.{in_order, put_in}
+use Rattle.unit_model.specs.Uplink.{is_before, job_of}
+use Rattle.unit_model.specs.declared.allocations.Allocation.{Allocation}
+use Rattle.unit_model.specs.declared.jobs.UplinkJob.{UplinkJob}
+use Rattle.schedule_laws.proofs.AcceptedLemmas.{AreDistinct}
 use Rattle.uplink_laws.proofs.MemberLemmas.{by_members}
 
 -- ---- orders

@@ -1,7 +1,7 @@
 -- Each uplink message becomes whole once, within Ta4.
 use Rattle.std.proofs.Common.{◌≡◌, ℕ, ℤ, pos, ◌+◌, ◌*◌, ◌<◌, ◌≤◌, ◌+ℤ◌, ◌*ℤ◌, ◌-ℤ◌, ◌≤ℤ◌, min, List, arith}
 use Rattle.std.proofs.lemmas.Int.{ints}
-use Rattle.sent_laws.specs.air_source.specs.declared.events.Side.TheVariants.{Du}
+use Rattle.air_source.specs.declared.events.Side.TheVariants.{Du}
 use Rattle.ecpri_fragments.specs.Generations.{Fragment}
 use Rattle.fragment_laws.specs.Apart.{Numbers, of_message}
 use Rattle.fragment_laws.specs.Flow.{numbers_of, sent_at as flow_sent_at}
@@ -13,20 +13,19 @@ use Rattle.window_config.specs.Classes.{IsOnTimeUp}
 use Rattle.window_config.specs.Windows.{ticks_of_ns}
 use Rattle.window_config.specs.declared.config.Config.{Config}
 use Rattle.window_config.specs.declared.plan.PlanLine.{PlanLine}
-use Rattle.sent_laws.specs.unit_model.specs.Meetings.{Arrival, fragments, meetings}
-use Rattle.sent_laws.specs.unit_model.proofs.SweepLaws.{gap_is}
-use Rattle.sent_laws.specs.plan_model.specs.Lines.{planned}
-use Rattle.sent_laws.specs.plan_model.specs.declared.lines.PlannedLine.{PlannedLine}
-use Rattle.sent_laws.specs.sent_frames.specs.Messages.{Source}
-use Rattle.sent_laws.specs.schedule_laws.proofs.TimeLemmas.{wait_most, last_one}
-use Rattle.uplink_streams.specs.uplink_model.specs.Frames.{Antenna}
+use Rattle.unit_model.specs.Meetings.{Arrival, fragments, meetings}
+use Rattle.unit_model.proofs.SweepLaws.{gap_is}
+use Rattle.plan_model.specs.Lines.{planned}
+use Rattle.plan_model.specs.declared.lines.PlannedLine.{PlannedLine}
+use Rattle.sent_frames.specs.Messages.{Source}
+use Rattle.schedule_laws.proofs.TimeLemmas.{wait_most, last_one}
+use Rattle.uplink_model.specs.Frames.{Antenna}
 use Rattle.uplink_laws.specs.Flows.{uplink_bounds_of, uplink_flow_of, flow_start_at}
 use Rattle.uplink_laws.specs.Premise.{BothArrive}
-use Rattle.uplink_laws.specs.Whole.{AreTakenOnce}
+use Rattle.uplink_laws.specs.Whole.{AreTakenOnce, EachIsTakenOnce}
 use Rattle.uplink_laws.proofs.ArrivalLemmas.{delivered, sounds}
 use Rattle.window_config.proofs.TickLemmas.{in_ticks}
 use Rattle.fh_time.specs.declared.nanoseconds.TheConstants.{NANOSECOND}
-use Rattle.uplink_laws.specs.Whole.{EachIsTakenOnce}
 
 -- ---- times
 

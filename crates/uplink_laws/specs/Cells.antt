@@ -2,27 +2,26 @@
 use Rattle.std.specs.Prelude.{◌≡◌, ℕ, ℤ, pos, ◌+ℤ◌, ◌-ℤ◌, ◌==◌, false, if◌then◌else◌, List, [], ◌∷◌, Some}
 use Rattle.fh_time.specs.Air.{air_of}
 use Rattle.fh_time.specs.declared.values.Slot.{Slot}
-use Rattle.sent_laws.specs.air_source.specs.declared.events.AirCell.{AirCell}
-use Rattle.sent_laws.specs.air_source.specs.declared.events.Side.TheVariants.{Du}
+use Rattle.air_source.specs.declared.events.AirCell.{AirCell}
+use Rattle.air_source.specs.declared.events.Side.TheVariants.{Du}
 use Rattle.window_config.specs.declared.config.Config.{Config}
 use Rattle.window_config.specs.declared.endpoints.EndpointConfig.{EndpointConfig}
 use Rattle.window_config.specs.declared.plan.PlanLine.{PlanLine}
-use Rattle.sent_laws.specs.unit_model.specs.Claims.{cell_at}
-use Rattle.sent_laws.specs.unit_model.specs.Lists.{each}
-use Rattle.sent_laws.specs.unit_model.specs.Meetings.{Arrival}
-use Rattle.sent_laws.specs.unit_model.specs.Radiated.{first_clock, wait_of}
-use Rattle.sent_laws.specs.unit_model.specs.Reports.{du_reported}
-use Rattle.sent_laws.specs.unit_model.specs.Sweeps.{sweep}
-use Rattle.sent_laws.specs.unit_model.specs.declared.cells.Cell.{Cell}
-use Rattle.sent_laws.specs.plan_model.specs.Lines.{planned}
-use Rattle.sent_laws.specs.plan_model.specs.declared.lines.PlannedLine.{PlannedLine}
-use Rattle.sent_laws.specs.schedule_laws.specs.Cells.{planned_mask, planned_section}
-use Rattle.sent_laws.specs.schedule_laws.specs.Data.{Blocks}
-use Rattle.sent_laws.specs.sent_frames.specs.Messages.{Source}
-use Rattle.uplink_streams.specs.uplink_model.specs.Frames.{Antenna}
+use Rattle.unit_model.specs.Claims.{cell_at}
+use Rattle.unit_model.specs.Lists.{each}
+use Rattle.unit_model.specs.Meetings.{Arrival}
+use Rattle.unit_model.specs.Radiated.{first_clock, wait_of}
+use Rattle.unit_model.specs.Reports.{du_reported}
+use Rattle.unit_model.specs.Sweeps.{sweep}
+use Rattle.unit_model.specs.declared.cells.Cell.{Cell}
+use Rattle.plan_model.specs.Lines.{planned, uplink_allocations}
+use Rattle.plan_model.specs.declared.lines.PlannedLine.{PlannedLine}
+use Rattle.schedule_laws.specs.Cells.{planned_mask, planned_section}
+use Rattle.schedule_laws.specs.Data.{Blocks}
+use Rattle.sent_frames.specs.Messages.{Source}
+use Rattle.uplink_model.specs.Frames.{Antenna}
 use Rattle.uplink_laws.specs.Data.{antenna_blocks}
 use Rattle.uplink_laws.specs.Premise.{BothArrive}
-use Rattle.sent_laws.specs.plan_model.specs.Lines.{uplink_allocations}
 
 -- an uplink cell of a plan, with the union of its lines' masks, their section id, which is one, and its samples: none is missing
 abbrev pub taken_event : Blocks → List PlannedLine → EndpointConfig → Cell → ℤ → AirCell

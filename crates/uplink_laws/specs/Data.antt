@@ -3,8 +3,8 @@ use Rattle.std.specs.Prelude.{◌≡◌, ⊤, ℕ, ℤ, pos, ◌-◌, true, fals
 use Rattle.std.specs.Int.{int_rem_euclid}
 use Rattle.std.specs.List.{slice_get, slice_index_or}
 use Rattle.std.specs.Option.{option_map_or}
-use Rattle.sent_laws.specs.air_source.specs.Answers.{block_of}
-use Rattle.sent_laws.specs.air_source.specs.declared.events.Side.TheVariants.{Du}
+use Rattle.air_source.specs.Answers.{block_of}
+use Rattle.air_source.specs.declared.events.Side.TheVariants.{Du}
 use Rattle.bfp_codec.specs.Shrunk.{shrunk}
 use Rattle.fragment_laws.specs.Apart.{IsIn}
 use Rattle.fragment_laws.specs.Once.{Completed, texts, wholes}
@@ -12,26 +12,25 @@ use Rattle.window_config.specs.declared.config.Config.{Config}
 use Rattle.window_config.specs.declared.endpoints.EndpointConfig.{EndpointConfig}
 use Rattle.window_config.specs.declared.plan.PlanLine.{PlanLine}
 use Rattle.window_config.specs.declared.verdicts.Class.TheVariants.{OnTime}
-use Rattle.sent_laws.specs.unit_model.specs.Blocks.{block_at, data_class, data_slot}
-use Rattle.sent_laws.specs.unit_model.specs.Claims.{cell_at, covers, first_prb, is_from, prb_count}
-use Rattle.sent_laws.specs.unit_model.specs.Decoding.{Sections, decode, decode_message, sections_of}
-use Rattle.sent_laws.specs.unit_model.specs.Lists.{onto}
-use Rattle.sent_laws.specs.unit_model.specs.Meetings.{Arrival, fragments}
-use Rattle.sent_laws.specs.unit_model.specs.Proper.{IsAt}
-use Rattle.sent_laws.specs.unit_model.specs.Reports.{data_of, met, timely_of}
-use Rattle.sent_laws.specs.unit_model.specs.declared.cells.Cell.{Cell}
-use Rattle.sent_laws.specs.unit_model.specs.declared.decoded.UserSection.{UserSection}
-use Rattle.sent_laws.specs.plan_model.specs.Lines.{line_allocation, planned}
-use Rattle.sent_laws.specs.plan_model.specs.Packs.{Numbered, parts_of}
-use Rattle.sent_laws.specs.plan_model.specs.Streams.{Part, frames_in, messages_of, part_in}
-use Rattle.sent_laws.specs.plan_model.specs.declared.lines.PlannedLine.{PlannedLine}
-use Rattle.sent_laws.specs.plan_model.specs.declared.streams.Stream.TheVariants.{UpData}
-use Rattle.sent_laws.specs.schedule_laws.specs.Data.{Blocks, planned_block}
-use Rattle.sent_laws.specs.sent_frames.specs.Messages.{Source}
-use Rattle.uplink_streams.specs.uplink_model.specs.Frames.{Antenna}
+use Rattle.unit_model.specs.Blocks.{block_at, data_class, data_slot}
+use Rattle.unit_model.specs.Claims.{cell_at, covers, first_prb, is_from, prb_count}
+use Rattle.unit_model.specs.Decoding.{Sections, decode, decode_message, sections_of}
+use Rattle.unit_model.specs.Lists.{onto}
+use Rattle.unit_model.specs.Meetings.{Arrival, fragments}
+use Rattle.unit_model.specs.Proper.{IsAt}
+use Rattle.unit_model.specs.Reports.{data_of, met, timely_of}
+use Rattle.unit_model.specs.declared.cells.Cell.{Cell}
+use Rattle.unit_model.specs.declared.decoded.UserSection.{UserSection}
+use Rattle.plan_model.specs.Lines.{line_allocation, planned, is_up_line}
+use Rattle.plan_model.specs.Packs.{Numbered, parts_of}
+use Rattle.plan_model.specs.Streams.{Part, frames_in, messages_of, part_in}
+use Rattle.plan_model.specs.declared.lines.PlannedLine.{PlannedLine}
+use Rattle.plan_model.specs.declared.streams.Stream.TheVariants.{UpData}
+use Rattle.schedule_laws.specs.Data.{Blocks, planned_block}
+use Rattle.sent_frames.specs.Messages.{Source}
+use Rattle.uplink_model.specs.Frames.{Antenna}
 use Rattle.uplink_laws.specs.Flows.{uplink_bounds_of, fragment_text}
 use Rattle.uplink_laws.specs.Premise.{BothArrive}
-use Rattle.sent_laws.specs.plan_model.specs.Lines.{is_up_line}
 use Rattle.ecpri_fragments.specs.Pieces.{joined}
 
 -- what the endpoint's compression leaves of the antenna's block at each cell

@@ -7,13 +7,13 @@ use Rattle.fragment_laws.specs.Flow.{Bounds, Flow}
 use Rattle.window_config.specs.Windows.{ticks_of_ns}
 use Rattle.window_config.specs.declared.config.Config.{Config}
 use Rattle.window_config.specs.declared.endpoints.EndpointConfig.{EndpointConfig}
-use Rattle.sent_laws.specs.plan_model.specs.Departures.{departures_of, start_of_part}
-use Rattle.sent_laws.specs.plan_model.specs.Packs.{Numbered}
-use Rattle.sent_laws.specs.plan_model.specs.Streams.{Part, frames_in, messages_of}
-use Rattle.sent_laws.specs.plan_model.specs.declared.lines.PlannedLine.{PlannedLine}
-use Rattle.sent_laws.specs.plan_model.specs.declared.streams.Stream.TheVariants.{UpData}
-use Rattle.sent_laws.specs.frame_bytes.specs.Cuts.{piece_at}
-use Rattle.uplink_streams.specs.uplink_model.specs.Frames.{Antenna, uplink_message_bytes}
+use Rattle.plan_model.specs.Departures.{departures_of, start_of_part}
+use Rattle.plan_model.specs.Packs.{Numbered}
+use Rattle.plan_model.specs.Streams.{Part, frames_in, messages_of}
+use Rattle.plan_model.specs.declared.lines.PlannedLine.{PlannedLine}
+use Rattle.plan_model.specs.declared.streams.Stream.TheVariants.{UpData}
+use Rattle.frame_bytes.specs.Cuts.{piece_at}
+use Rattle.uplink_model.specs.Frames.{Antenna, uplink_message_bytes}
 use Rattle.uplink_streams.specs.Streams.{message_for}
 
 -- the messages of the endpoint with this index

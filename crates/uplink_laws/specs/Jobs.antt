@@ -3,17 +3,16 @@ use Rattle.std.specs.Prelude.{◌≡◌, ℤ, List, filter, reverse, IsPermutati
 use Rattle.window_config.specs.Relations.{PassesCheck}
 use Rattle.window_config.specs.declared.config.Config.{Config}
 use Rattle.window_config.specs.declared.plan.PlanLine.{PlanLine}
-use Rattle.sent_laws.specs.unit_model.specs.Commands.{is_uplink as is_sent_up}
-use Rattle.sent_laws.specs.unit_model.specs.Meetings.{Arrival}
-use Rattle.sent_laws.specs.unit_model.specs.Reports.{accepted_of}
-use Rattle.sent_laws.specs.unit_model.specs.Uplink.{jobs}
-use Rattle.sent_laws.specs.plan_model.specs.Lines.{planned}
-use Rattle.sent_laws.specs.plan_model.specs.declared.lines.PlannedLine.{PlannedLine}
-use Rattle.sent_laws.specs.schedule_laws.specs.Commands.{allocations_of}
-use Rattle.sent_laws.specs.sent_frames.specs.Messages.{Source}
+use Rattle.unit_model.specs.Commands.{is_uplink as is_sent_up}
+use Rattle.unit_model.specs.Meetings.{Arrival}
+use Rattle.unit_model.specs.Reports.{accepted_of}
+use Rattle.unit_model.specs.Uplink.{jobs}
+use Rattle.plan_model.specs.Lines.{planned, uplink_allocations}
+use Rattle.plan_model.specs.declared.lines.PlannedLine.{PlannedLine}
+use Rattle.schedule_laws.specs.Commands.{allocations_of}
+use Rattle.sent_frames.specs.Messages.{Source}
 use Rattle.sent_laws.specs.Sent.{IsSendable}
 use Rattle.uplink_laws.specs.Premise.{CommandsArrive}
-use Rattle.sent_laws.specs.plan_model.specs.Lines.{uplink_allocations}
 
 -- The uplink sections of types 1 and 3 that were accepted are what the uplink lines name, each once; and the jobs up to any time are
 -- those of the lines, as equal lists, as if their commands had been accepted in the order of lines.

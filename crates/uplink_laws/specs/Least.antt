@@ -3,21 +3,21 @@
 use Rattle.std.specs.Prelude.{pos, ◌+ℤ◌, List, [], filter, map}
 use Rattle.std.specs.Int.{int_gap}
 use Rattle.std.specs.Ordering.{int_eq}
-use Rattle.sent_laws.specs.air_source.specs.declared.links.LinkFrame.{LinkFrame}
+use Rattle.air_source.specs.declared.links.LinkFrame.{LinkFrame}
 use Rattle.window_config.specs.Relations.{PassesCheck}
 use Rattle.window_config.specs.Windows.{ticks_of_ns}
 use Rattle.window_config.specs.declared.config.Config.{Config}
 use Rattle.window_config.specs.declared.plan.PlanLine.{PlanLine}
-use Rattle.sent_laws.specs.unit_model.specs.Lists.{each_tick, onto}
-use Rattle.sent_laws.specs.unit_model.specs.Meetings.{Arrival}
-use Rattle.sent_laws.specs.unit_model.specs.Radiated.{first_clock}
-use Rattle.sent_laws.specs.unit_model.specs.Times.{end_of_time}
-use Rattle.sent_laws.specs.plan_model.specs.Lines.{planned}
-use Rattle.sent_laws.specs.schedule_laws.specs.Least.{with_least_delay}
-use Rattle.sent_laws.specs.sent_frames.specs.Frames.{sent_bytes}
-use Rattle.sent_laws.specs.sent_frames.specs.Messages.{Source}
+use Rattle.unit_model.specs.Lists.{each_tick, onto}
+use Rattle.unit_model.specs.Meetings.{Arrival}
+use Rattle.unit_model.specs.Radiated.{first_clock}
+use Rattle.unit_model.specs.Times.{end_of_time}
+use Rattle.plan_model.specs.Lines.{planned}
+use Rattle.schedule_laws.specs.Least.{with_least_delay}
+use Rattle.sent_frames.specs.Frames.{sent_bytes}
+use Rattle.sent_frames.specs.Messages.{Source}
 use Rattle.sent_laws.specs.Sent.{IsSendable}
-use Rattle.uplink_streams.specs.uplink_model.specs.Frames.{Antenna}
+use Rattle.uplink_model.specs.Frames.{Antenna}
 use Rattle.uplink_laws.specs.Premise.{BothArrive, CanAnswer, frames_of, jobs_of}
 
 -- the copy of a frame that takes T34's minimum

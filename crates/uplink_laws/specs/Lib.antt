@@ -1,7 +1,3 @@
-pub use Rattle.sent_laws.specs.frame_bytes
-pub use Rattle.sent_laws.specs.sent_frames
-pub use Rattle.sent_laws
-pub use Rattle.uplink_streams.specs.uplink_model
 pub mod Jobs
 pub mod Premise
 pub mod Flows

@@ -4,30 +4,30 @@
 use Rattle.std.specs.Prelude.{◌≡◌, ◌≢◌, ℕ, ◌+ℤ◌, ◌≤ℤ◌, List, []}
 use Rattle.bfp_codec.specs.Shrunk.{CanPack}
 use Rattle.fh_time.specs.declared.values.Slot.{Slot}
-use Rattle.sent_laws.specs.air_source.specs.Answers.{block_of}
-use Rattle.sent_laws.specs.air_source.specs.declared.links.LinkFrame.{LinkFrame}
+use Rattle.air_source.specs.Answers.{block_of}
+use Rattle.air_source.specs.declared.links.LinkFrame.{LinkFrame}
 use Rattle.fragment_laws.specs.Apart.{IsIn}
 use Rattle.window_config.specs.Relations.{PassesCheck}
 use Rattle.window_config.specs.Windows.{ticks_of_ns}
 use Rattle.window_config.specs.declared.config.Config.{Config}
 use Rattle.window_config.specs.declared.endpoints.EndpointConfig.{EndpointConfig}
 use Rattle.window_config.specs.declared.plan.PlanLine.{PlanLine}
-use Rattle.sent_laws.specs.unit_model.specs.Meetings.{Arrival}
-use Rattle.sent_laws.specs.unit_model.specs.Proper.{IsAt}
-use Rattle.sent_laws.specs.unit_model.specs.Reports.{accepted_of}
-use Rattle.sent_laws.specs.unit_model.specs.Times.{end_of_time}
-use Rattle.sent_laws.specs.unit_model.specs.Uplink.{jobs}
-use Rattle.sent_laws.specs.unit_model.specs.declared.jobs.UplinkJob.{UplinkJob}
-use Rattle.sent_laws.specs.plan_model.specs.Lines.{planned}
-use Rattle.sent_laws.specs.plan_model.specs.Sent.{SentFrame, sent}
-use Rattle.sent_laws.specs.plan_model.specs.declared.lines.PlannedLine.{PlannedLine}
-use Rattle.sent_laws.specs.plan_model.specs.declared.streams.Stream.TheVariants.{DownData}
-use Rattle.sent_laws.specs.schedule_laws.specs.Premise.{AreInOrder}
-use Rattle.sent_laws.specs.sent_frames.specs.Messages.{Source}
+use Rattle.unit_model.specs.Meetings.{Arrival}
+use Rattle.unit_model.specs.Proper.{IsAt}
+use Rattle.unit_model.specs.Reports.{accepted_of}
+use Rattle.unit_model.specs.Times.{end_of_time}
+use Rattle.unit_model.specs.Uplink.{jobs}
+use Rattle.unit_model.specs.declared.jobs.UplinkJob.{UplinkJob}
+use Rattle.plan_model.specs.Lines.{planned}
+use Rattle.plan_model.specs.Sent.{SentFrame, sent}
+use Rattle.plan_model.specs.declared.lines.PlannedLine.{PlannedLine}
+use Rattle.plan_model.specs.declared.streams.Stream.TheVariants.{DownData}
+use Rattle.schedule_laws.specs.Premise.{AreInOrder}
+use Rattle.sent_frames.specs.Messages.{Source}
 use Rattle.sent_laws.specs.Radiated.{IsSentCopy}
 use Rattle.sent_laws.specs.Sent.{IsSendable}
-use Rattle.uplink_streams.specs.uplink_model.specs.Frames.{Antenna, frames_behind}
-use Rattle.uplink_streams.specs.uplink_model.specs.Messages.{uplink_messages_of}
+use Rattle.uplink_model.specs.Frames.{Antenna, frames_behind}
+use Rattle.uplink_model.specs.Messages.{uplink_messages_of}
 
 -- What came at the radio unit: each arrival is a copy of a frame that is sent, within T12 of its sending time, and of each command that
 -- is sent a copy came; downlink data may be lost.

@@ -1,26 +1,24 @@
 -- Each planned uplink cell is taken in exactly once.
 use Rattle.std.specs.Prelude.{◌≡◌, ℕ, ℤ, ◌<◌, ◌+ℤ◌, ◌≤ℤ◌, true, List, [], ◌∷◌, filter}
 use Rattle.fh_time.specs.Air.{air_of}
-use Rattle.sent_laws.specs.air_source.specs.declared.events.AirCell.{AirCell}
-use Rattle.sent_laws.specs.air_source.specs.declared.events.Side.TheVariants.{Du}
+use Rattle.air_source.specs.declared.events.AirCell.{AirCell}
+use Rattle.air_source.specs.declared.events.Side.TheVariants.{Du}
 use Rattle.fragment_laws.specs.Apart.{IsIn}
 use Rattle.window_config.specs.declared.config.Config.{Config}
 use Rattle.window_config.specs.declared.plan.PlanLine.{PlanLine}
-use Rattle.sent_laws.specs.unit_model.specs.Claims.{cell_of, names}
-use Rattle.sent_laws.specs.unit_model.specs.Meetings.{Arrival}
-use Rattle.sent_laws.specs.unit_model.specs.Radiated.{wait_of}
-use Rattle.sent_laws.specs.unit_model.specs.Reports.{du_reported}
-use Rattle.sent_laws.specs.unit_model.specs.Standing.{same_cell}
-use Rattle.sent_laws.specs.plan_model.specs.Lines.{line_allocation, planned}
-use Rattle.sent_laws.specs.plan_model.specs.declared.lines.PlannedLine.{PlannedLine}
-use Rattle.sent_laws.specs.schedule_laws.specs.Data.{Blocks}
-use Rattle.sent_laws.specs.sent_frames.specs.Messages.{Source}
-use Rattle.uplink_streams.specs.uplink_model.specs.Frames.{Antenna}
+use Rattle.unit_model.specs.Claims.{cell_of, names}
+use Rattle.unit_model.specs.Meetings.{Arrival}
+use Rattle.unit_model.specs.Radiated.{wait_of}
+use Rattle.unit_model.specs.Reports.{du_reported}
+use Rattle.unit_model.specs.Standing.{same_cell}
+use Rattle.plan_model.specs.Lines.{line_allocation, planned, uplink_allocations, is_up_line}
+use Rattle.plan_model.specs.declared.lines.PlannedLine.{PlannedLine}
+use Rattle.schedule_laws.specs.Data.{Blocks}
+use Rattle.sent_frames.specs.Messages.{Source}
+use Rattle.uplink_model.specs.Frames.{Antenna}
 use Rattle.uplink_laws.specs.Cells.{taken_event}
 use Rattle.uplink_laws.specs.Data.{antenna_blocks}
 use Rattle.uplink_laws.specs.Premise.{BothArrive}
-use Rattle.sent_laws.specs.plan_model.specs.Lines.{uplink_allocations}
-use Rattle.sent_laws.specs.plan_model.specs.Lines.{is_up_line}
 
 -- the event of one of a line's cells
 abbrev pub uplink_event_of : Blocks → List PlannedLine → PlannedLine → ℕ → ℕ → AirCell

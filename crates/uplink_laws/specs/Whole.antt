@@ -1,6 +1,6 @@
 -- Each uplink message becomes whole once at the distributed unit, within Ta4, over any number of messages. Times are ticks.
 use Rattle.std.specs.Prelude.{ℕ, ℤ, ◌+ℤ◌, ◌≤ℤ◌, ◌<◌, List}
-use Rattle.sent_laws.specs.air_source.specs.declared.events.Side.TheVariants.{Du}
+use Rattle.air_source.specs.declared.events.Side.TheVariants.{Du}
 use Rattle.ecpri_fragments.specs.Generations.{Fragment}
 use Rattle.fragment_laws.specs.Apart.{AreApart, of_message}
 use Rattle.fragment_laws.specs.Flow.{Flow, numbers_of, sent_at}
@@ -9,12 +9,12 @@ use Rattle.window_config.specs.Classes.{IsOnTimeUp}
 use Rattle.window_config.specs.Windows.{ticks_of_ns}
 use Rattle.window_config.specs.declared.config.Config.{Config}
 use Rattle.window_config.specs.declared.plan.PlanLine.{PlanLine}
-use Rattle.sent_laws.specs.unit_model.specs.Meetings.{Arrival, fragments}
-use Rattle.sent_laws.specs.unit_model.specs.Reports.{met}
-use Rattle.sent_laws.specs.plan_model.specs.Lines.{planned}
-use Rattle.sent_laws.specs.plan_model.specs.declared.lines.PlannedLine.{PlannedLine}
-use Rattle.sent_laws.specs.sent_frames.specs.Messages.{Source}
-use Rattle.uplink_streams.specs.uplink_model.specs.Frames.{Antenna}
+use Rattle.unit_model.specs.Meetings.{Arrival, fragments}
+use Rattle.unit_model.specs.Reports.{met}
+use Rattle.plan_model.specs.Lines.{planned}
+use Rattle.plan_model.specs.declared.lines.PlannedLine.{PlannedLine}
+use Rattle.sent_frames.specs.Messages.{Source}
+use Rattle.uplink_model.specs.Frames.{Antenna}
 use Rattle.uplink_laws.specs.Flows.{uplink_bounds_of, uplink_flow_of, flow_start_at}
 use Rattle.uplink_laws.specs.Premise.{BothArrive}
 

@@ -3,8 +3,8 @@ use Rattle.std.proofs.Common.{refl}
 use Rattle.bit_fields.specs.Field.{digits}
 use Rattle.bfp_codec.specs.Layout.{be_bytes, number_bytes, packed_of}
 use Rattle.air_source.specs.Answers.{block_of}
-use Rattle.plan_model.specs.unit_model.specs.Lists.{each, in_order, put_in}
-use Rattle.plan_model.specs.unit_model.specs.Uplink.{symbol_jobs}
+use Rattle.unit_model.specs.Lists.{each, in_order, put_in}
+use Rattle.unit_model.specs.Uplink.{symbol_jobs}
 use Rattle.frame_bytes.specs.Messages.{message_of, section_of}
 use Rattle.uplink_model.specs.Examples.{UplinksAreAsWorked, BytesAreAsWorked, MessagesAreAsWorked, OrderIsAsWorked, SentOrderIsAsWorked, TimesAreAsWorked}
 use Rattle.uplink_model.specs.Frames.{frames_behind, uplink_message_frames}

@@ -4,13 +4,12 @@ use Rattle.std.proofs.lemmas.Bool.{eq-eqb}
 use Rattle.std.proofs.lemmas.List.Elements.{All-head, All-tail}
 use Rattle.window_config.specs.declared.config.Config.{Config}
 use Rattle.air_source.specs.declared.links.LinkFrame.{LinkFrame}
-use Rattle.plan_model.specs.unit_model.specs.Lists.{onto}
-use Rattle.plan_model.specs.unit_model.specs.declared.jobs.UplinkJob.{UplinkJob}
+use Rattle.unit_model.specs.Lists.{onto}
+use Rattle.unit_model.specs.declared.jobs.UplinkJob.{UplinkJob}
 use Rattle.plan_model.specs.Packs.{Message, alone, packs_behind, takes, with_part}
 use Rattle.uplink_model.specs.Frames.{frames_behind, uplink_message_frames}
 use Rattle.uplink_model.specs.Messages.{job_fields, messages_behind, takes_job}
-use Rattle.uplink_model.specs.Laws.{MessagesArePacks}
-use Rattle.uplink_model.specs.Laws.{FramesAppend}
+use Rattle.uplink_model.specs.Laws.{MessagesArePacks, FramesAppend}
 
 -- of one endpoint, a message takes a job as it takes any part
 takes_as : (c : Config) (m : Message UplinkJob) (j : UplinkJob) (ep : ℕ) → m.first.ep ≡ ep → j.ep ≡ ep

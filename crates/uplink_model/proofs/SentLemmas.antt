@@ -11,10 +11,10 @@ use Rattle.std.proofs.lemmas.List.Elements.{All-from_recursion, filter-append, r
 use Rattle.std.proofs.lemmas.List.Kept.{AllPairs-cons}
 use Rattle.std.proofs.lemmas.List.Sorted.{IsPermutation-append, IsPermutation-append_right, IsPermutation-filter_both, IsPermutation-refl, IsPermutation-trans}
 use Rattle.air_source.specs.declared.links.LinkFrame.{LinkFrame}
-use Rattle.plan_model.specs.unit_model.specs.Lists.{each, each_tick, AreRelated}
-use Rattle.plan_model.specs.unit_model.specs.Radiated.{first_clock}
-use Rattle.plan_model.specs.unit_model.specs.Times.{end_of_time}
-use Rattle.plan_model.specs.unit_model.proofs.SweepLaws.{each_same, gap_is}
+use Rattle.unit_model.specs.Lists.{each, each_tick, AreRelated}
+use Rattle.unit_model.specs.Radiated.{first_clock}
+use Rattle.unit_model.specs.Times.{end_of_time}
+use Rattle.unit_model.proofs.SweepLaws.{each_same, gap_is}
 use Rattle.plan_model.proofs.ListLemmas.{filter_all, filter_none, all_map, filter_has, all_join, all_unit}
 use Rattle.uplink_model.specs.Sent.{in_sent_order, leaves_at, leaving_at, frames_leaving}
 use Rattle.uplink_model.specs.SentLaws.{AllAreSent, LaterChangeNothing, LeavingAreByEndpoint, LeavingAreReordered, LeavingAsHandedOver, LeavingLeaveThen, TicksStandTogether, TimesRise}

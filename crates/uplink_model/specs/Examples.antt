@@ -4,15 +4,14 @@ use Rattle.std.specs.Prelude.{◌≡◌, ℕ, ℤ, pos, neg_ℤ, negsuc, true, f
 use Rattle.window_config.specs.Usual.{usual_delays}
 use Rattle.window_config.specs.declared.config.Config.{Config}
 use Rattle.air_source.specs.declared.links.LinkFrame.{LinkFrame}
-use Rattle.plan_model.specs.unit_model.specs.Uplink.{symbol_jobs}
-use Rattle.plan_model.specs.unit_model.specs.declared.allocations.Allocation.{Allocation}
-use Rattle.plan_model.specs.unit_model.specs.declared.jobs.UplinkJob.{UplinkJob}
-use Rattle.plan_model.specs.Examples.{config_with, slot_0, usual}
+use Rattle.unit_model.specs.Uplink.{symbol_jobs}
+use Rattle.unit_model.specs.declared.allocations.Allocation.{Allocation}
+use Rattle.unit_model.specs.declared.jobs.UplinkJob.{UplinkJob}
+use Rattle.plan_model.specs.Examples.{config_with, slot_0, usual, frame_1}
 use Rattle.plan_model.specs.Packs.{alone, parts_of}
 use Rattle.uplink_model.specs.Frames.{Antenna, uplink_fragment_bytes, uplink_fragment_field, frames_behind}
 use Rattle.uplink_model.specs.Messages.{uplink_messages_of, number_behind}
 use Rattle.uplink_model.specs.Sent.{leaving_at}
-use Rattle.plan_model.specs.Examples.{frame_1}
 use Rattle.frame_bytes.specs.Headers.{frame_id_of}
 
 -- ---- jobs

@@ -6,14 +6,14 @@ use Rattle.std.specs.Option.{option_map_or}
 use Rattle.bfp_codec.specs.declared.samples.Iq.{Iq}
 use Rattle.bfp_codec.specs.declared.samples.Wide.{Wide}
 use Rattle.ecpri_fragments.specs.declared.sequence.SeqField.{SeqField}
-use Rattle.plan_model.specs.unit_model.specs.Terms.{UHead}
+use Rattle.unit_model.specs.Terms.{UHead}
 use Rattle.window_config.specs.declared.config.Config.{Config}
 use Rattle.window_config.specs.declared.endpoints.EndpointConfig.{EndpointConfig}
 use Rattle.air_source.specs.Answers.{block_of}
 use Rattle.air_source.specs.declared.links.LinkFrame.{LinkFrame}
 use Rattle.air_source.specs.declared.places.RePlace.{RePlace}
-use Rattle.plan_model.specs.unit_model.specs.Lists.{each}
-use Rattle.plan_model.specs.unit_model.specs.declared.jobs.UplinkJob.{UplinkJob}
+use Rattle.unit_model.specs.Lists.{each}
+use Rattle.unit_model.specs.declared.jobs.UplinkJob.{UplinkJob}
 use Rattle.plan_model.specs.Departures.{departure, departures_of}
 use Rattle.plan_model.specs.Packs.{Message, parts_of, size_of}
 use Rattle.plan_model.specs.declared.streams.Stream.TheVariants.{UpData}
@@ -21,8 +21,7 @@ use Rattle.frame_bytes.specs.Cuts.{piece_frame}
 use Rattle.frame_bytes.specs.Messages.{message_of}
 use Rattle.frame_bytes.specs.declared.messages.DataSection.{DataSection}
 use Rattle.uplink_model.specs.Messages.{frame_count, uplink_frames_before, job_fields, number_behind}
-use Rattle.frame_bytes.specs.Headers.{frame_id_of}
-use Rattle.frame_bytes.specs.Headers.{carrier_of}
+use Rattle.frame_bytes.specs.Headers.{frame_id_of, carrier_of}
 
 -- what the antenna answers at each resource element
 abbrev pub Antenna : Type 0

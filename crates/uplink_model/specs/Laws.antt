@@ -1,8 +1,8 @@
 -- What is known of these messages and frames.
 use Rattle.std.specs.Prelude.{◌≡◌, ℕ, List, ◌++◌, All}
 use Rattle.window_config.specs.declared.config.Config.{Config}
-use Rattle.plan_model.specs.unit_model.specs.Lists.{onto}
-use Rattle.plan_model.specs.unit_model.specs.declared.jobs.UplinkJob.{UplinkJob}
+use Rattle.unit_model.specs.Lists.{onto}
+use Rattle.unit_model.specs.declared.jobs.UplinkJob.{UplinkJob}
 use Rattle.plan_model.specs.Packs.{Message, packs}
 use Rattle.uplink_model.specs.Frames.{Antenna, frames_behind}
 use Rattle.uplink_model.specs.Messages.{job_fields, uplink_messages_of}

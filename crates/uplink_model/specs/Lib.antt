@@ -1,8 +1,3 @@
-pub use Rattle.air_source
-pub use Rattle.frame_bytes
-pub use Rattle.plan_model
-pub use Rattle.plan_model.specs.unit_model
-pub use Rattle.window_config
 pub mod Messages
 pub mod Frames
 pub mod Laws

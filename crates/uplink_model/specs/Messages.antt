@@ -6,8 +6,8 @@ use Rattle.std.specs.List.{slice_get}
 use Rattle.std.specs.Option.{option_map_or}
 use Rattle.window_config.specs.declared.config.Config.{Config}
 use Rattle.window_config.specs.declared.endpoints.EndpointConfig.{EndpointConfig}
-use Rattle.plan_model.specs.unit_model.specs.Claims.{same_slot}
-use Rattle.plan_model.specs.unit_model.specs.declared.jobs.UplinkJob.{UplinkJob}
+use Rattle.unit_model.specs.Claims.{same_slot}
+use Rattle.unit_model.specs.declared.jobs.UplinkJob.{UplinkJob}
 use Rattle.plan_model.specs.Packs.{Message, PartFields, alone, size_of, takes, with_part}
 use Rattle.plan_model.specs.Streams.{section_size}
 use Rattle.ecpri_fragments.specs.Pieces.{piece_count}

@@ -4,9 +4,9 @@ use Rattle.std.specs.Prelude.{ℕ, ℤ, pos, ◌+ℤ◌, ◌&&◌, ◌==◌, Boo
 use Rattle.std.specs.Int.{int_gap}
 use Rattle.std.specs.Ordering.{int_eq}
 use Rattle.air_source.specs.declared.links.LinkFrame.{LinkFrame}
-use Rattle.plan_model.specs.unit_model.specs.Lists.{each, each_tick}
-use Rattle.plan_model.specs.unit_model.specs.Radiated.{first_clock}
-use Rattle.plan_model.specs.unit_model.specs.Times.{end_of_time}
+use Rattle.unit_model.specs.Lists.{each, each_tick}
+use Rattle.unit_model.specs.Radiated.{first_clock}
+use Rattle.unit_model.specs.Times.{end_of_time}
 
 -- a frame leaves at this tick
 abbrev pub leaves_at : ℤ → LinkFrame → Bool

@@ -2,8 +2,8 @@
 use Rattle.std.specs.Prelude.{◌≡◌, ℕ, ℤ, ◌==◌, ◌<◌, ◌≤◌, ◌≤ℤ◌, ◌<ℤ◌, List, ◌++◌, All, filter, IsPermutation}
 use Rattle.std.specs.List.{AllPairs}
 use Rattle.air_source.specs.declared.links.LinkFrame.{LinkFrame}
-use Rattle.plan_model.specs.unit_model.specs.Radiated.{first_clock}
-use Rattle.plan_model.specs.unit_model.specs.Times.{end_of_time}
+use Rattle.unit_model.specs.Radiated.{first_clock}
+use Rattle.unit_model.specs.Times.{end_of_time}
 use Rattle.uplink_model.specs.Sent.{in_sent_order, leaves_at, leaving_at, frames_leaving}
 
 -- each is of one of so many endpoints

@@ -1,10 +1,10 @@
 -- The message that is open when no job is left.
 use Rattle.std.proofs.Common.{◌≡◌, List, [], ◌∷◌, ◌++◌, refl, sym, ap, subst, ◌∙◌, append-nil, Option, Some, None}
 use Rattle.window_config.specs.declared.config.Config.{Config}
-use Rattle.uplink_model.specs.air_source.specs.declared.links.LinkFrame.{LinkFrame}
-use Rattle.uplink_model.specs.unit_model.specs.Lists.{onto}
-use Rattle.uplink_model.specs.unit_model.specs.declared.jobs.UplinkJob.{UplinkJob}
-use Rattle.uplink_model.specs.plan_model.specs.Packs.{Message}
+use Rattle.air_source.specs.declared.links.LinkFrame.{LinkFrame}
+use Rattle.unit_model.specs.Lists.{onto}
+use Rattle.unit_model.specs.declared.jobs.UplinkJob.{UplinkJob}
+use Rattle.plan_model.specs.Packs.{Message}
 use Rattle.uplink_model.specs.Frames.{Antenna, frames_behind, uplink_message_frames}
 use Rattle.uplink_model.specs.Messages.{messages_behind}
 use Rattle.uplink_path.specs.Opened.{IsOpen, IsProperMessage, messages_from}

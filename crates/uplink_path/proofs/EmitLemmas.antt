@@ -1,18 +1,18 @@
 -- The jobs of a unit are taken one after the other, and their messages are sent.
 use Rattle.std.proofs.Common.{◌≡◌, suc, ◌<◌, List, [], ◌∷◌, ◌++◌, length, refl, sym, ap, ◌∙◌, arith, subst, append_assoc, append-nil, Option, Some, None, Result, Ok, Err, OnOk, OnErr}
-use Rattle.uplink_model.specs.air_source.specs.Answers.{AnswersBy}
-use Rattle.uplink_model.specs.air_source.specs.declared.links.LinkFrame.{LinkFrame}
-use Rattle.uplink_model.specs.air_source.specs.declared.places.RePlace.{RePlace}
+use Rattle.air_source.specs.Answers.{AnswersBy}
+use Rattle.air_source.specs.declared.links.LinkFrame.{LinkFrame}
+use Rattle.air_source.specs.declared.places.RePlace.{RePlace}
 use Rattle.bfp_codec.specs.declared.samples.Wide.{Wide}
 use Rattle.window_config.specs.declared.config.Config.{Config}
-use Rattle.uplink_model.specs.unit_model.specs.Lists.{onto}
-use Rattle.uplink_model.specs.unit_model.specs.ProperJobs.{IsProperJob}
-use Rattle.uplink_model.specs.unit_model.specs.Standing.{History, handed, owed_until}
-use Rattle.uplink_model.specs.unit_model.specs.declared.jobs.UplinkJob.{UplinkJob}
-use Rattle.uplink_model.specs.unit_model.proofs.OntoLemmas.{onto-append, onto_none}
-use Rattle.uplink_model.specs.plan_model.specs.Packs.{Message}
+use Rattle.unit_model.specs.Lists.{onto}
+use Rattle.unit_model.specs.ProperJobs.{IsProperJob}
+use Rattle.unit_model.specs.Standing.{History, handed, owed_until}
+use Rattle.unit_model.specs.declared.jobs.UplinkJob.{UplinkJob}
+use Rattle.unit_model.proofs.OntoLemmas.{onto-append, onto_none}
+use Rattle.plan_model.specs.Packs.{Message}
 use Rattle.ru_buffers.specs.Calls.{GivesJob, StandsFor}
-use Rattle.ru_buffers.specs.radio_laws.specs.Units.{left_up_to}
+use Rattle.radio_laws.specs.Units.{left_up_to}
 use Rattle.ru_buffers.specs.declared.unit.Ru.{Ru}
 use Rattle.uplink_model.specs.Frames.{Antenna, frames_behind}
 use Rattle.uplink_model.specs.Messages.{messages_behind, uplink_messages_of}

@@ -2,21 +2,21 @@
 use Rattle.std.proofs.Common.{◌≡◌, ℕ, ℤ, suc, ◌+◌, ◌*◌, ◌-◌, ◌<◌, ◌==◌, min, List, [], ◌∷◌, ◌++◌, refl, sym, ap, ◌∙◌, arith, append_assoc, append-nil, Result, Ok, Err, OnErr}
 use Rattle.window_config.specs.declared.config.Config.{Config}
 use Rattle.window_config.specs.declared.endpoints.EndpointConfig.{EndpointConfig}
-use Rattle.uplink_model.specs.air_source.specs.declared.links.LinkFrame.{LinkFrame}
-use Rattle.uplink_model.specs.unit_model.proofs.SweepLaws.{each_zero}
-use Rattle.uplink_model.specs.unit_model.specs.Lists.{each}
-use Rattle.uplink_model.specs.unit_model.specs.declared.jobs.UplinkJob.{UplinkJob}
-use Rattle.uplink_model.specs.plan_model.specs.Departures.{departure}
-use Rattle.uplink_model.specs.plan_model.specs.Packs.{Message, size_of}
-use Rattle.uplink_model.specs.frame_bytes.specs.Cuts.{piece_frame}
-use Rattle.uplink_model.specs.frame_bytes.specs.Messages.{message_of}
+use Rattle.air_source.specs.declared.links.LinkFrame.{LinkFrame}
+use Rattle.unit_model.proofs.SweepLaws.{each_zero}
+use Rattle.unit_model.specs.Lists.{each}
+use Rattle.unit_model.specs.declared.jobs.UplinkJob.{UplinkJob}
+use Rattle.plan_model.specs.Departures.{departure}
+use Rattle.plan_model.specs.Packs.{Message, size_of}
+use Rattle.frame_bytes.specs.Cuts.{piece_frame}
+use Rattle.frame_bytes.specs.Messages.{message_of}
 use Rattle.uplink_model.specs.Frames.{Antenna, uplink_frame_of, head_of, samples_of}
 use Rattle.uplink_model.specs.Messages.{frame_count, job_fields}
 use Rattle.uplink_path.specs.Packing.{sections_in}
 use Rattle.uplink_path.specs.Sending.{IsBehind, SentSome, wait_behind}
 use Rattle.uplink_path.specs.declared.pending.Pending.{Pending}
 use Rattle.uplink_path.specs.declared.rules.Rules.{Rules}
-use Rattle.uplink_model.specs.frame_bytes.specs.Headers.{carrier_of}
+use Rattle.frame_bytes.specs.Headers.{carrier_of}
 use Rattle.ecpri_fragments.specs.Pieces.{piece_count}
 
 -- ---- frames

@@ -1,18 +1,17 @@
 -- How the messages of each endpoint are numbered.
-use Rattle.std.proofs.Common.{◌≡◌, ℕ, zero, suc, ◌+◌, ◌%◌, ◌<◌, ◌==◌, ◌&&◌, min, Bool, true, false, if◌then◌else◌, List, [], ◌∷◌, length, refl, sym, ap, ap₂, ◌∙◌, arith, inl, inr, Some, slice_index_or, slice_set}
+use Rattle.std.proofs.Common.{◌≡◌, ℕ, zero, suc, ◌+◌, ◌%◌, ◌<◌, ◌==◌, ◌&&◌, min, Bool, true, false, if◌then◌else◌, List, [], ◌∷◌, length, refl, sym, ap, ap₂, ◌∙◌, arith, inl, inr, Some, slice_index_or, slice_set, drop, take, ◌++◌}
 use Rattle.std.proofs.lemmas.Bool.{and_parts, cases_Bool, cases_eq, eq-eqb, eqb-true, ne_eqb}
 use Rattle.std.proofs.lemmas.List.{get_or-set_other, get_or-set_same, length-append, length-drop, length-take}
-use Rattle.std.proofs.Common.{drop, take, ◌++◌}
 use Rattle.window_config.specs.declared.config.Config.{Config}
-use Rattle.uplink_model.specs.unit_model.specs.declared.jobs.UplinkJob.{UplinkJob}
-use Rattle.uplink_model.specs.plan_model.specs.Packs.{Message}
-use Rattle.uplink_model.specs.plan_model.specs.Departures.{departures_of}
-use Rattle.uplink_model.specs.plan_model.specs.declared.streams.Stream.TheVariants.{UpData}
+use Rattle.unit_model.specs.declared.jobs.UplinkJob.{UplinkJob}
+use Rattle.plan_model.specs.Packs.{Message}
+use Rattle.plan_model.specs.Departures.{departures_of}
+use Rattle.plan_model.specs.declared.streams.Stream.TheVariants.{UpData}
 use Rattle.fh_time.specs.declared.values.Slot.{Slot}
-use Rattle.uplink_model.specs.unit_model.specs.Claims.{same_slot}
+use Rattle.unit_model.specs.Claims.{same_slot}
 use Rattle.uplink_model.specs.Messages.{frame_count, uplink_frames_before, number_behind, same_job_symbol}
 use Rattle.uplink_path.specs.Sending.{wait_behind, wait_in}
-use Rattle.uplink_model.specs.unit_model.proofs.ClaimLemmas.{same_slot_is as slots_equal}
+use Rattle.unit_model.proofs.ClaimLemmas.{same_slot_is as slots_equal}
 
 abbrev pub zeros : ℕ → List ℕ
 zeros zero = []

@@ -1,36 +1,33 @@
 -- A message of proper jobs can be sent.
-use Rattle.std.proofs.Common.{◌≡◌, ℕ, ◌+◌, ◌<◌, ◌≤◌, ◌^◌, List, [], ◌∷◌, All, map, length, sum, refl, sym, ap, ap₂, ◌∙◌, arith}
+use Rattle.std.proofs.Common.{◌≡◌, ℕ, ◌+◌, ◌<◌, ◌≤◌, ◌^◌, List, [], ◌∷◌, All, map, length, sum, refl, sym, ap, ap₂, ◌∙◌, arith, get_or, ℤ, pos, neg_ℤ, ◌≤ℤ◌}
 use Rattle.std.proofs.lemmas.Int.{ints}
 use Rattle.std.specs.List.{slice_get}
 use Rattle.std.specs.Option.{option_map_or}
 use Rattle.std.proofs.lemmas.List.Elements.{All-head, All-map, All-tail}
 use Rattle.std.proofs.lemmas.List.Sums.{sum_by-cons}
 use Rattle.std.proofs.lemmas.Option.{get_or_from_slice_get, slice_get_within}
-use Rattle.std.proofs.Common.{get_or}
 use Rattle.uplink_path.specs.Emitting.{AreNumbered}
-use Rattle.uplink_path.specs.Opened.{IsProperMessage}
+use Rattle.uplink_path.specs.Opened.{IsProperMessage, IsPartOf}
 use Rattle.uplink_path.specs.Packing.{IsPacked, sections_in}
 use Rattle.uplink_path.specs.Sending.{CanBeSent}
 use Rattle.uplink_path.specs.declared.pending.Pending.{Pending}
 use Rattle.uplink_path.specs.declared.uplink.Uplink.{Uplink}
-use Rattle.std.proofs.Common.{ℤ, pos, neg_ℤ, ◌≤ℤ◌}
-use Rattle.uplink_model.specs.frame_bytes.specs.declared.messages.DataSection.{DataSection}
+use Rattle.frame_bytes.specs.declared.messages.DataSection.{DataSection}
 use Rattle.fh_time.proofs.Order.{slots_few, symbols_few}
 use Rattle.window_config.specs.Endpoints.{IsEndpoint}
 use Rattle.window_config.specs.declared.config.Config.{Config}
 use Rattle.window_config.specs.declared.endpoints.EndpointConfig.{EndpointConfig}
-use Rattle.uplink_model.specs.unit_model.specs.Proper.{IsAt}
-use Rattle.uplink_model.specs.unit_model.specs.declared.jobs.UplinkJob.{UplinkJob}
-use Rattle.uplink_model.specs.plan_model.specs.Packs.{Message, parts_of}
-use Rattle.uplink_model.specs.plan_model.specs.Streams.{section_size}
-use Rattle.uplink_model.specs.plan_model.proofs.ListLemmas.{endpoint_is}
-use Rattle.uplink_model.specs.frame_bytes.specs.Messages.{SectionFits, message_size, sections_size}
+use Rattle.unit_model.specs.Proper.{IsAt}
+use Rattle.unit_model.specs.declared.jobs.UplinkJob.{UplinkJob}
+use Rattle.plan_model.specs.Packs.{Message, parts_of}
+use Rattle.plan_model.specs.Streams.{section_size}
+use Rattle.plan_model.proofs.ListLemmas.{endpoint_is}
+use Rattle.frame_bytes.specs.Messages.{SectionFits, message_size, sections_size}
 use Rattle.uplink_model.specs.Frames.{section_of}
 use Rattle.uplink_model.specs.Messages.{job_fields}
-use Rattle.uplink_path.specs.Opened.{IsPartOf}
 use Rattle.fh_time.specs.declared.symbols.TheConstants.{SLOT_SYMBOLS}
 use Rattle.fh_time.specs.declared.frames.TheConstants.{FRAME}
-use Rattle.uplink_model.specs.frame_bytes.specs.Headers.{carrier_of}
+use Rattle.frame_bytes.specs.Headers.{carrier_of}
 
 -- the size of one section
 one_size : (es : List EndpointConfig) (e : EndpointConfig) (ep : ℕ) (j : UplinkJob) → IsAt es ep e → j.ep ≡ ep → (job_fields es).size j ≡ section_size e j.num_prb

@@ -1,21 +1,21 @@
 -- The unit stands for some history after each call.
 use Rattle.std.proofs.Common.{◌≡◌, ℤ, List, sym, subst, Result, Ok, Err, OnOk, OnErr, IfErr, IfOk}
-use Rattle.uplink_model.specs.air_source.specs.declared.airs.AirFault.{AirFault}
-use Rattle.uplink_model.specs.air_source.specs.declared.events.Event.{Event}
-use Rattle.uplink_model.specs.unit_model.specs.Standing.{History, at_clock, heard, nothing_yet, owed_until}
+use Rattle.air_source.specs.declared.airs.AirFault.{AirFault}
+use Rattle.air_source.specs.declared.events.Event.{Event}
+use Rattle.unit_model.specs.Standing.{History, at_clock, heard, nothing_yet, owed_until}
 use Rattle.window_config.specs.declared.config.Config.{Config}
 use Rattle.ru_buffers.specs.Calls.{HasGivenPast, StandsFor, StopsAtDue}
-use Rattle.ru_buffers.specs.radio_laws.specs.Reporting.{due_of}
+use Rattle.radio_laws.specs.Reporting.{due_of}
 use Rattle.ru_buffers.specs.declared.unit.Ru.{Ru}
 use Rattle.uplink_path.specs.Steps.{IsSenderOf, IsUnitOf}
-use Rattle.uplink_model.specs.air_source.specs.Kept.{IsKept}
-use Rattle.uplink_model.specs.air_source.specs.declared.links.LinkFrame.{LinkFrame}
-use Rattle.uplink_model.specs.air_source.specs.declared.places.RePlace.{RePlace}
-use Rattle.uplink_model.specs.air_source.specs.declared.samples.Samples.{Samples}
+use Rattle.air_source.specs.Kept.{IsKept}
+use Rattle.air_source.specs.declared.links.LinkFrame.{LinkFrame}
+use Rattle.air_source.specs.declared.places.RePlace.{RePlace}
+use Rattle.air_source.specs.declared.samples.Samples.{Samples}
 use Rattle.bfp_codec.specs.declared.samples.Wide.{Wide}
-use Rattle.uplink_model.specs.unit_model.specs.Lists.{onto}
-use Rattle.uplink_model.specs.unit_model.specs.declared.jobs.UplinkJob.{UplinkJob}
-use Rattle.uplink_model.specs.plan_model.specs.Packs.{Message}
+use Rattle.unit_model.specs.Lists.{onto}
+use Rattle.unit_model.specs.declared.jobs.UplinkJob.{UplinkJob}
+use Rattle.plan_model.specs.Packs.{Message}
 use Rattle.uplink_model.specs.Messages.{uplink_messages_of}
 use Rattle.uplink_path.specs.Emitting.{SentAll, given_too}
 use Rattle.uplink_path.specs.declared.uplink.Uplink.{Uplink}

@@ -6,18 +6,18 @@ use Rattle.std.proofs.lemmas.List.Elements.{All-append, All-cons, All-nil}
 use Rattle.std.proofs.lemmas.List.Sums.{sum_by-append}
 use Rattle.std.proofs.lemmas.Option.{get_or_from_slice_get}
 use Rattle.fh_time.specs.Carrier.{is_outside}
-use Rattle.uplink_model.specs.air_source.specs.Answers.{AnswersBy}
-use Rattle.uplink_model.specs.air_source.specs.declared.links.LinkFrame.{LinkFrame}
-use Rattle.uplink_model.specs.air_source.specs.declared.places.RePlace.{RePlace}
+use Rattle.air_source.specs.Answers.{AnswersBy}
+use Rattle.air_source.specs.declared.links.LinkFrame.{LinkFrame}
+use Rattle.air_source.specs.declared.places.RePlace.{RePlace}
 use Rattle.bfp_codec.specs.declared.samples.Wide.{Wide}
 use Rattle.window_config.specs.Configs.{IsConfig}
 use Rattle.window_config.specs.declared.config.Config.{Config}
 use Rattle.window_config.specs.declared.endpoints.EndpointConfig.{EndpointConfig}
-use Rattle.uplink_model.specs.unit_model.specs.Claims.{same_slot}
-use Rattle.uplink_model.specs.unit_model.specs.Proper.{IsAt}
-use Rattle.uplink_model.specs.unit_model.specs.declared.jobs.UplinkJob.{UplinkJob}
-use Rattle.uplink_model.specs.unit_model.proofs.OntoLemmas.{onto_none, onto_one}
-use Rattle.uplink_model.specs.plan_model.specs.Packs.{Message, alone, parts_of, size_of, takes, with_part}
+use Rattle.unit_model.specs.Claims.{same_slot}
+use Rattle.unit_model.specs.Proper.{IsAt}
+use Rattle.unit_model.specs.declared.jobs.UplinkJob.{UplinkJob}
+use Rattle.unit_model.proofs.OntoLemmas.{onto_none, onto_one}
+use Rattle.plan_model.specs.Packs.{Message, alone, parts_of, size_of, takes, with_part}
 use Rattle.uplink_model.specs.Frames.{Antenna, frames_behind, uplink_message_frames}
 use Rattle.uplink_model.specs.Messages.{job_fields, messages_behind, takes_job}
 use Rattle.uplink_path.specs.Emitting.{AreNumbered}

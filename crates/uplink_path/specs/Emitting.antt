@@ -2,20 +2,20 @@
 use Rattle.std.specs.Prelude.{◌≡◌, ℕ, ◌+◌, ◌<◌, ◌%◌, true, false, List, ◌++◌, length, slice_index_or}
 use Rattle.window_config.specs.Configs.{IsConfig}
 use Rattle.window_config.specs.declared.config.Config.{Config}
-use Rattle.uplink_model.specs.air_source.specs.Kept.{IsKept}
-use Rattle.uplink_model.specs.air_source.specs.declared.links.LinkFrame.{LinkFrame}
-use Rattle.uplink_model.specs.air_source.specs.declared.places.RePlace.{RePlace}
-use Rattle.uplink_model.specs.air_source.specs.declared.samples.Samples.{Samples}
+use Rattle.air_source.specs.Kept.{IsKept}
+use Rattle.air_source.specs.declared.links.LinkFrame.{LinkFrame}
+use Rattle.air_source.specs.declared.places.RePlace.{RePlace}
+use Rattle.air_source.specs.declared.samples.Samples.{Samples}
 use Rattle.bfp_codec.specs.declared.samples.Wide.{Wide}
-use Rattle.uplink_model.specs.unit_model.specs.Lists.{onto}
-use Rattle.uplink_model.specs.unit_model.specs.Standing.{History, owed_until}
-use Rattle.uplink_model.specs.unit_model.specs.declared.jobs.UplinkJob.{UplinkJob}
-use Rattle.uplink_model.specs.plan_model.specs.Packs.{Message}
+use Rattle.unit_model.specs.Lists.{onto}
+use Rattle.unit_model.specs.Standing.{History, owed_until}
+use Rattle.unit_model.specs.declared.jobs.UplinkJob.{UplinkJob}
+use Rattle.plan_model.specs.Packs.{Message}
 use Rattle.ru_buffers.specs.Calls.{StandsFor}
 use Rattle.ru_buffers.specs.declared.unit.Ru.{Ru}
 use Rattle.uplink_model.specs.Frames.{Antenna, frames_behind}
 use Rattle.uplink_model.specs.Messages.{uplink_frames_before, uplink_messages_of, number_behind}
-use Rattle.uplink_model.specs.air_source.specs.Answers.{AnswersBy}
+use Rattle.air_source.specs.Answers.{AnswersBy}
 use Rattle.uplink_path.specs.Sending.{AreRules, SentSome, rules_of, wait_behind, wait_in}
 use Rattle.uplink_path.specs.declared.uplink.Uplink.{Uplink}
 

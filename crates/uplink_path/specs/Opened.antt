@@ -1,23 +1,22 @@
 -- The message that may take more sections, while a unit's jobs are taken.
-use Rattle.std.specs.Prelude.{◌≡◌, ℕ, ◌≤◌, ◌<◌, List, All, length, Option, Some, None, false}
+use Rattle.std.specs.Prelude.{◌≡◌, ℕ, ◌≤◌, ◌<◌, List, All, length, Option, Some, None, false, ℤ, pos, ◌^◌, ◌≤ℤ◌, ◌++◌, ◌∷◌}
 use Rattle.fh_time.specs.Carrier.{is_outside}
 use Rattle.window_config.specs.declared.config.Config.{Config}
 use Rattle.window_config.specs.declared.endpoints.EndpointConfig.{EndpointConfig}
-use Rattle.uplink_model.specs.unit_model.specs.ProperJobs.{IsProperJob}
-use Rattle.uplink_model.specs.unit_model.specs.declared.jobs.UplinkJob.{UplinkJob}
-use Rattle.uplink_model.specs.plan_model.specs.Packs.{Message, parts_of, size_of}
+use Rattle.unit_model.specs.ProperJobs.{IsProperJob}
+use Rattle.unit_model.specs.declared.jobs.UplinkJob.{UplinkJob}
+use Rattle.plan_model.specs.Packs.{Message, parts_of, size_of}
 use Rattle.uplink_model.specs.Messages.{job_fields, messages_behind, uplink_messages_of}
 use Rattle.uplink_path.specs.Packing.{IsPacked}
 use Rattle.uplink_path.specs.Sending.{SentSome}
 use Rattle.uplink_path.specs.Emitting.{AreNumbered}
 use Rattle.uplink_path.specs.declared.pending.Pending.{Pending}
 use Rattle.uplink_path.specs.declared.uplink.Uplink.{Uplink}
-use Rattle.uplink_model.specs.air_source.specs.Answers.{AnswersBy}
-use Rattle.uplink_model.specs.air_source.specs.declared.links.LinkFrame.{LinkFrame}
-use Rattle.uplink_model.specs.air_source.specs.declared.places.RePlace.{RePlace}
+use Rattle.air_source.specs.Answers.{AnswersBy}
+use Rattle.air_source.specs.declared.links.LinkFrame.{LinkFrame}
+use Rattle.air_source.specs.declared.places.RePlace.{RePlace}
 use Rattle.bfp_codec.specs.declared.samples.Wide.{Wide}
-use Rattle.std.specs.Prelude.{ℤ, pos, ◌^◌, ◌≤ℤ◌, ◌++◌, ◌∷◌}
-use Rattle.uplink_model.specs.unit_model.specs.Lists.{onto}
+use Rattle.unit_model.specs.Lists.{onto}
 use Rattle.uplink_model.specs.Frames.{Antenna, frames_behind}
 use Rattle.window_config.specs.declared.config.TheConstants.{MESSAGE_SECTIONS}
 use Rattle.ecpri_fragments.specs.declared.place.TheConstants.{MESSAGE_BYTES}

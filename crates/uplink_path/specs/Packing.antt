@@ -1,9 +1,9 @@
 -- What the message that is being packed holds.
 use Rattle.std.specs.Prelude.{◌≡◌, List, length, map, take}
 use Rattle.window_config.specs.declared.config.Config.{Config}
-use Rattle.uplink_model.specs.unit_model.specs.declared.jobs.UplinkJob.{UplinkJob}
-use Rattle.uplink_model.specs.plan_model.specs.Packs.{Message, parts_of, size_of}
-use Rattle.uplink_model.specs.frame_bytes.specs.declared.messages.DataSection.{DataSection}
+use Rattle.unit_model.specs.declared.jobs.UplinkJob.{UplinkJob}
+use Rattle.plan_model.specs.Packs.{Message, parts_of, size_of}
+use Rattle.frame_bytes.specs.declared.messages.DataSection.{DataSection}
 use Rattle.uplink_model.specs.Frames.{section_of}
 use Rattle.uplink_model.specs.Messages.{job_fields}
 use Rattle.uplink_path.specs.declared.pending.Pending.{Pending}

@@ -3,13 +3,13 @@ use Rattle.std.specs.Prelude.{◌≡◌, ℕ, pos, neg_ℤ, ◌<◌, ◌≤◌, 
 use Rattle.window_config.specs.Endpoints.{IsEndpoint}
 use Rattle.window_config.specs.declared.config.Config.{Config}
 use Rattle.window_config.specs.declared.endpoints.EndpointConfig.{EndpointConfig}
-use Rattle.uplink_model.specs.air_source.specs.declared.links.LinkFrame.{LinkFrame}
-use Rattle.uplink_model.specs.unit_model.specs.Claims.{same_slot}
-use Rattle.uplink_model.specs.unit_model.specs.declared.jobs.UplinkJob.{UplinkJob}
-use Rattle.uplink_model.specs.plan_model.specs.Departures.{departures_of}
-use Rattle.uplink_model.specs.plan_model.specs.Packs.{Message}
-use Rattle.uplink_model.specs.plan_model.specs.declared.streams.Stream.TheVariants.{UpData}
-use Rattle.uplink_model.specs.frame_bytes.specs.Messages.{MessageFits, message_size}
+use Rattle.air_source.specs.declared.links.LinkFrame.{LinkFrame}
+use Rattle.unit_model.specs.Claims.{same_slot}
+use Rattle.unit_model.specs.declared.jobs.UplinkJob.{UplinkJob}
+use Rattle.plan_model.specs.Departures.{departures_of}
+use Rattle.plan_model.specs.Packs.{Message}
+use Rattle.plan_model.specs.declared.streams.Stream.TheVariants.{UpData}
+use Rattle.frame_bytes.specs.Messages.{MessageFits, message_size}
 use Rattle.uplink_model.specs.Frames.{head_of}
 use Rattle.uplink_path.specs.Packing.{IsPacked, sections_in}
 use Rattle.uplink_path.specs.declared.pending.Pending.{Pending}
@@ -17,7 +17,7 @@ use Rattle.uplink_path.specs.declared.rules.Rules.{Rules}
 use Rattle.uplink_path.specs.declared.rules.Run.{Run}
 use Rattle.fh_time.specs.declared.symbols.TheConstants.{SLOT_SYMBOLS}
 use Rattle.window_config.specs.declared.config.TheConstants.{MESSAGE_SECTIONS, MOST_FRAGMENT, LEAST_FRAGMENT}
-use Rattle.uplink_model.specs.frame_bytes.specs.Headers.{carrier_of}
+use Rattle.frame_bytes.specs.Headers.{carrier_of}
 
 abbrev pub rules_of : Config → Rules
 rules_of c = record { fragment = c.fragment; pack = c.pack; departures = departures_of c UpData }

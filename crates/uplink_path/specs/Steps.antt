@@ -1,12 +1,12 @@
 -- What call after call of a unit and its sender rests on.
 use Rattle.std.specs.Prelude.{List}
-use Rattle.uplink_model.specs.air_source.specs.Kept.{IsKept}
-use Rattle.uplink_model.specs.air_source.specs.declared.places.RePlace.{RePlace}
+use Rattle.air_source.specs.Kept.{IsKept}
+use Rattle.air_source.specs.declared.places.RePlace.{RePlace}
 use Rattle.bfp_codec.specs.declared.samples.Wide.{Wide}
 use Rattle.window_config.specs.declared.config.Config.{Config}
-use Rattle.uplink_model.specs.unit_model.specs.Standing.{History}
-use Rattle.uplink_model.specs.unit_model.specs.declared.jobs.UplinkJob.{UplinkJob}
-use Rattle.uplink_model.specs.plan_model.specs.Packs.{Message}
+use Rattle.unit_model.specs.Standing.{History}
+use Rattle.unit_model.specs.declared.jobs.UplinkJob.{UplinkJob}
+use Rattle.plan_model.specs.Packs.{Message}
 use Rattle.ru_buffers.specs.Calls.{HasGivenPast, StandsFor}
 use Rattle.ru_buffers.specs.declared.unit.Ru.{Ru}
 use Rattle.uplink_path.specs.Emitting.{AreNumbered}

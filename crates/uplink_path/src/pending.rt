@@ -2,10 +2,10 @@
 ghost use Rattle.std.specs.Prelude.{◌≡◌, ◌+◌, ◌<◌, ◌≤◌, ◌^◌, length};
 ghost use Rattle.window_config.specs.Endpoints.{IsEndpoint};
 ghost use Rattle.window_config.specs.declared.config.Config.{Config as SpecConfig};
-ghost use Rattle.uplink_model.specs.unit_model.specs.Proper.{IsAt};
-ghost use Rattle.uplink_model.specs.unit_model.specs.declared.jobs.UplinkJob.{UplinkJob as SpecJob};
+ghost use Rattle.unit_model.specs.Proper.{IsAt};
+ghost use Rattle.unit_model.specs.declared.jobs.UplinkJob.{UplinkJob as SpecJob};
 ghost use Rattle.uplink_model.specs.Frames.{head_of, section_of};
-ghost use Rattle.uplink_model.specs.plan_model.specs.Streams.{section_size};
+ghost use Rattle.plan_model.specs.Streams.{section_size};
 ghost use Rattle.ecpri_fragments.specs.declared.place.TheConstants.{MESSAGE_BYTES};
 
 use ecpri_fragments::MESSAGE_BYTES;
@@ -51,7 +51,7 @@ pub(crate) fn head_of(job: &UplinkJob) -> UHead
 }
 
 impl Pending {
-    ghost use Rattle.uplink_model.specs.plan_model.specs.Packs.{Message, alone, with_part};
+    ghost use Rattle.plan_model.specs.Packs.{Message, alone, with_part};
     ghost use Rattle.uplink_model.specs.Messages.{takes_job};
     ghost use Rattle.uplink_path.specs.Packing.{IsPacked};
 

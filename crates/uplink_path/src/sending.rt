@@ -1,11 +1,11 @@
 // The frames of one message.
 ghost use Rattle.std.specs.Prelude.{◌≡◌, ℕ, ◌+◌, ◌-◌, ◌<◌, ◌≤◌, ◌++◌, length, take, IfOk, OnOk, OnErr};
-ghost use Rattle.uplink_model.specs.air_source.specs.Answers.{AnswersBy, block_of};
-ghost use Rattle.uplink_model.specs.air_source.specs.Kept.{IsKept, closure_of};
-ghost use Rattle.uplink_model.specs.frame_bytes.specs.Cuts.{piece_frame};
-ghost use Rattle.uplink_model.specs.frame_bytes.specs.Messages.{MessageFits, message_of, message_size};
-ghost use Rattle.uplink_model.specs.plan_model.specs.Packs.{Message};
-ghost use Rattle.uplink_model.specs.unit_model.specs.declared.jobs.UplinkJob.{UplinkJob as SpecJob};
+ghost use Rattle.air_source.specs.Answers.{AnswersBy, block_of};
+ghost use Rattle.air_source.specs.Kept.{IsKept, closure_of};
+ghost use Rattle.frame_bytes.specs.Cuts.{piece_frame};
+ghost use Rattle.frame_bytes.specs.Messages.{MessageFits, message_of, message_size};
+ghost use Rattle.plan_model.specs.Packs.{Message};
+ghost use Rattle.unit_model.specs.declared.jobs.UplinkJob.{UplinkJob as SpecJob};
 ghost use Rattle.uplink_model.specs.Frames.{Antenna, uplink_frames_from, head_of, samples_of};
 ghost use Rattle.uplink_model.specs.Messages.{frame_count};
 ghost use Rattle.uplink_path.specs.Packing.{sections_in};
@@ -13,7 +13,7 @@ ghost use Rattle.uplink_path.specs.Sending.{CanBeSent, IsBehind, SentSome, wait_
 ghost use Rattle.window_config.specs.declared.config.Config.{Config as SpecConfig};
 ghost use Rattle.fh_time.specs.declared.symbols.TheConstants.{SLOT_SYMBOLS};
 ghost use Rattle.window_config.specs.declared.config.TheConstants.{MESSAGE_SECTIONS};
-ghost use Rattle.uplink_model.specs.frame_bytes.specs.Headers.{carrier_of};
+ghost use Rattle.frame_bytes.specs.Headers.{carrier_of};
 ghost use Rattle.fh_time.specs.declared.carrier.TheConstants.{CARRIER_PRBS};
 
 use crate::pending::{Pending, head_of};

@@ -1,13 +1,13 @@
 // The frames of a unit's messages.
 ghost use Rattle.std.specs.Prelude.{◌≡◌, ◌<◌, ◌≤◌, ◌++◌, length, List, [], ◌∷◌, false, IfOk, IsErr, OnErr, OnOk, Option};
-ghost use Rattle.uplink_model.specs.air_source.specs.Answers.{AnswersBy};
-ghost use Rattle.uplink_model.specs.air_source.specs.Kept.{IsKept, closure_of};
-ghost use Rattle.uplink_model.specs.plan_model.specs.Packs.{Message};
-ghost use Rattle.uplink_model.specs.unit_model.specs.ProperJobs.{IsProperJob};
-ghost use Rattle.uplink_model.specs.unit_model.specs.Standing.{History};
-ghost use Rattle.uplink_model.specs.unit_model.specs.declared.jobs.UplinkJob.{UplinkJob as SpecJob};
+ghost use Rattle.air_source.specs.Answers.{AnswersBy};
+ghost use Rattle.air_source.specs.Kept.{IsKept, closure_of};
+ghost use Rattle.plan_model.specs.Packs.{Message};
+ghost use Rattle.unit_model.specs.ProperJobs.{IsProperJob};
+ghost use Rattle.unit_model.specs.Standing.{History};
+ghost use Rattle.unit_model.specs.declared.jobs.UplinkJob.{UplinkJob as SpecJob};
 ghost use Rattle.uplink_model.specs.Frames.{Antenna, frames_behind, uplink_message_frames};
-ghost use Rattle.uplink_model.specs.unit_model.specs.Lists.{onto};
+ghost use Rattle.unit_model.specs.Lists.{onto};
 ghost use Rattle.uplink_path.specs.Packing.{IsPacked};
 ghost use Rattle.uplink_path.specs.Sending.{SentSome};
 ghost use Rattle.window_config.specs.Configs.{IsConfig};

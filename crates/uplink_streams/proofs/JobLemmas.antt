@@ -11,28 +11,27 @@ use Rattle.fh_time.specs.Numbering.{IsSlotOf, symbols_of}
 use Rattle.fh_time.specs.declared.values.Slot.{Slot}
 use Rattle.fragment_laws.specs.Apart.{IsIn}
 use Rattle.window_config.specs.declared.endpoints.EndpointConfig.{EndpointConfig}
-use Rattle.uplink_model.specs.unit_model.specs.Claims.{is_from, same_slot}
-use Rattle.uplink_model.specs.unit_model.specs.Commands.{is_uplink}
-use Rattle.uplink_model.specs.unit_model.specs.Lists.{each_tick, in_order}
-use Rattle.uplink_model.specs.unit_model.specs.Proper.{IsAt}
-use Rattle.uplink_model.specs.unit_model.specs.Radiated.{first_clock}
-use Rattle.uplink_model.specs.unit_model.specs.Sweeps.{OfSymbol, at_tick, of_endpoint, of_endpoints, sweep}
-use Rattle.uplink_model.specs.unit_model.specs.Times.{end_of_time}
-use Rattle.uplink_model.specs.unit_model.specs.Uplink.{is_before, job_of, jobs, sends_in, symbol_jobs}
-use Rattle.uplink_model.specs.unit_model.specs.declared.allocations.Allocation.{Allocation}
-use Rattle.uplink_model.specs.unit_model.specs.declared.jobs.UplinkJob.{UplinkJob}
-use Rattle.schedule_laws.specs.unit_laws.proofs.FarLemmas.{endpoints_equal}
-use Rattle.schedule_laws.specs.unit_laws.proofs.SweepLemmas.{IsKept, at_tick_related, each_tick_related, of_endpoint_related, sweep_related}
-use Rattle.uplink_model.specs.plan_model.specs.Lines.{line_allocation}
-use Rattle.uplink_model.specs.plan_model.specs.Streams.{Part, line_before, part_in, parts_in, symbol_parts}
-use Rattle.uplink_model.specs.plan_model.specs.declared.lines.PlannedLine.{PlannedLine}
-use Rattle.uplink_model.specs.plan_model.specs.declared.streams.Stream.TheVariants.{UpData}
-use Rattle.schedule_laws.specs.plan_model.proofs.ListLemmas.{in_either, of_filter, filter_mapped}
+use Rattle.unit_model.specs.Claims.{is_from, same_slot}
+use Rattle.unit_model.specs.Commands.{is_uplink}
+use Rattle.unit_model.specs.Lists.{each_tick, in_order}
+use Rattle.unit_model.specs.Proper.{IsAt}
+use Rattle.unit_model.specs.Radiated.{first_clock}
+use Rattle.unit_model.specs.Sweeps.{OfSymbol, at_tick, of_endpoint, of_endpoints, sweep}
+use Rattle.unit_model.specs.Times.{end_of_time}
+use Rattle.unit_model.specs.Uplink.{is_before, job_of, jobs, sends_in, symbol_jobs}
+use Rattle.unit_model.specs.declared.allocations.Allocation.{Allocation}
+use Rattle.unit_model.specs.declared.jobs.UplinkJob.{UplinkJob}
+use Rattle.unit_laws.proofs.FarLemmas.{endpoints_equal}
+use Rattle.unit_laws.proofs.SweepLemmas.{IsKept, at_tick_related, each_tick_related, of_endpoint_related, sweep_related}
+use Rattle.plan_model.specs.Lines.{line_allocation}
+use Rattle.plan_model.specs.Streams.{Part, line_before, part_in, parts_in, symbol_parts}
+use Rattle.plan_model.specs.declared.lines.PlannedLine.{PlannedLine}
+use Rattle.plan_model.specs.declared.streams.Stream.TheVariants.{UpData}
+use Rattle.plan_model.proofs.ListLemmas.{in_either, of_filter, filter_mapped, InOrder, order_join}
 use Rattle.schedule_laws.proofs.ListLemmas.{IsAll, all_kept, of_map, of_symbols}
 use Rattle.uplink_streams.specs.Streams.{job_for, planned_allocations}
 use Rattle.uplink_streams.proofs.ListLemmas.{filter_all, filter_none, map_map, map_same, of_order, order_all, order_mapped}
-use Rattle.uplink_model.specs.unit_model.proofs.ClaimLemmas.{same_slot_is as slots_equal}
-use Rattle.uplink_model.specs.plan_model.proofs.ListLemmas.{InOrder, order_join}
+use Rattle.unit_model.proofs.ClaimLemmas.{same_slot_is as slots_equal}
 
 -- ---- what each job is of
 

@@ -6,10 +6,9 @@ use Rattle.std.proofs.lemmas.Int.{ints}
 use Rattle.std.proofs.lemmas.List.Elements.{filter-append}
 use Rattle.std.proofs.lemmas.List.Kept.{AllPairs-cons}
 use Rattle.fragment_laws.specs.Apart.{IsIn}
-use Rattle.uplink_model.specs.unit_model.specs.Lists.{each_tick, in_order, put_in}
-use Rattle.schedule_laws.specs.plan_model.proofs.ListLemmas.{in_either, in_right, all_of}
-use Rattle.uplink_model.specs.unit_model.specs.Terms.{joined}
-use Rattle.uplink_model.specs.plan_model.proofs.ListLemmas.{InOrder}
+use Rattle.unit_model.specs.Lists.{each_tick, in_order, put_in}
+use Rattle.plan_model.proofs.ListLemmas.{in_either, in_right, all_of, InOrder}
+use Rattle.unit_model.specs.Terms.{joined}
 
 -- ---- filters
 

@@ -8,16 +8,15 @@ use Rattle.fh_time.specs.declared.values.Slot.{Slot}
 use Rattle.fragment_laws.specs.Apart.{IsIn}
 use Rattle.window_config.specs.declared.config.Config.{Config}
 use Rattle.window_config.specs.declared.endpoints.EndpointConfig.{EndpointConfig}
-use Rattle.uplink_model.specs.unit_model.specs.Claims.{same_slot}
-use Rattle.uplink_model.specs.unit_model.specs.declared.jobs.UplinkJob.{UplinkJob}
-use Rattle.schedule_laws.specs.unit_laws.proofs.FarLemmas.{endpoints_equal}
-use Rattle.uplink_model.specs.plan_model.specs.Packs.{Message, PartFields, alone, packs, packs_behind, parts_of, same_symbol, size_of, takes, with_part}
-use Rattle.schedule_laws.specs.plan_model.proofs.ListLemmas.{of_filter}
+use Rattle.unit_model.specs.Claims.{same_slot}
+use Rattle.unit_model.specs.declared.jobs.UplinkJob.{UplinkJob}
+use Rattle.unit_laws.proofs.FarLemmas.{endpoints_equal}
+use Rattle.plan_model.specs.Packs.{Message, PartFields, alone, packs, packs_behind, parts_of, same_symbol, size_of, takes, with_part}
+use Rattle.plan_model.proofs.ListLemmas.{of_filter, InOrder}
 use Rattle.uplink_model.specs.Messages.{job_fields, messages_behind, uplink_messages_of, takes_job}
 use Rattle.uplink_streams.proofs.JobLemmas.{IsTimed, MayPrecede}
-use Rattle.uplink_model.specs.unit_model.proofs.ClaimLemmas.{same_slot_is as slots_equal}
-use Rattle.uplink_model.specs.plan_model.proofs.ListLemmas.{InOrder}
-use Rattle.uplink_model.specs.unit_model.specs.Terms.{MESSAGE_BYTES}
+use Rattle.unit_model.proofs.ClaimLemmas.{same_slot_is as slots_equal}
+use Rattle.unit_model.specs.Terms.{MESSAGE_BYTES}
 
 -- ---- two jobs of an endpoint that start apart are of two symbols
 

@@ -6,17 +6,16 @@ use Rattle.std.specs.Cmp.{both_ways}
 use Rattle.fh_time.specs.declared.values.Slot.{Slot}
 use Rattle.fragment_laws.specs.Apart.{IsIn}
 use Rattle.window_config.specs.declared.config.Config.{Config}
-use Rattle.uplink_model.specs.unit_model.specs.Claims.{same_slot}
-use Rattle.uplink_model.specs.unit_model.specs.declared.jobs.UplinkJob.{UplinkJob}
-use Rattle.uplink_model.specs.plan_model.specs.Packs.{Message, Numbered, PartFields, numbered_behind as packs_numbered, frames_before as packs_before, same_symbol as same_part}
-use Rattle.schedule_laws.specs.plan_model.proofs.SlotLemmas.{eqb_swap}
-use Rattle.schedule_laws.specs.plan_model.proofs.ListLemmas.{of_filter}
+use Rattle.unit_model.specs.Claims.{same_slot}
+use Rattle.unit_model.specs.declared.jobs.UplinkJob.{UplinkJob}
+use Rattle.plan_model.specs.Packs.{Message, Numbered, PartFields, numbered_behind as packs_numbered, frames_before as packs_before, same_symbol as same_part}
+use Rattle.plan_model.proofs.SlotLemmas.{eqb_swap}
+use Rattle.plan_model.proofs.ListLemmas.{of_filter, InOrder}
 use Rattle.uplink_model.specs.Messages.{frame_count, uplink_frames_before, job_fields, number_behind, same_job_symbol}
 use Rattle.uplink_streams.specs.Streams.{is_message_of, jobs_numbered_behind}
 use Rattle.uplink_streams.proofs.JobLemmas.{IsTimed, MayPrecede}
 use Rattle.uplink_streams.proofs.MessageLemmas.{MayLead, passes, symbols_differ}
-use Rattle.uplink_model.specs.unit_model.proofs.ClaimLemmas.{same_slot_is as slots_equal, slot_self as slot_own}
-use Rattle.uplink_model.specs.plan_model.proofs.ListLemmas.{InOrder}
+use Rattle.unit_model.proofs.ClaimLemmas.{same_slot_is as slots_equal, slot_self as slot_own}
 
 slot_swap : (a b : Slot) → same_slot a b ≡ same_slot b a
 slot_swap a b =

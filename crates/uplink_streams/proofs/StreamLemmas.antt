@@ -9,17 +9,17 @@ use Rattle.window_config.specs.declared.config.Config.{Config}
 use Rattle.window_config.specs.declared.endpoints.EndpointConfig.{EndpointConfig}
 use Rattle.window_config.specs.declared.plan.PlanLine.{PlanLine}
 use Rattle.air_source.specs.declared.links.LinkFrame.{LinkFrame}
-use Rattle.uplink_model.specs.unit_model.specs.Lists.{each}
-use Rattle.uplink_model.specs.unit_model.specs.Proper.{IsAt}
-use Rattle.uplink_model.specs.unit_model.specs.Times.{end_of_time}
-use Rattle.uplink_model.specs.unit_model.specs.declared.jobs.UplinkJob.{UplinkJob}
-use Rattle.uplink_model.specs.unit_model.proofs.SweepLaws.{each_same}
-use Rattle.uplink_model.specs.plan_model.specs.Lines.{planned}
-use Rattle.uplink_model.specs.plan_model.specs.Packs.{Message, Numbered, PartFields, alone, numbered_behind as packs_numbered, frames_before as packs_before, packs, packs_behind, parts_of, same_symbol, size_of, takes, with_part}
-use Rattle.uplink_model.specs.plan_model.specs.Streams.{Part, frames_in, messages_of as stream_messages, part_fields, parts_in, section_size}
-use Rattle.uplink_model.specs.plan_model.specs.declared.lines.PlannedLine.{PlannedLine}
-use Rattle.uplink_model.specs.plan_model.specs.declared.streams.Stream.TheVariants.{UpData}
-use Rattle.schedule_laws.specs.plan_model.proofs.ListLemmas.{in_either}
+use Rattle.unit_model.specs.Lists.{each}
+use Rattle.unit_model.specs.Proper.{IsAt}
+use Rattle.unit_model.specs.Times.{end_of_time}
+use Rattle.unit_model.specs.declared.jobs.UplinkJob.{UplinkJob}
+use Rattle.unit_model.proofs.SweepLaws.{each_same}
+use Rattle.plan_model.specs.Lines.{planned}
+use Rattle.plan_model.specs.Packs.{Message, Numbered, PartFields, alone, numbered_behind as packs_numbered, frames_before as packs_before, packs, packs_behind, parts_of, same_symbol, size_of, takes, with_part}
+use Rattle.plan_model.specs.Streams.{Part, frames_in, messages_of as stream_messages, part_fields, parts_in, section_size}
+use Rattle.plan_model.specs.declared.lines.PlannedLine.{PlannedLine}
+use Rattle.plan_model.specs.declared.streams.Stream.TheVariants.{UpData}
+use Rattle.plan_model.proofs.ListLemmas.{in_either}
 use Rattle.schedule_laws.proofs.ListLemmas.{of_each}
 use Rattle.schedule_laws.proofs.PackLemmas.{message_from, part_from}
 use Rattle.schedule_laws.proofs.PlanLemmas.{line_of}
@@ -31,7 +31,7 @@ use Rattle.uplink_streams.proofs.JobLemmas.{jobs_in_order, jobs_of_parts, jobs_t
 use Rattle.uplink_streams.proofs.ListLemmas.{filter_joined, map_map, map_same}
 use Rattle.uplink_streams.proofs.MessageLemmas.{message_first, messages_found, messages_order}
 use Rattle.uplink_streams.proofs.NumberLemmas.{numbered_own}
-use Rattle.uplink_model.specs.unit_model.specs.Terms.{joined, piece_count, MESSAGE_BYTES}
+use Rattle.unit_model.specs.Terms.{joined, piece_count, MESSAGE_BYTES}
 
 pub jobs_are_parts : JobsAreParts
 jobs_are_parts c lines ep e at =

@@ -13,20 +13,20 @@ use Rattle.window_config.specs.Windows.{ticks_of_ns}
 use Rattle.window_config.specs.declared.config.Config.{Config}
 use Rattle.window_config.specs.declared.endpoints.EndpointConfig.{EndpointConfig}
 use Rattle.air_source.specs.declared.links.LinkFrame.{LinkFrame}
-use Rattle.uplink_model.specs.unit_model.specs.Claims.{same_slot}
-use Rattle.uplink_model.specs.unit_model.specs.Lists.{each, onto}
-use Rattle.uplink_model.specs.unit_model.specs.Radiated.{first_clock}
-use Rattle.uplink_model.specs.unit_model.specs.Sweeps.{sweep}
-use Rattle.uplink_model.specs.unit_model.specs.Uplink.{jobs, symbol_jobs}
-use Rattle.uplink_model.specs.unit_model.specs.declared.jobs.UplinkJob.{UplinkJob}
-use Rattle.uplink_model.specs.unit_model.proofs.SweepLaws.{gap_is}
-use Rattle.schedule_laws.specs.unit_laws.proofs.FarLemmas.{endpoints_equal}
-use Rattle.schedule_laws.specs.unit_laws.proofs.SentLemmas.{jobs_append}
-use Rattle.uplink_model.specs.plan_model.specs.Departures.{departure, departures_of}
-use Rattle.uplink_model.specs.plan_model.specs.Packs.{Message, alone, same_symbol as same_part, with_part}
-use Rattle.uplink_model.specs.plan_model.specs.declared.departures.Departures.{Departures}
-use Rattle.uplink_model.specs.plan_model.specs.declared.streams.Stream.TheVariants.{UpData}
-use Rattle.schedule_laws.specs.plan_model.proofs.ListLemmas.{in_either, in_right, all_of}
+use Rattle.unit_model.specs.Claims.{same_slot}
+use Rattle.unit_model.specs.Lists.{each, onto}
+use Rattle.unit_model.specs.Radiated.{first_clock}
+use Rattle.unit_model.specs.Sweeps.{sweep}
+use Rattle.unit_model.specs.Uplink.{jobs, symbol_jobs}
+use Rattle.unit_model.specs.declared.jobs.UplinkJob.{UplinkJob}
+use Rattle.unit_model.proofs.SweepLaws.{gap_is}
+use Rattle.unit_laws.proofs.FarLemmas.{endpoints_equal}
+use Rattle.unit_laws.proofs.SentLemmas.{jobs_append}
+use Rattle.plan_model.specs.Departures.{departure, departures_of}
+use Rattle.plan_model.specs.Packs.{Message, alone, same_symbol as same_part, with_part}
+use Rattle.plan_model.specs.declared.departures.Departures.{Departures}
+use Rattle.plan_model.specs.declared.streams.Stream.TheVariants.{UpData}
+use Rattle.plan_model.proofs.ListLemmas.{in_either, in_right, all_of, InOrder, order_join}
 use Rattle.schedule_laws.proofs.ListLemmas.{in_all, of_each}
 use Rattle.uplink_model.specs.Frames.{Antenna, uplink_frame_of, uplink_frames_from, uplink_message_frames}
 use Rattle.uplink_model.specs.Messages.{frame_count, uplink_frames_before, job_fields, messages_behind, uplink_messages_of, number_behind, same_job_symbol, takes_job}
@@ -35,8 +35,7 @@ use Rattle.uplink_streams.proofs.JobLemmas.{IsSweptJob, IsTimed, job_swept, swep
 use Rattle.uplink_streams.proofs.ListLemmas.{order_all, order_before, order_rest, pairs_of}
 use Rattle.uplink_streams.proofs.MessageLemmas.{message_first, symbols_differ}
 use Rattle.uplink_streams.proofs.RunLemmas.{jobs_stand_together}
-use Rattle.uplink_model.specs.unit_model.proofs.ClaimLemmas.{same_slot_is as slots_equal, slot_self as slot_own}
-use Rattle.uplink_model.specs.plan_model.proofs.ListLemmas.{InOrder, order_join}
+use Rattle.unit_model.proofs.ClaimLemmas.{same_slot_is as slots_equal, slot_self as slot_own}
 
 -- ---- messages that end where the symbol does
 

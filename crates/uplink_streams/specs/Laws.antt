@@ -3,14 +3,14 @@ use Rattle.std.specs.Prelude.{◌≡◌, ℕ, ℤ, ◌+◌, ◌==◌, List, filt
 use Rattle.window_config.specs.declared.config.Config.{Config}
 use Rattle.window_config.specs.declared.endpoints.EndpointConfig.{EndpointConfig}
 use Rattle.window_config.specs.declared.plan.PlanLine.{PlanLine}
-use Rattle.uplink_model.specs.unit_model.specs.Proper.{IsAt}
-use Rattle.uplink_model.specs.plan_model.specs.Dense.{sendings}
-use Rattle.uplink_model.specs.plan_model.specs.Departures.{departure, departures_of}
-use Rattle.uplink_model.specs.plan_model.specs.Lines.{planned}
-use Rattle.uplink_model.specs.plan_model.specs.Packs.{Numbered}
-use Rattle.uplink_model.specs.plan_model.specs.Streams.{parts_in, messages_of as stream_messages}
-use Rattle.uplink_model.specs.plan_model.specs.declared.streams.Stream.TheVariants.{UpData}
-use Rattle.uplink_model.specs.unit_model.specs.declared.jobs.UplinkJob.{UplinkJob}
+use Rattle.unit_model.specs.Proper.{IsAt}
+use Rattle.plan_model.specs.Dense.{sendings}
+use Rattle.plan_model.specs.Departures.{departure, departures_of}
+use Rattle.plan_model.specs.Lines.{planned}
+use Rattle.plan_model.specs.Packs.{Numbered}
+use Rattle.plan_model.specs.Streams.{parts_in, messages_of as stream_messages}
+use Rattle.plan_model.specs.declared.streams.Stream.TheVariants.{UpData}
+use Rattle.unit_model.specs.declared.jobs.UplinkJob.{UplinkJob}
 use Rattle.uplink_model.specs.Frames.{Antenna}
 use Rattle.uplink_streams.specs.Streams.{is_message_of, job_for, numbered_for, planned_frames, planned_jobs, planned_messages, stream_frames_for}
 

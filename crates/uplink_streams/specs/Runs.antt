@@ -8,15 +8,15 @@ use Rattle.window_config.specs.Limits.{IsWithinLimits}
 use Rattle.window_config.specs.Windows.{ticks_of_ns}
 use Rattle.window_config.specs.declared.config.Config.{Config}
 use Rattle.window_config.specs.declared.endpoints.EndpointConfig.{EndpointConfig}
-use Rattle.uplink_model.specs.unit_model.specs.Claims.{same_slot}
-use Rattle.uplink_model.specs.unit_model.specs.Lists.{onto}
-use Rattle.uplink_model.specs.unit_model.specs.Proper.{IsAt}
-use Rattle.uplink_model.specs.unit_model.specs.Radiated.{first_clock}
-use Rattle.uplink_model.specs.unit_model.specs.Sweeps.{sweep}
-use Rattle.uplink_model.specs.unit_model.specs.Uplink.{jobs, symbol_jobs}
-use Rattle.uplink_model.specs.unit_model.specs.declared.allocations.Allocation.{Allocation}
-use Rattle.uplink_model.specs.unit_model.specs.declared.jobs.UplinkJob.{UplinkJob}
-use Rattle.uplink_model.specs.plan_model.specs.Packs.{Message}
+use Rattle.unit_model.specs.Claims.{same_slot}
+use Rattle.unit_model.specs.Lists.{onto}
+use Rattle.unit_model.specs.Proper.{IsAt}
+use Rattle.unit_model.specs.Radiated.{first_clock}
+use Rattle.unit_model.specs.Sweeps.{sweep}
+use Rattle.unit_model.specs.Uplink.{jobs, symbol_jobs}
+use Rattle.unit_model.specs.declared.allocations.Allocation.{Allocation}
+use Rattle.unit_model.specs.declared.jobs.UplinkJob.{UplinkJob}
+use Rattle.plan_model.specs.Packs.{Message}
 use Rattle.uplink_model.specs.Frames.{Antenna, uplink_message_frames}
 use Rattle.uplink_model.specs.Messages.{uplink_messages_of, same_job_symbol}
 

@@ -4,20 +4,20 @@ use Rattle.std.specs.Prelude.{ℕ, ◌==◌, List, [], ◌∷◌, Bool, map, rev
 use Rattle.window_config.specs.declared.config.Config.{Config}
 use Rattle.window_config.specs.declared.endpoints.EndpointConfig.{EndpointConfig}
 use Rattle.air_source.specs.declared.links.LinkFrame.{LinkFrame}
-use Rattle.uplink_model.specs.unit_model.specs.Lists.{each}
-use Rattle.uplink_model.specs.unit_model.specs.Times.{end_of_time}
-use Rattle.uplink_model.specs.unit_model.specs.Uplink.{job_of, jobs}
-use Rattle.uplink_model.specs.unit_model.specs.declared.allocations.Allocation.{Allocation}
-use Rattle.uplink_model.specs.unit_model.specs.declared.jobs.UplinkJob.{UplinkJob}
-use Rattle.uplink_model.specs.plan_model.specs.Departures.{sent_at, start_of_part}
-use Rattle.uplink_model.specs.plan_model.specs.Lines.{line_allocation}
-use Rattle.uplink_model.specs.plan_model.specs.Packs.{Message, Numbered}
-use Rattle.uplink_model.specs.plan_model.specs.Streams.{Part, frames_in, messages_of as stream_messages}
-use Rattle.uplink_model.specs.plan_model.specs.declared.lines.PlannedLine.{PlannedLine}
-use Rattle.uplink_model.specs.plan_model.specs.declared.streams.Stream.TheVariants.{UpData}
+use Rattle.unit_model.specs.Lists.{each}
+use Rattle.unit_model.specs.Times.{end_of_time}
+use Rattle.unit_model.specs.Uplink.{job_of, jobs}
+use Rattle.unit_model.specs.declared.allocations.Allocation.{Allocation}
+use Rattle.unit_model.specs.declared.jobs.UplinkJob.{UplinkJob}
+use Rattle.plan_model.specs.Departures.{sent_at, start_of_part}
+use Rattle.plan_model.specs.Lines.{line_allocation}
+use Rattle.plan_model.specs.Packs.{Message, Numbered}
+use Rattle.plan_model.specs.Streams.{Part, frames_in, messages_of as stream_messages}
+use Rattle.plan_model.specs.declared.lines.PlannedLine.{PlannedLine}
+use Rattle.plan_model.specs.declared.streams.Stream.TheVariants.{UpData}
 use Rattle.uplink_model.specs.Frames.{Antenna, uplink_fragment_bytes, frames_behind}
 use Rattle.uplink_model.specs.Messages.{uplink_frames_before, uplink_messages_of, number_behind}
-use Rattle.uplink_model.specs.unit_model.specs.Terms.{joined}
+use Rattle.unit_model.specs.Terms.{joined}
 
 -- ---- the radio unit's messages with their numbers
 

@@ -1,9 +1,9 @@
 // The calls, as tests make them: what a call requires holds after the calls before it.
 ghost use Rattle.std.specs.Prelude.{◌≡◌, ◌-ℤ◌, ◌≤ℤ◌, true, pos, [], OnErr, OnOk, IfOk};
 ghost use Rattle.air_source.specs.Kept.{IsKept};
-ghost use Rattle.uplink_path.specs.unit_model.specs.Proper.{IsTime};
-ghost use Rattle.uplink_path.specs.unit_model.specs.Standing.{History, owed_until};
-ghost use Rattle.uplink_path.specs.ru_buffers.specs.Calls.{StandsFor};
+ghost use Rattle.unit_model.specs.Proper.{IsTime};
+ghost use Rattle.unit_model.specs.Standing.{History, owed_until};
+ghost use Rattle.ru_buffers.specs.Calls.{StandsFor};
 ghost use Rattle.uplink_path.specs.Emitting.{HasFailed};
 ghost use Rattle.uplink_path.specs.Steps.{IsSenderOf, IsUnitOf};
 ghost use Rattle.window_config.specs.Configs.{IsConfig};

@@ -2,15 +2,15 @@
 use Rattle.std.proofs.Common.{◌≡◌, ℤ, pos, ◌+ℤ◌, ◌-ℤ◌, ◌≤ℤ◌, ◌<ℤ◌, inl, inr, List, [], ◌++◌, length, drop, refl, sym, ap, ◌∙◌, arith, append_assoc, append-nil, drop_at}
 use Rattle.std.proofs.lemmas.Int.{ints}
 use Rattle.window_config.specs.declared.config.Config.{Config}
-use Rattle.replay_events.specs.unit_model.specs.Meetings.{Arrival}
-use Rattle.replay_events.specs.unit_model.specs.Radiated.{first_clock}
-use Rattle.replay_events.specs.unit_model.specs.Reports.{accepted_of}
-use Rattle.replay_events.specs.unit_model.specs.Standing.{History, owed_until}
-use Rattle.replay_events.specs.unit_model.specs.Uplink.{jobs}
-use Rattle.replay_events.specs.unit_model.specs.declared.jobs.UplinkJob.{UplinkJob}
-use Rattle.replay_events.specs.unit_laws.proofs.SentLemmas.{jobs_begin}
-use Rattle.replay_events.specs.history_laws.proofs.TickLemmas.{last_is_earlier, last_before}
-use Rattle.replay_events.specs.history_laws.proofs.ListLemmas.{front_empty}
+use Rattle.unit_model.specs.Meetings.{Arrival}
+use Rattle.unit_model.specs.Radiated.{first_clock}
+use Rattle.unit_model.specs.Reports.{accepted_of}
+use Rattle.unit_model.specs.Standing.{History, owed_until}
+use Rattle.unit_model.specs.Uplink.{jobs}
+use Rattle.unit_model.specs.declared.jobs.UplinkJob.{UplinkJob}
+use Rattle.unit_laws.proofs.SentLemmas.{jobs_begin}
+use Rattle.history_laws.proofs.TickLemmas.{last_is_earlier, last_before}
+use Rattle.history_laws.proofs.ListLemmas.{front_empty}
 use Rattle.replay_events.proofs.CameLemmas.{none_yet}
 use Rattle.uplink_turns.specs.Given.{GivenAndOwed, GivenBefore, GivenIsAll, GivesTick, HasSeen, OwesNone, OwesTick}
 use Rattle.uplink_turns.specs.Turns.{jobs_of_tick, jobs_between, jobs_until}

@@ -11,16 +11,16 @@ use Rattle.window_config.specs.Limits.{IsWithinLimits}
 use Rattle.window_config.specs.Windows.{ticks_of_ns}
 use Rattle.window_config.specs.declared.config.Config.{Config}
 use Rattle.window_config.specs.declared.endpoints.EndpointConfig.{EndpointConfig}
-use Rattle.replay_events.specs.unit_model.specs.Lists.{each, onto}
-use Rattle.replay_events.specs.unit_model.specs.declared.jobs.UplinkJob.{UplinkJob}
-use Rattle.replay_events.specs.history_laws.proofs.TickLemmas.{same_most}
-use Rattle.uplink_streams.specs.plan_model.specs.Packs.{Message}
-use Rattle.uplink_streams.specs.plan_model.proofs.ListLemmas.{all_of}
-use Rattle.uplink_streams.specs.schedule_laws.proofs.ListLemmas.{in_all, of_each}
-use Rattle.uplink_streams.specs.uplink_model.specs.Frames.{Antenna, uplink_frame_of, frames_behind, uplink_frames_from, uplink_message_frames}
-use Rattle.uplink_streams.specs.uplink_model.specs.Messages.{frame_count, uplink_frames_before, uplink_messages_of, number_behind}
-use Rattle.uplink_streams.specs.uplink_model.specs.SentLaws.{AreOf}
-use Rattle.uplink_streams.specs.uplink_model.proofs.MessageLemmas.{frames_both}
+use Rattle.unit_model.specs.Lists.{each, onto}
+use Rattle.unit_model.specs.declared.jobs.UplinkJob.{UplinkJob}
+use Rattle.history_laws.proofs.TickLemmas.{same_most}
+use Rattle.plan_model.specs.Packs.{Message}
+use Rattle.plan_model.proofs.ListLemmas.{all_of}
+use Rattle.schedule_laws.proofs.ListLemmas.{in_all, of_each}
+use Rattle.uplink_model.specs.Frames.{Antenna, uplink_frame_of, frames_behind, uplink_frames_from, uplink_message_frames}
+use Rattle.uplink_model.specs.Messages.{frame_count, uplink_frames_before, uplink_messages_of, number_behind}
+use Rattle.uplink_model.specs.SentLaws.{AreOf}
+use Rattle.uplink_model.proofs.MessageLemmas.{frames_both}
 use Rattle.uplink_streams.proofs.MessageLemmas.{message_first}
 use Rattle.uplink_streams.proofs.TurnLemmas.{frames_leave_in_ta3}
 use Rattle.uplink_turns.specs.TurnLaws.{HandedAreOf, HandedBehindAreOf, HandedGoOn, HandedGoOnFrom, HandedLeaveFrom, HandedLeaveLater, NoneHandedBefore}

@@ -4,27 +4,27 @@ use Rattle.std.proofs.lemmas.Int.{ints}
 use Rattle.std.specs.Int.Signed.{≤ℤ_refl}
 use Rattle.window_config.specs.declared.config.Config.{Config}
 use Rattle.window_config.specs.declared.endpoints.EndpointConfig.{EndpointConfig}
-use Rattle.replay_events.specs.unit_model.specs.Commands.{accepted}
-use Rattle.replay_events.specs.unit_model.specs.Meetings.{Arrival, commands, meetings}
-use Rattle.replay_events.specs.unit_model.specs.Radiated.{first_clock}
-use Rattle.replay_events.specs.unit_model.specs.Reports.{accepted_of}
-use Rattle.replay_events.specs.unit_model.specs.Sweeps.{sweep}
-use Rattle.replay_events.specs.unit_model.specs.Times.{end_of_time}
-use Rattle.replay_events.specs.unit_model.specs.Uplink.{jobs, symbol_jobs}
-use Rattle.replay_events.specs.unit_model.specs.declared.allocations.Allocation.{Allocation}
-use Rattle.replay_events.specs.unit_model.specs.declared.jobs.UplinkJob.{UplinkJob}
-use Rattle.replay_events.specs.unit_laws.proofs.SweepLemmas.{sweep-append, sweep-none, tick-nothing}
-use Rattle.replay_events.specs.history_laws.proofs.TickLemmas.{next_after, next_is_later, next_of_last}
+use Rattle.unit_model.specs.Commands.{accepted}
+use Rattle.unit_model.specs.Meetings.{Arrival, commands, meetings}
+use Rattle.unit_model.specs.Radiated.{first_clock}
+use Rattle.unit_model.specs.Reports.{accepted_of}
+use Rattle.unit_model.specs.Sweeps.{sweep}
+use Rattle.unit_model.specs.Times.{end_of_time}
+use Rattle.unit_model.specs.Uplink.{jobs, symbol_jobs}
+use Rattle.unit_model.specs.declared.allocations.Allocation.{Allocation}
+use Rattle.unit_model.specs.declared.jobs.UplinkJob.{UplinkJob}
+use Rattle.unit_laws.proofs.SweepLemmas.{sweep-append, sweep-none, tick-nothing}
+use Rattle.history_laws.proofs.TickLemmas.{next_after, next_is_later, next_of_last}
 use Rattle.replay_events.specs.Moments.{arrivals_before}
 use Rattle.replay_events.proofs.CameLemmas.{none_yet}
 use Rattle.replay_events.proofs.SettledLemmas.{messages_settled}
 use Rattle.replay_events.proofs.TickLemmas.{sweep_alone}
-use Rattle.uplink_streams.specs.plan_model.proofs.ListLemmas.{all_of}
+use Rattle.plan_model.proofs.ListLemmas.{all_of}
 use Rattle.uplink_streams.proofs.JobLemmas.{at_starts, swept_jobs}
 use Rattle.uplink_turns.specs.TurnLaws.{JobsAreSettled, JobsGoOn, JobsGoOnFrom, JobsStartBetween, JobsStartThen, NoJobsBefore, NoJobsYet}
 use Rattle.uplink_turns.specs.Turns.{all_accepted, jobs_of_tick, jobs_between, jobs_until}
-use Rattle.replay_events.specs.unit_model.proofs.SweepLaws.{sweep_quiet as sweep-nothing}
-use Rattle.replay_events.specs.unit_laws.proofs.AheadLemmas.{no_jobs}
+use Rattle.unit_model.proofs.SweepLaws.{sweep_quiet as sweep-nothing}
+use Rattle.unit_laws.proofs.AheadLemmas.{no_jobs}
 
 -- ---- up to a time
 

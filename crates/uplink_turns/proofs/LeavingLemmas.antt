@@ -4,19 +4,19 @@ use Rattle.std.specs.Int.{int_gap}
 use Rattle.std.proofs.lemmas.List.Elements.{All-weaker}
 use Rattle.std.specs.Int.Signed.{≤ℤ_refl}
 use Rattle.air_source.specs.declared.links.LinkFrame.{LinkFrame}
-use Rattle.replay_events.specs.unit_model.specs.Lists.{each_tick}
-use Rattle.replay_events.specs.unit_model.specs.Radiated.{first_clock}
-use Rattle.replay_events.specs.unit_model.specs.Times.{end_of_time}
-use Rattle.replay_events.specs.unit_model.specs.declared.jobs.UplinkJob.{UplinkJob}
-use Rattle.replay_events.specs.unit_model.proofs.SweepLaws.{gap_none, no_ticks as none_of_ticks}
-use Rattle.replay_events.specs.history_laws.proofs.TickLemmas.{last_of_next, next_after, next_is_later, last_before, after_all, same_then}
+use Rattle.unit_model.specs.Lists.{each_tick}
+use Rattle.unit_model.specs.Radiated.{first_clock}
+use Rattle.unit_model.specs.Times.{end_of_time}
+use Rattle.unit_model.specs.declared.jobs.UplinkJob.{UplinkJob}
+use Rattle.unit_model.proofs.SweepLaws.{gap_none, no_ticks as none_of_ticks}
+use Rattle.history_laws.proofs.TickLemmas.{last_of_next, next_after, next_is_later, last_before, after_all, same_then}
 use Rattle.replay_events.proofs.TickLemmas.{no_ticks, tick_alone, ticks_append}
-use Rattle.uplink_streams.specs.plan_model.proofs.ListLemmas.{all_of}
-use Rattle.uplink_streams.specs.schedule_laws.proofs.ListLemmas.{in_all}
-use Rattle.uplink_streams.specs.uplink_model.specs.Frames.{frames_behind}
-use Rattle.uplink_streams.specs.uplink_model.specs.Messages.{uplink_messages_of}
-use Rattle.uplink_streams.specs.uplink_model.specs.Sent.{in_sent_order, leaving_at}
-use Rattle.uplink_streams.specs.uplink_model.proofs.SentLemmas.{later_change_nothing, leaving_leave_then}
+use Rattle.plan_model.proofs.ListLemmas.{all_of}
+use Rattle.schedule_laws.proofs.ListLemmas.{in_all}
+use Rattle.uplink_model.specs.Frames.{frames_behind}
+use Rattle.uplink_model.specs.Messages.{uplink_messages_of}
+use Rattle.uplink_model.specs.Sent.{in_sent_order, leaving_at}
+use Rattle.uplink_model.proofs.SentLemmas.{later_change_nothing, leaving_leave_then}
 use Rattle.uplink_streams.proofs.ListLemmas.{tick_within}
 use Rattle.uplink_turns.specs.TurnLaws.{LeavingIsSettled, LeftEnds, LeftGoesOn, LeftIsAll, LeftLeaveLater, LeftWaits}
 use Rattle.uplink_turns.specs.Turns.{handed_between, handed_until, leaving_of_handed, left_from}

@@ -2,14 +2,14 @@
 use Rattle.std.proofs.Common.{◌≡◌, ℤ, pos, ◌+ℤ◌, ◌-ℤ◌, ◌≤ℤ◌, ◌<ℤ◌, List, ◌++◌, sym, ap, ◌∙◌, arith}
 use Rattle.std.proofs.lemmas.Int.{by_lt_z, ints}
 use Rattle.window_config.specs.declared.config.Config.{Config}
-use Rattle.replay_events.specs.unit_model.specs.Meetings.{Arrival}
-use Rattle.replay_events.specs.unit_model.specs.Radiated.{first_clock}
-use Rattle.replay_events.specs.unit_model.specs.Sweeps.{sweep}
-use Rattle.replay_events.specs.unit_model.specs.Uplink.{symbol_jobs}
-use Rattle.replay_events.specs.unit_model.specs.declared.jobs.UplinkJob.{UplinkJob}
-use Rattle.replay_events.specs.history_laws.proofs.TickLemmas.{next_is_later, next_of_last}
+use Rattle.unit_model.specs.Meetings.{Arrival}
+use Rattle.unit_model.specs.Radiated.{first_clock}
+use Rattle.unit_model.specs.Sweeps.{sweep}
+use Rattle.unit_model.specs.Uplink.{symbol_jobs}
+use Rattle.unit_model.specs.declared.jobs.UplinkJob.{UplinkJob}
+use Rattle.history_laws.proofs.TickLemmas.{next_is_later, next_of_last}
 use Rattle.replay_events.proofs.TickLemmas.{sweep_alone}
-use Rattle.uplink_streams.specs.uplink_model.specs.Messages.{uplink_messages_of}
+use Rattle.uplink_model.specs.Messages.{uplink_messages_of}
 use Rattle.uplink_streams.proofs.TurnLemmas.{messages_end_in_time}
 use Rattle.uplink_turns.specs.TurnLaws.{MessagesGoOn, MessagesGoOnFrom}
 use Rattle.uplink_turns.specs.Turns.{all_accepted, jobs_between, messages_between, messages_until}

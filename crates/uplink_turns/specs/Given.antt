@@ -3,10 +3,10 @@ use Rattle.std.specs.Prelude.{◌≡◌, ℤ, pos, ◌+ℤ◌, ◌-ℤ◌, ◌�
 use Rattle.air_source.specs.declared.events.Side.TheVariants.{Ru}
 use Rattle.window_config.specs.Configs.{IsConfig}
 use Rattle.window_config.specs.declared.config.Config.{Config}
-use Rattle.replay_events.specs.unit_model.specs.Meetings.{Arrival}
-use Rattle.replay_events.specs.unit_model.specs.Radiated.{Known, first_clock}
-use Rattle.replay_events.specs.unit_model.specs.Standing.{History, IsHistory, owed_until}
-use Rattle.replay_events.specs.unit_model.specs.Times.{end_of_time}
+use Rattle.unit_model.specs.Meetings.{Arrival}
+use Rattle.unit_model.specs.Radiated.{Known, first_clock}
+use Rattle.unit_model.specs.Standing.{History, IsHistory, owed_until}
+use Rattle.unit_model.specs.Times.{end_of_time}
 use Rattle.replay_events.specs.Moments.{arrivals_before}
 use Rattle.replay_events.specs.Passing.{AreLandings}
 use Rattle.uplink_turns.specs.Turns.{jobs_of_tick, jobs_until}

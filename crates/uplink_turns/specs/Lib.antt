@@ -1,12 +1,3 @@
-pub use Rattle.replay_events.specs.ecpri_fragments
-pub use Rattle.uplink_streams.specs.fragment_laws
-pub use Rattle.uplink_streams.specs.frame_bytes
-pub use Rattle.uplink_streams.specs.plan_model
-pub use Rattle.replay_events
-pub use Rattle.uplink_streams.specs.schedule_laws
-pub use Rattle.replay_events.specs.unit_model
-pub use Rattle.replay_events.specs.uplane_sections
-pub use Rattle.uplink_streams.specs.uplink_model
 pub mod Turns
 pub mod TurnLaws
 pub mod Given

@@ -2,18 +2,18 @@
 use Rattle.std.specs.Prelude.{◌≡◌, ℤ, pos, ◌+ℤ◌, ◌-ℤ◌, ◌≤ℤ◌, ◌<ℤ◌, List, [], ◌++◌, All, length}
 use Rattle.window_config.specs.Configs.{IsConfig}
 use Rattle.window_config.specs.declared.config.Config.{Config}
-use Rattle.replay_events.specs.unit_model.specs.Meetings.{Arrival}
-use Rattle.replay_events.specs.unit_model.specs.Radiated.{first_clock}
-use Rattle.replay_events.specs.unit_model.specs.Reports.{accepted_of}
-use Rattle.replay_events.specs.unit_model.specs.Times.{end_of_time}
-use Rattle.replay_events.specs.unit_model.specs.Uplink.{jobs}
-use Rattle.replay_events.specs.unit_model.specs.declared.jobs.UplinkJob.{UplinkJob}
-use Rattle.uplink_streams.specs.plan_model.specs.Packs.{Message}
+use Rattle.unit_model.specs.Meetings.{Arrival}
+use Rattle.unit_model.specs.Radiated.{first_clock}
+use Rattle.unit_model.specs.Reports.{accepted_of}
+use Rattle.unit_model.specs.Times.{end_of_time}
+use Rattle.unit_model.specs.Uplink.{jobs}
+use Rattle.unit_model.specs.declared.jobs.UplinkJob.{UplinkJob}
+use Rattle.plan_model.specs.Packs.{Message}
 use Rattle.replay_events.specs.Moments.{arrivals_before}
 use Rattle.replay_events.specs.Passing.{AreLandings}
-use Rattle.uplink_streams.specs.uplink_model.specs.Frames.{Antenna}
-use Rattle.uplink_streams.specs.uplink_model.specs.Sent.{in_sent_order}
-use Rattle.uplink_streams.specs.uplink_model.specs.SentLaws.{AreOf}
+use Rattle.uplink_model.specs.Frames.{Antenna}
+use Rattle.uplink_model.specs.Sent.{in_sent_order}
+use Rattle.uplink_model.specs.SentLaws.{AreOf}
 use Rattle.uplink_turns.specs.Turns.{handed_at, handed_behind, handed_between, handed_until, jobs_of_tick, jobs_between, jobs_until, leaving_of_handed, left_from, messages_of_tick, messages_between, messages_until, leaving_in_turn}
 
 -- ---- jobs

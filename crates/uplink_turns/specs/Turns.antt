@@ -4,19 +4,19 @@ use Rattle.std.specs.Prelude.{ℤ, pos, ◌+ℤ◌, ◌-ℤ◌, List, [], length
 use Rattle.std.specs.Int.{int_gap}
 use Rattle.window_config.specs.declared.config.Config.{Config}
 use Rattle.air_source.specs.declared.links.LinkFrame.{LinkFrame}
-use Rattle.replay_events.specs.unit_model.specs.Lists.{each_tick, onto}
-use Rattle.replay_events.specs.unit_model.specs.Meetings.{Arrival}
-use Rattle.replay_events.specs.unit_model.specs.Reports.{accepted_of}
-use Rattle.replay_events.specs.unit_model.specs.Sweeps.{at_tick, sweep}
-use Rattle.replay_events.specs.unit_model.specs.Times.{end_of_time}
-use Rattle.replay_events.specs.unit_model.specs.Uplink.{jobs, symbol_jobs}
-use Rattle.replay_events.specs.unit_model.specs.declared.allocations.Allocation.{Allocation}
-use Rattle.replay_events.specs.unit_model.specs.declared.jobs.UplinkJob.{UplinkJob}
-use Rattle.uplink_streams.specs.plan_model.specs.Packs.{Message}
+use Rattle.unit_model.specs.Lists.{each_tick, onto}
+use Rattle.unit_model.specs.Meetings.{Arrival}
+use Rattle.unit_model.specs.Reports.{accepted_of}
+use Rattle.unit_model.specs.Sweeps.{at_tick, sweep}
+use Rattle.unit_model.specs.Times.{end_of_time}
+use Rattle.unit_model.specs.Uplink.{jobs, symbol_jobs}
+use Rattle.unit_model.specs.declared.allocations.Allocation.{Allocation}
+use Rattle.unit_model.specs.declared.jobs.UplinkJob.{UplinkJob}
+use Rattle.plan_model.specs.Packs.{Message}
 use Rattle.replay_events.specs.Moments.{all_arrivals}
-use Rattle.uplink_streams.specs.uplink_model.specs.Frames.{Antenna, frames_behind}
-use Rattle.uplink_streams.specs.uplink_model.specs.Messages.{uplink_messages_of}
-use Rattle.uplink_streams.specs.uplink_model.specs.Sent.{leaving_at}
+use Rattle.uplink_model.specs.Frames.{Antenna, frames_behind}
+use Rattle.uplink_model.specs.Messages.{uplink_messages_of}
+use Rattle.uplink_model.specs.Sent.{leaving_at}
 
 -- what the unit accepts of all that lands at it
 abbrev pub all_accepted : Config → List Arrival → List Allocation

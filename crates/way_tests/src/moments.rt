@@ -1,10 +1,10 @@
 // Measurements of a small document, worked out by hand.
 ghost use Rattle.std.specs.Prelude.{◌≡◌, IfOk, map};
-ghost use Rattle.delay_exchange.specs.delay_model.specs.Doings.{nothing};
+ghost use Rattle.delay_model.specs.Doings.{nothing};
 ghost use Rattle.delay_measure.specs.Kept.{IsCompensation, answer_at};
 ghost use Rattle.fh_document.specs.Proper.{IsDocument};
 ghost use Rattle.unit_meters.specs.Begins.{AnswersAs, MetersStand, begin_of};
-ghost use Rattle.delay_exchange.specs.replay_events.specs.unit_model.specs.Radiated.{first_clock};
+ghost use Rattle.unit_model.specs.Radiated.{first_clock};
 ghost use Rattle.way_tests.specs.Comps.{comps_of};
 
 use crate::built::answer;

@@ -1,5 +1,3 @@
-pub use Rattle.bfp_codec
-pub use Rattle.eaxc_map
 pub mod Limits
 pub mod Windows
 pub mod Classes

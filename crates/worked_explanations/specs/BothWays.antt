@@ -6,9 +6,8 @@ use Rattle.air_source.specs.declared.events.Event.{Event}
 use Rattle.air_source.specs.declared.events.Side.TheVariants.{Ru, Du}
 use Rattle.window_config.specs.declared.config.Config.{Config}
 use Rattle.explain_model.specs.Text.{Reasoned, explain_of}
-use Rattle.worked_explanations.specs.Common.{arrives, cell, config_of, count, nothing, shown, slot_at}
+use Rattle.worked_explanations.specs.Common.{arrives, cell, config_of, count, nothing, shown, slot_at, second}
 use Rattle.plan_model.specs.Examples.{usual}
-use Rattle.worked_explanations.specs.Common.{second}
 
 abbrev pub frame_1 : List ℕ
 frame_1 = 16 ∷ 2 ∷ 0 ∷ 20 ∷ 0 ∷ 0 ∷ 0 ∷ 128 ∷ 144 ∷ 1 ∷ 0 ∷ 0 ∷ 1 ∷ 1 ∷ 0 ∷ 0 ∷ 0 ∷ 16 ∷ 0 ∷ 1 ∷ 255 ∷ 241 ∷ 0 ∷ 0 ∷ []

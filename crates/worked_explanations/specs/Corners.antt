@@ -1,19 +1,16 @@
 -- A negative frame, symInc, numPrb 0, a frame refused in its middle, an unknown id, reMask 0, a command to the distributed unit, a message in
 -- two generations, a refused message, and a planned command that is lost.
-use Rattle.std.specs.Prelude.{◌≡◌, ℕ, pos, negsuc, false, List, [], ◌∷◌, ◌++◌, codes, None}
+use Rattle.std.specs.Prelude.{◌≡◌, ℕ, pos, negsuc, false, List, [], ◌∷◌, ◌++◌, codes, None, ◌==◌, if◌then◌else◌}
 use Rattle.fault_counters.specs.declared.kinds.Counter.TheVariants as counter
 use Rattle.air_source.specs.declared.events.Event.{Event}
 use Rattle.air_source.specs.declared.events.Side.TheVariants.{Ru, Du}
 use Rattle.window_config.specs.declared.config.Config.{Config}
 use Rattle.explain_model.specs.Text.{Reasoned, explain_of}
-use Rattle.worked_explanations.specs.Common.{arrives, cell, config_of, count, missing, slot_at}
+use Rattle.worked_explanations.specs.Common.{arrives, cell, config_of, count, missing, slot_at, run, narrow, offset}
 use Rattle.explain_lines.specs.declared.values.ExplainLine.TheVariants as line
 use Rattle.explain_lines.specs.declared.reasons.Reason.TheVariants as reason
 use Rattle.explain_lines.specs.declared.reasons.ReasonWord.TheVariants as word
-use Rattle.worked_explanations.specs.Common.{run}
-use Rattle.std.specs.Prelude.{◌==◌, if◌then◌else◌}
 use Rattle.air_source.specs.Units.{same_side}
-use Rattle.worked_explanations.specs.Common.{narrow, offset}
 
 abbrev pub frame_1 : List ℕ
 frame_1 = 16 ∷ 2 ∷ 0 ∷ 28 ∷ 0 ∷ 16 ∷ 0 ∷ 128 ∷ 144 ∷ 255 ∷ 0 ∷ 13 ∷ 1 ∷ 3 ∷ 255 ∷ 255 ∷ 12 ∷ 12 ∷ 96 ∷ 0 ∷ 0 ∷ 144 ∷ 2 ∷ 1 ∷ 255 ∷ 241 ∷ 0 ∷ 0 ∷ 0 ∷ 0 ∷ 0 ∷ 0 ∷ []

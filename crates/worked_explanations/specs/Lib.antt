@@ -1,17 +1,3 @@
-pub use Rattle.air_source
-pub use Rattle.bfp_codec
-pub use Rattle.bit_fields
-pub use Rattle.cplane_sections
-pub use Rattle.explain_lines
-pub use Rattle.explain_model
-pub use Rattle.fault_counters
-pub use Rattle.fh_time
-pub use Rattle.plan_model
-pub use Rattle.replay_events
-pub use Rattle.report_lines
-pub use Rattle.unit_memory
-pub use Rattle.unit_model
-pub use Rattle.window_config
 pub mod Common
 pub mod OneCommand
 pub mod BothWays

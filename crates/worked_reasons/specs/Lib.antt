@@ -1,14 +1,1 @@
-pub use Rattle.bit_fields
-pub use Rattle.cplane_sections
-pub use Rattle.explain_lines
-pub use Rattle.explain_model
-pub use Rattle.explain_reasons
-pub use Rattle.fh_time
-pub use Rattle.plan_model
-pub use Rattle.replay_events
-pub use Rattle.report_lines
-pub use Rattle.unit_memory
-pub use Rattle.unit_model
-pub use Rattle.window_config
-pub use Rattle.worked_explanations
 pub mod Whole

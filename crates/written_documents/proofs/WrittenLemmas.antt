@@ -19,8 +19,7 @@ use Rattle.fh_document.specs.ConfigLines.{set_of, time_at}
 use Rattle.fh_document.specs.DeliverLines.{deliver_line, delivery_of, has_deliver_count}
 use Rattle.fh_document.specs.Delivered.{has_like}
 use Rattle.fh_document.specs.Document.{after_line, document_of, read_from}
-use Rattle.fh_document.specs.EndpointLines.{dynamic_of, endpoint_line, endpoint_of, extended_numerology, has_endpoint_count, has_id, is_extended, is_offset, is_ordinary, method_of, numerology_of, offset_numerology, offset_spacing_of, ordinary_numerology}
-use Rattle.fh_document.specs.EndpointLines.{spacing_of as spacing_in}
+use Rattle.fh_document.specs.EndpointLines.{dynamic_of, endpoint_line, endpoint_of, extended_numerology, has_endpoint_count, has_id, is_extended, is_offset, is_ordinary, method_of, numerology_of, offset_numerology, offset_spacing_of, ordinary_numerology, spacing_of as spacing_in}
 use Rattle.fh_document.specs.Hex.{frame_of, hex_of}
 use Rattle.fh_document.specs.InjectLines.{inject_line, side_of}
 use Rattle.fh_document.specs.Keywords.{configuring, keyword_of, setting_of, transit_of}

@@ -1,2 +1,1 @@
-pub use Rattle.fh_document
 pub mod Written

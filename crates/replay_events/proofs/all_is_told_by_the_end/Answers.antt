@@ -1,4 +1,4 @@
-use Rattle.history_laws.specs.unit_laws.proofs.EndLemmas.{cells_end, jobs_end}
+use Rattle.unit_laws.proofs.EndLemmas.{cells_end, jobs_end}
 use Rattle.replay_events.proofs.EndLemmas.{no_cell_is_left, no_message_is_left, planned_cells_end}
 use Rattle.replay_events.proofs.all_is_told_by_the_end.Goals as goal
 

@@ -1,7 +1,7 @@
 // `fit`: what breaks the windows of a document, and the greatest windows that fit.
 ghost use Rattle.std.specs.Prelude.{◌≡◌};
-ghost use Rattle.pcap_lines.specs.fh_document.specs.Document.{document_of};
-ghost use Rattle.window_lines.specs.window_config.specs.Limits.{IsWithinLimits};
+ghost use Rattle.fh_document.specs.Document.{document_of};
+ghost use Rattle.window_config.specs.Limits.{IsWithinLimits};
 ghost use Rattle.top_call.specs.Answers.{fit_shown, fitted_status, of_document};
 ghost use Rattle.top_call.specs.Run.{Performs};
 

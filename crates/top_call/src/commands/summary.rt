@@ -1,10 +1,10 @@
 // `summary`: a line for each run of a document's cells, the delays and the counters.
 ghost use Rattle.std.specs.Prelude.{◌≡◌};
-ghost use Rattle.fronthaul_replay.specs.du_scheduler.specs.Plans.{HasToSend};
-ghost use Rattle.pcap_lines.specs.fh_document.specs.Document.{document_of};
-ghost use Rattle.pcap_lines.specs.fh_document.specs.Proper.{IsDocument};
-ghost use Rattle.fronthaul_replay.specs.plan_model.specs.Lines.{planned};
-ghost use Rattle.fronthaul_replay.specs.plan_model.specs.Sent.{sent};
+ghost use Rattle.du_scheduler.specs.Plans.{HasToSend};
+ghost use Rattle.fh_document.specs.Document.{document_of};
+ghost use Rattle.fh_document.specs.Proper.{IsDocument};
+ghost use Rattle.plan_model.specs.Lines.{planned};
+ghost use Rattle.plan_model.specs.Sent.{sent};
 ghost use Rattle.top_call.specs.Answers.{of_document, of_planned, summarized};
 ghost use Rattle.top_call.specs.Run.{Performs};
 

@@ -1,10 +1,10 @@
 // `trial`: the counters of a generated document's replay.
 ghost use Rattle.std.specs.Prelude.{◌≡◌, ◌≤◌, Ok, IfOk};
-ghost use Rattle.fronthaul_replay.specs.du_scheduler.specs.Plans.{HasToSend};
+ghost use Rattle.du_scheduler.specs.Plans.{HasToSend};
 ghost use Rattle.fh_document.specs.Answered.{Answers};
 ghost use Rattle.fh_document.specs.Proper.{IsDocument};
-ghost use Rattle.fronthaul_replay.specs.plan_model.specs.Lines.{planned};
-ghost use Rattle.fronthaul_replay.specs.plan_model.specs.Sent.{sent};
+ghost use Rattle.plan_model.specs.Lines.{planned};
+ghost use Rattle.plan_model.specs.Sent.{sent};
 ghost use Rattle.generated_documents.specs.Documents.{document};
 ghost use Rattle.top_call.specs.Answers.{counted, of_planned, tried};
 ghost use Rattle.top_call.specs.Run.{Performs};

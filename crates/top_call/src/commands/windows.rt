@@ -1,8 +1,8 @@
 // `windows`: the windows, the rings and the check of a document.
 ghost use Rattle.std.specs.Prelude.{◌≡◌};
-ghost use Rattle.pcap_lines.specs.fh_document.specs.Document.{document_of};
-ghost use Rattle.window_lines.specs.window_config.specs.Configs.{IsConfig};
-ghost use Rattle.window_lines.specs.window_config.specs.Limits.{IsWithinLimits};
+ghost use Rattle.fh_document.specs.Document.{document_of};
+ghost use Rattle.window_config.specs.Configs.{IsConfig};
+ghost use Rattle.window_config.specs.Limits.{IsWithinLimits};
 ghost use Rattle.top_call.specs.Answers.{checked_status, of_document, windows_shown};
 ghost use Rattle.top_call.specs.Run.{Performs};
 

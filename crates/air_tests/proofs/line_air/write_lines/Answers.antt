@@ -1,10 +1,10 @@
 use Rattle.std.proofs.Common.{rules, ℕ, Bool, List, ◌++◌, map, subst}
 use Rattle.std.proofs.lemmas.Result.{err_from_is_err_and}
-use Rattle.owed_bytes.specs.fh_base.specs.Told.{WritesFront}
-use Rattle.report_lines.specs.air_source.specs.Moves.{text_of}
-use Rattle.report_lines.specs.air_source.specs.Tellings.{line_next, line_gives, line_ends, bytes_owed}
-use Rattle.report_lines.specs.air_source.specs.declared.events.Event.TheVariants.{Cell}
-use Rattle.report_lines.specs.air_source.proofs.Texts.{stops_front, finish_front}
+use Rattle.fh_base.specs.Told.{WritesFront}
+use Rattle.air_source.specs.Moves.{text_of}
+use Rattle.air_source.specs.Tellings.{line_next, line_gives, line_ends, bytes_owed}
+use Rattle.air_source.specs.declared.events.Event.TheVariants.{Cell}
+use Rattle.air_source.proofs.Texts.{stops_front, finish_front}
 use Rattle.air_tests.proofs.line_air.write_lines.Goals as goal
 use Rattle.owed_bytes.proofs.Telling.{anyhow}
 

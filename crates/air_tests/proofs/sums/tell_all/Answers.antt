@@ -1,7 +1,7 @@
 use Rattle.std.proofs.Common.{rules, List, [], map, sym, append-nil}
 use Rattle.std.proofs.lemmas.Result.{on_ok_weaker}
-use Rattle.report_lines.specs.air_source.specs.declared.events.AirCell.{AirCell}
-use Rattle.report_lines.specs.air_source.specs.declared.events.Event.TheVariants.{Cell}
+use Rattle.air_source.specs.declared.events.AirCell.{AirCell}
+use Rattle.air_source.specs.declared.events.Event.TheVariants.{Cell}
 use Rattle.sum_air.specs.Airs.{sink_of, owed_of, sums_of}
 use Rattle.sum_air.proofs.Whole.{CountsLast, cells_earlier}
 use Rattle.sum_air.proofs.Written.{finished, finish_front, stopped_front}

@@ -1,7 +1,7 @@
 use Rattle.std.proofs.Common.{rules, ◌≡◌, sym}
 use Rattle.std.proofs.lemmas.Result.{IfErr-weaker}
-use Rattle.report_lines.specs.air_source.specs.declared.events.Event.TheVariants.{Cell}
-use Rattle.report_lines.specs.air_source.proofs.Stops.{stops_at}
+use Rattle.air_source.specs.declared.events.Event.TheVariants.{Cell}
+use Rattle.air_source.proofs.Stops.{stops_at}
 use Rattle.air_tests.proofs.telling.tell_cells.Goals as goal
 
 pub returns-in_err-cell-clause-stop : goal.returns-in_err-cell-clause-stop

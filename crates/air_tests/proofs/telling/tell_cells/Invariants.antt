@@ -1,5 +1,5 @@
 use Rattle.std.proofs.Common.{map, take, ◌≡◌}
-use Rattle.report_lines.specs.air_source.specs.declared.events.Event.TheVariants.{Cell}
+use Rattle.air_source.specs.declared.events.Event.TheVariants.{Cell}
 use Rattle.air_tests.proofs.telling.tell_cells.Given as goal
 
 abbrev pub invariant-loop-cell : goal.invariant-loop-cell

@@ -1,8 +1,8 @@
 use Rattle.std.proofs.Common.{rules, ◌≡◌, map, ap, sym, ◌∙◌}
 use Rattle.std.proofs.lemmas.Result.{IfErr-weaker}
-use Rattle.report_lines.specs.air_source.specs.Answers.{widened}
-use Rattle.report_lines.specs.air_source.specs.Tellings.{cell_by}
-use Rattle.report_lines.specs.air_source.proofs.Stops.{stops_at}
+use Rattle.air_source.specs.Answers.{widened}
+use Rattle.air_source.specs.Tellings.{cell_by}
+use Rattle.air_source.proofs.Stops.{stops_at}
 use Rattle.air_tests.proofs.telling.tell_samples.Goals as goal
 
 pub returns-in_err-cell-clause-stop : goal.returns-in_err-cell-clause-stop

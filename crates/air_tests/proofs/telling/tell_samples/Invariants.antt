@@ -1,8 +1,8 @@
 use Rattle.std.proofs.Common.{map, take, ◌≡◌}
-use Rattle.report_lines.specs.bfp_codec.specs.declared.samples.Wide.{Wide}
-use Rattle.report_lines.specs.air_source.specs.declared.places.RePlace.{RePlace}
-use Rattle.report_lines.specs.air_source.specs.Answers.{AnswersBy}
-use Rattle.report_lines.specs.air_source.specs.Tellings.{cell_by}
+use Rattle.bfp_codec.specs.declared.samples.Wide.{Wide}
+use Rattle.air_source.specs.declared.places.RePlace.{RePlace}
+use Rattle.air_source.specs.Answers.{AnswersBy}
+use Rattle.air_source.specs.Tellings.{cell_by}
 use Rattle.air_tests.proofs.telling.tell_samples.Given as goal
 
 abbrev pub invariant-loop-prb : goal.invariant-loop-prb

@@ -1,7 +1,7 @@
 use Rattle.std.proofs.Common.{◌≡◌, map, length, sym, ◌∙◌, arith}
 use Rattle.std.proofs.lemmas.List.{ext_get_or, get_or-map, length-map}
-use Rattle.report_lines.specs.bfp_codec.specs.Samples.{no_iq, no_wide}
-use Rattle.report_lines.specs.air_source.specs.Answers.{widened}
+use Rattle.bfp_codec.specs.Samples.{no_iq, no_wide}
+use Rattle.air_source.specs.Answers.{widened}
 use Rattle.air_tests.proofs.telling.wide_block.Goals as goal
 
 pub returns : goal.returns

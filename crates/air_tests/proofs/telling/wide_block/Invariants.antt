@@ -1,6 +1,6 @@
 use Rattle.std.proofs.Common.{◌≡◌, ℕ, ◌<◌, length, get_or}
-use Rattle.report_lines.specs.bfp_codec.specs.Samples.{no_iq, no_wide}
-use Rattle.report_lines.specs.air_source.specs.Answers.{widened}
+use Rattle.bfp_codec.specs.Samples.{no_iq, no_wide}
+use Rattle.air_source.specs.Answers.{widened}
 use Rattle.air_tests.proofs.telling.wide_block.Given as goal
 
 abbrev pub invariant-loop-re : goal.invariant-loop-re

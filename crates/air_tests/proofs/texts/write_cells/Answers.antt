@@ -1,6 +1,6 @@
 use Rattle.std.proofs.Common.{rules, map}
 use Rattle.std.proofs.lemmas.Result.{on_ok_weaker}
-use Rattle.report_lines.specs.air_source.specs.declared.events.Event.TheVariants.{Cell}
+use Rattle.air_source.specs.declared.events.Event.TheVariants.{Cell}
 use Rattle.text_air.specs.Airs.{sink_of, owed_of}
 use Rattle.text_air.specs.Text.{event_text}
 use Rattle.text_air.proofs.Texts.{stops_front, front_of_whole, finish_front, finished}

@@ -1,5 +1,5 @@
 use Rattle.std.proofs.Common.{◌≡◌, ℕ, ◌-◌, if◌then◌else◌, get_or, length}
-use Rattle.schedule_laws.specs.unit_model.specs.Claims.{is_from}
+use Rattle.unit_model.specs.Claims.{is_from}
 use Rattle.du_intake.specs.Rows.{no_claim, claim_with_line}
 use Rattle.du_intake.proofs.claims.claim_line.Given as goal
 

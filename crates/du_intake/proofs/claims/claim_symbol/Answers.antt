@@ -1,9 +1,8 @@
 -- Line by line.
-use Rattle.std.proofs.Common.{◌≡◌, ◌≤◌, List, get_or, length, subst, sym, ◌∙◌}
+use Rattle.std.proofs.Common.{◌≡◌, ◌≤◌, List, get_or, length, subst, sym, ◌∙◌, take, ◌+◌, ℕ}
 use Rattle.std.proofs.lemmas.Option.{slice_get-get_or}
 use Rattle.du_intake.specs.Rows.{IsRowOf}
 use Rattle.du_intake.specs.declared.claims.PlannedClaim.{PlannedClaim}
-use Rattle.std.proofs.Common.{take, ◌+◌, ℕ}
 use Rattle.du_intake.proofs.ListingLemmas.{blank}
 use Rattle.du_intake.proofs.RowLemmas.{row_claimed, row_none, row_skipped}
 use Rattle.du_intake.proofs.claims.claim_symbol.Goals as goal

@@ -1,6 +1,6 @@
 -- What a claim names.
 use Rattle.std.proofs.Common.{◌∙◌, ap}
-use Rattle.schedule_laws.specs.unit_model.specs.Radiated.{samples_under}
+use Rattle.unit_model.specs.Radiated.{samples_under}
 use Rattle.unit_cells.specs.Cells.{cells_block}
 use Rattle.du_intake.specs.Cursors.{uplink_cell_in}
 use Rattle.du_intake.proofs.RowLemmas.{either_way, report_none, report_some}

@@ -1,5 +1,5 @@
 use Rattle.std.proofs.Common.{◌+◌, length}
-use Rattle.schedule_laws.specs.unit_model.proofs.SweepLaws.{none_yet, one_more}
+use Rattle.unit_model.proofs.SweepLaws.{none_yet, one_more}
 use Rattle.du_intake.specs.Symbols.{symbol_if}
 use Rattle.du_intake.proofs.symbols.put_slot.Goals as goal
 

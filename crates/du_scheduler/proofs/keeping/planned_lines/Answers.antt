@@ -1,5 +1,5 @@
 use Rattle.std.proofs.Common.{ℕ, ◌+◌, ◌≤◌, List, sym, subst}
-use Rattle.plan_check.specs.plan_model.specs.declared.lines.PlannedLine.{PlannedLine}
+use Rattle.plan_model.specs.declared.lines.PlannedLine.{PlannedLine}
 use Rattle.du_scheduler.proofs.LineLemmas.{Goes, goes_on, goes_all}
 use Rattle.du_scheduler.proofs.keeping.planned_lines.Goals as goal
 

@@ -1,7 +1,7 @@
 use Rattle.std.proofs.Common.{arith, ap, ◌∙◌, rules}
 use Rattle.std.proofs.lemmas.Option.{get_or_from_slice_get, slice_get-get_or, slice_get_within}
-use Rattle.plan_check.specs.plan_model.specs.Streams.{part_in}
-use Rattle.plan_check.specs.plan_model.specs.declared.lines.PlannedLine.{PlannedLine}
+use Rattle.plan_model.specs.Streams.{part_in}
+use Rattle.plan_model.specs.declared.lines.PlannedLine.{PlannedLine}
 use Rattle.sent_frames.specs.Messages.{data_section}
 use Rattle.du_scheduler.proofs.PartLemmas.{no_place, part_at, sections_more, sections_all}
 use Rattle.du_scheduler.proofs.writing.put_sections.Goals as goal

@@ -1,5 +1,5 @@
 use Rattle.std.proofs.Common.{◌≡◌, List, length, take, map}
-use Rattle.plan_check.specs.plan_model.specs.Streams.{Part}
+use Rattle.plan_model.specs.Streams.{Part}
 use Rattle.sent_frames.specs.Messages.{data_section}
 use Rattle.du_scheduler.specs.Written.{StandsAt}
 use Rattle.du_scheduler.proofs.writing.put_sections.Given as goal

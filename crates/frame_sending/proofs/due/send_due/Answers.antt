@@ -1,6 +1,6 @@
 use Rattle.std.proofs.Common.{refl, subst, sym, ◌∙◌}
 use Rattle.air_source.specs.Kept.{closure_of}
-use Rattle.frame_deliveries.specs.fh_document.specs.Proper.{IsDocument}
+use Rattle.fh_document.specs.Proper.{IsDocument}
 use Rattle.frame_sending.proofs.DueLemmas.{all_gone, fewer_frames, none_gone, one_gone, plan_is}
 use Rattle.frame_sending.proofs.due.send_due.Goals as goal
 

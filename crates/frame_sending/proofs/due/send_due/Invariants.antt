@@ -2,7 +2,7 @@ use Rattle.std.proofs.Common.{◌≡◌, List}
 use Rattle.air_source.specs.Kept.{closure_of}
 use Rattle.air_source.specs.declared.places.RePlace.{RePlace}
 use Rattle.bfp_codec.specs.declared.samples.Wide.{Wide}
-use Rattle.du_scheduler.specs.plan_model.specs.Sent.{SentFrame}
+use Rattle.plan_model.specs.Sent.{SentFrame}
 use Rattle.frame_ways.specs.Ways.{document_of}
 use Rattle.window_config.specs.declared.config.Config.{Config}
 use Rattle.window_config.specs.declared.plan.PlanLine.{PlanLine}

@@ -1,9 +1,9 @@
 use Rattle.std.proofs.Common.{List, sym, subst}
 use Rattle.std.proofs.lemmas.Result.{IfErr-weaker}
-use Rattle.capture_air.specs.air_source.specs.Stops.{StopsIn}
-use Rattle.capture_air.specs.air_source.specs.declared.events.Event.{Event}
-use Rattle.capture_air.specs.air_source.specs.declared.events.Event.TheVariants.{Count}
-use Rattle.capture_air.specs.air_source.proofs.Stops.{stops_now}
+use Rattle.air_source.specs.Stops.{StopsIn}
+use Rattle.air_source.specs.declared.events.Event.{Event}
+use Rattle.air_source.specs.declared.events.Event.TheVariants.{Count}
+use Rattle.air_source.proofs.Stops.{stops_now}
 use Rattle.fronthaul_replay.proofs.CountLemmas.{some_event}
 use Rattle.fronthaul_replay.proofs.counting.tell_count.Goals as goal
 

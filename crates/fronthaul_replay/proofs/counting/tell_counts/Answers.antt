@@ -1,7 +1,7 @@
 use Rattle.std.proofs.Common.{rules, ◌≡◌, ◌<◌, ◌≤◌, ℕ, List, length, ap, sym, subst, ◌∙◌, arith}
 use Rattle.std.proofs.lemmas.Result.{IfErr-weaker}
-use Rattle.capture_air.specs.air_source.specs.Stops.{StopsIn}
-use Rattle.capture_air.specs.air_source.specs.declared.events.Event.{Event}
+use Rattle.air_source.specs.Stops.{StopsIn}
+use Rattle.air_source.specs.declared.events.Event.{Event}
 use Rattle.fault_counters.specs.declared.kinds.Counter.TheVariants.{Frames}
 use Rattle.fronthaul_replay.specs.Counting.{told_number}
 use Rattle.fronthaul_replay.proofs.CountLemmas.{counts_to, heard_among, stops_among, told_are, told_to_end}

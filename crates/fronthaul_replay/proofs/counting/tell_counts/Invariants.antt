@@ -1,6 +1,6 @@
 use Rattle.std.proofs.Common.{take, ◌≡◌}
-use Rattle.unit_moments.specs.delay_exchange.specs.Units.{Has}
-use Rattle.measured_traffic.specs.delay_laws.specs.Nodes.{Compensation}
+use Rattle.delay_exchange.specs.Units.{Has}
+use Rattle.delay_laws.specs.Nodes.{Compensation}
 use Rattle.measured_traffic.specs.Doings.{Doings}
 use Rattle.fronthaul_replay.proofs.CountLemmas.{counts_to}
 use Rattle.fronthaul_replay.proofs.counting.tell_counts.Given as goal

@@ -1,8 +1,8 @@
 use Rattle.std.proofs.Common.{rules, ◌≡◌, inl, ◌∙◌}
 use Rattle.std.proofs.lemmas.Result.{IfErr-at_err, on_ok_weaker}
-use Rattle.capture_air.specs.air_source.specs.declared.airs.AirFault.TheVariants.{Failed, NoMemory}
-use Rattle.capture_air.specs.air_source.specs.declared.events.Side.TheVariants.{Du as AtDu}
-use Rattle.measured_traffic.specs.document_delays.specs.Settings.{compensation_of}
+use Rattle.air_source.specs.declared.airs.AirFault.TheVariants.{Failed, NoMemory}
+use Rattle.air_source.specs.declared.events.Side.TheVariants.{Du as AtDu}
+use Rattle.document_delays.specs.Settings.{compensation_of}
 use Rattle.du_intake.specs.Calls.{IntakeMayTake}
 use Rattle.replay_turns.specs.Waiting.{begun_at, on_way}
 use Rattle.replay_turns.proofs.LandLemmas.{events_heard, here, may_land, meter_has, same, told_is, unit_stands, waits_on}

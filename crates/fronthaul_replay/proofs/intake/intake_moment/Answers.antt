@@ -1,6 +1,6 @@
 use Rattle.std.proofs.Common.{refl, inr}
 use Rattle.std.proofs.lemmas.Result.{on_ok_weaker}
-use Rattle.capture_air.specs.air_source.specs.declared.events.Side.TheVariants.{Du}
+use Rattle.air_source.specs.declared.events.Side.TheVariants.{Du}
 use Rattle.replay_turns.proofs.CauseLemmas.{cause_wanted}
 use Rattle.replay_turns.proofs.IntakeStopLemmas.{rests_before}
 use Rattle.replay_turns.proofs.LateLemmas.{late_enough}

@@ -1,8 +1,8 @@
 use Rattle.std.proofs.Common.{pos, ◌≤ℤ◌, arith}
 use Rattle.std.proofs.lemmas.Int.{ints}
-use Rattle.capture_air.specs.air_source.specs.declared.events.Side.TheVariants.{Du, Ru}
-use Rattle.measured_traffic.specs.document_delays.specs.Settings.{compensation_of}
-use Rattle.measured_traffic.specs.unit_model.specs.Radiated.{first_clock}
+use Rattle.air_source.specs.declared.events.Side.TheVariants.{Du, Ru}
+use Rattle.document_delays.specs.Settings.{compensation_of}
+use Rattle.unit_model.specs.Radiated.{first_clock}
 use Rattle.replay_turns.proofs.MeasureLemmas.{measures_begin}
 use Rattle.std.proofs.lemmas.Result.{IfOk-weaker}
 use Rattle.fronthaul_replay.proofs.measuring.meters_of.Goals as goal

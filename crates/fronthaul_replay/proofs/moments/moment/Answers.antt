@@ -1,8 +1,8 @@
 use Rattle.std.proofs.Common.{rules, ◌≡◌, ◌∙◌, refl}
-use Rattle.capture_air.specs.air_source.specs.declared.airs.AirFault.TheVariants.{NoMemory}
-use Rattle.capture_air.specs.air_source.specs.declared.events.Side.TheVariants.{Du, Ru}
+use Rattle.air_source.specs.declared.airs.AirFault.TheVariants.{NoMemory}
+use Rattle.air_source.specs.declared.events.Side.TheVariants.{Du, Ru}
 use Rattle.measured_traffic.specs.Replayed.{doings_at}
-use Rattle.measured_traffic.specs.document_delays.specs.Settings.{compensation_of}
+use Rattle.document_delays.specs.Settings.{compensation_of}
 use Rattle.replay_turns.specs.Measuring.{begins_for}
 use Rattle.fronthaul_replay.proofs.StopLemmas.{rests_after, rests_before}
 use Rattle.replay_turns.proofs.CauseLemmas.{cause_passed, cause_wanted}

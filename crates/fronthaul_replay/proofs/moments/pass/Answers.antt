@@ -1,10 +1,10 @@
 use Rattle.std.proofs.Common.{rules, ◌≡◌, ℤ, pos, ◌+ℤ◌, List, refl, sym, subst, ◌∙◌}
-use Rattle.capture_air.specs.air_source.specs.declared.airs.AirFault.TheVariants.{Failed, NoMemory}
-use Rattle.capture_air.specs.air_source.specs.declared.events.Event.{Event}
+use Rattle.air_source.specs.declared.airs.AirFault.TheVariants.{Failed, NoMemory}
+use Rattle.air_source.specs.declared.events.Event.{Event}
 use Rattle.replay_turns.specs.Turns.{events_before}
 use Rattle.replay_turns.proofs.DownLemmas.{plan_of}
 use Rattle.replay_turns.proofs.TurnLemmas.{events_none}
-use Rattle.measured_traffic.specs.replay_events.specs.Moments.{end_of_time}
+use Rattle.replay_events.specs.Moments.{end_of_time}
 use Rattle.fronthaul_replay.specs.Turns.{AtMoment}
 use Rattle.fronthaul_replay.proofs.NextLemmas.{all_measured, end_comes, gap_less, heard_next, heard_there, in_order, moment_comes}
 use Rattle.fronthaul_replay.proofs.StepLemmas.{InStep}

@@ -1,7 +1,7 @@
 use Rattle.std.proofs.lemmas.Result.{on_ok_weaker}
-use Rattle.capture_air.specs.air_source.specs.declared.events.Side.TheVariants.{Du, Ru}
+use Rattle.air_source.specs.declared.events.Side.TheVariants.{Du, Ru}
 use Rattle.measured_traffic.specs.Replayed.{made_at}
-use Rattle.measured_traffic.specs.document_delays.specs.Settings.{compensation_of}
+use Rattle.document_delays.specs.Settings.{compensation_of}
 use Rattle.replay_turns.proofs.DownLemmas.{down_goes_on}
 use Rattle.replay_turns.proofs.MeasureLemmas.{made_is_sent}
 use Rattle.replay_turns.proofs.UpLemmas.{up_goes_on}

@@ -1,4 +1,4 @@
-use Rattle.measured_traffic.specs.document_traffic.proofs.LineLemmas.{lines_fit}
+use Rattle.document_traffic.proofs.LineLemmas.{lines_fit}
 use Rattle.fronthaul_replay.proofs.planning.check_plan.Goals as goal
 
 pub check-requires-clause-fit : goal.check-requires-clause-fit

@@ -1,14 +1,14 @@
 use Rattle.std.proofs.Common.{rules, ◌≡◌, List, [], inl, map, subst, ◌∙◌}
 use Rattle.std.proofs.lemmas.Result.{IfErr-at_err, on_ok_weaker}
-use Rattle.capture_air.specs.air_source.specs.declared.airs.AirFault.TheVariants.{Failed, NoMemory}
-use Rattle.capture_air.specs.air_source.specs.declared.events.Event.{Event}
-use Rattle.capture_air.specs.air_source.specs.declared.events.Event.TheVariants.{Cell}
-use Rattle.capture_air.specs.air_source.specs.declared.events.Side.TheVariants.{Ru as AtRu}
+use Rattle.air_source.specs.declared.airs.AirFault.TheVariants.{Failed, NoMemory}
+use Rattle.air_source.specs.declared.events.Event.{Event}
+use Rattle.air_source.specs.declared.events.Event.TheVariants.{Cell}
+use Rattle.air_source.specs.declared.events.Side.TheVariants.{Ru as AtRu}
 use Rattle.measured_traffic.specs.Replayed.{traffic_of}
-use Rattle.measured_traffic.specs.document_delays.specs.Settings.{compensation_of}
-use Rattle.measured_traffic.specs.replay_events.specs.Events.{arrivals_at}
+use Rattle.document_delays.specs.Settings.{compensation_of}
+use Rattle.replay_events.specs.Events.{arrivals_at}
 use Rattle.ru_buffers.specs.Calls.{StandsFor}
-use Rattle.ru_buffers.specs.radio_laws.specs.Reporting.{due_of}
+use Rattle.radio_laws.specs.Reporting.{due_of}
 use Rattle.replay_turns.specs.Waiting.{begun_at, on_way}
 use Rattle.replay_turns.proofs.LandLemmas.{events_heard, here, may_land, meter_has, same, told_is, unit_stands, waits_on}
 use Rattle.replay_turns.proofs.TurnLemmas.{radio_heard, radio_landed}

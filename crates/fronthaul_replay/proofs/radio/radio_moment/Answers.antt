@@ -1,7 +1,7 @@
 use Rattle.std.proofs.Common.{refl, inr}
 use Rattle.std.proofs.lemmas.Result.{on_ok_weaker}
-use Rattle.capture_air.specs.air_source.specs.declared.events.Side.TheVariants.{Ru}
-use Rattle.measured_traffic.specs.tone_source.specs.Tones.{tone_of}
+use Rattle.air_source.specs.declared.events.Side.TheVariants.{Ru}
+use Rattle.tone_source.specs.Tones.{tone_of}
 use Rattle.replay_turns.proofs.CauseLemmas.{cause_wanted}
 use Rattle.replay_turns.proofs.DownLemmas.{down_later, has_sent, landed_down, may_send}
 use Rattle.replay_turns.proofs.LateLemmas.{late_enough}

@@ -1,9 +1,9 @@
 use Rattle.std.proofs.Common.{◌≡◌, List, ap, sym, subst, ◌∙◌}
-use Rattle.measured_traffic.specs.document_traffic.specs.Sending.{lines_of}
+use Rattle.document_traffic.specs.Sending.{lines_of}
 use Rattle.du_intake.specs.Planned.{IsPlanOf}
-use Rattle.measured_traffic.specs.plan_model.specs.Lines.{planned}
-use Rattle.measured_traffic.specs.plan_model.specs.declared.lines.PlannedLine.{PlannedLine}
-use Rattle.du_scheduler.specs.window_config.specs.declared.endpoints.EndpointConfig.{EndpointConfig}
+use Rattle.plan_model.specs.Lines.{planned}
+use Rattle.plan_model.specs.declared.lines.PlannedLine.{PlannedLine}
+use Rattle.window_config.specs.declared.endpoints.EndpointConfig.{EndpointConfig}
 use Rattle.fronthaul_replay.proofs.LawLemmas.{is_plan}
 use Rattle.fronthaul_replay.proofs.replaying.intake_of.Goals as goal
 

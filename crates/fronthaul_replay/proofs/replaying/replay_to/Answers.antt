@@ -1,5 +1,5 @@
 use Rattle.std.proofs.Common.{Err, ap, refl}
-use Rattle.capture_air.specs.air_source.specs.declared.airs.AirFault.TheVariants.{Failed, NoMemory}
+use Rattle.air_source.specs.declared.airs.AirFault.TheVariants.{Failed, NoMemory}
 use Rattle.fronthaul_replay.specs.Replaying.{events_of}
 use Rattle.fronthaul_replay.proofs.FaultLemmas.{cut_from, write_cause, write_wanted}
 use Rattle.fronthaul_replay.proofs.StopLemmas.{halts_cut, stops_cut}

@@ -1,14 +1,14 @@
 use Rattle.std.proofs.Common.{rules, ◌≡◌, inl, ◌∙◌, refl}
 use Rattle.std.proofs.lemmas.Result.{IfErr-at_err, on_ok_weaker}
-use Rattle.capture_air.specs.air_source.specs.declared.airs.AirFault.TheVariants.{Failed, NoMemory}
-use Rattle.capture_air.specs.air_source.specs.declared.events.Side.TheVariants.{Ru, Du}
-use Rattle.measured_traffic.specs.document_delays.specs.Settings.{compensation_of}
+use Rattle.air_source.specs.declared.airs.AirFault.TheVariants.{Failed, NoMemory}
+use Rattle.air_source.specs.declared.events.Side.TheVariants.{Ru, Du}
+use Rattle.document_delays.specs.Settings.{compensation_of}
 use Rattle.replay_turns.specs.IntakeTurns.{planned_for}
 use Rattle.replay_turns.proofs.NextLemmas.{intake_begins}
 use Rattle.replay_turns.proofs.TurnLemmas.{first_turn}
 use Rattle.fronthaul_replay.proofs.CountLemmas.{all_doings, heard_all, intake_counts, over, radio_counts, stops_intake_count, stops_radio_count, told_for}
 use Rattle.fronthaul_replay.proofs.StopLemmas.{halts_passing, stops_passing}
-use Rattle.capture_air.specs.air_source.proofs.Causes.{air_cause_since}
+use Rattle.air_source.proofs.Causes.{air_cause_since}
 use Rattle.replay_turns.proofs.CauseLemmas.{cause_passed}
 use Rattle.fronthaul_replay.proofs.replays.run.Goals as goal
 

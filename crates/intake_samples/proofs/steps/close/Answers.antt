@@ -1,4 +1,4 @@
-use Rattle.du_intake.specs.unit_model.specs.Standing.{at_clock, heard}
+use Rattle.unit_model.specs.Standing.{at_clock, heard}
 use Rattle.du_intake.specs.Units.{intake_due_of}
 use Rattle.intake_samples.proofs.steps.close.Goals as goal
 

@@ -1,5 +1,4 @@
-use Rattle.std.proofs.Common.{rules}
-use Rattle.std.proofs.Common.{◌≤ℤ◌, Some, subst}
+use Rattle.std.proofs.Common.{rules, ◌≤ℤ◌, Some, subst}
 use Rattle.std.specs.Prelude.{Option}
 use Rattle.fh_time.specs.declared.values.Ticks.{Ticks}
 use Rattle.du_intake.specs.Calls.{IsIntakeDue}

@@ -1,7 +1,7 @@
 use Rattle.std.proofs.Common.{List, ap, rules, ◌∙◌}
 use Rattle.window_config.specs.declared.endpoints.EndpointConfig.{EndpointConfig}
-use Rattle.du_intake.specs.plan_model.specs.Lines.{planned}
-use Rattle.du_intake.specs.plan_model.specs.Valid.{IsValid}
+use Rattle.plan_model.specs.Lines.{planned}
+use Rattle.plan_model.specs.Valid.{IsValid}
 use Rattle.intake_samples.proofs.steps.made.Goals as goal
 
 pub made_of-requires-clause-plan : goal.made_of-requires-clause-plan

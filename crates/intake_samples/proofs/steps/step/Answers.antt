@@ -1,5 +1,5 @@
 use Rattle.std.proofs.Common.{◌≡◌, true, rules}
-use Rattle.du_intake.specs.unit_model.specs.Standing.{arrived, at_clock}
+use Rattle.unit_model.specs.Standing.{arrived, at_clock}
 use Rattle.intake_samples.proofs.steps.step.Goals as goal
 
 pub returns : goal.returns

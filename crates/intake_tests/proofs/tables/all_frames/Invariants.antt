@@ -1,4 +1,4 @@
-use Rattle.intake_samples.specs.du_intake.specs.Closing.{IntakeStandsForSome}
+use Rattle.du_intake.specs.Closing.{IntakeStandsForSome}
 use Rattle.intake_tests.proofs.tables.all_frames.Given as goal
 
 abbrev pub invariant-loop-f : goal.invariant-loop-f

@@ -1,5 +1,5 @@
 use Rattle.std.specs.Prelude.{All}
-use Rattle.plain_units.specs.unit_model.specs.Proper.{IsTime}
+use Rattle.unit_model.specs.Proper.{IsTime}
 use Rattle.plain_units.specs.declared.report.TimedFrame.{TimedFrame}
 use Rattle.intake_tests.proofs.tables.frames_of.Given as goal
 

@@ -1,7 +1,7 @@
-use Rattle.unit_memory.specs.air_source.specs.declared.events.Side.{Side}
+use Rattle.air_source.specs.declared.events.Side.{Side}
 use Rattle.std.proofs.Common.{List, [], ℤ, pos, Result, Ok, Err, IfOk}
-use Rattle.unit_memory.specs.window_config.specs.declared.config.Config.{Config}
-use Rattle.unit_memory.specs.unit_model.specs.Meetings.{Arrival}
+use Rattle.window_config.specs.declared.config.Config.{Config}
+use Rattle.unit_model.specs.Meetings.{Arrival}
 use Rattle.unit_memory.specs.Memory.{Holds}
 use Rattle.unit_memory.specs.declared.memory.UnitMemory.{UnitMemory}
 use Rattle.memory_tests.proofs.arrivals.made.Goals as goal

@@ -1,6 +1,6 @@
 use Rattle.std.proofs.Common.{◌≡◌, ◌≤◌, ◌∷◌, [], length}
-use Rattle.unit_memory.specs.ecpri_fragments.specs.Assemblies.{endpoints_of as assembly_endpoints}
-use Rattle.unit_memory.specs.unit_cells.specs.Cells.{endpoints_of}
+use Rattle.ecpri_fragments.specs.Assemblies.{endpoints_of as assembly_endpoints}
+use Rattle.unit_cells.specs.Cells.{endpoints_of}
 use Rattle.memory_tests.proofs.cuts.taken.Given as goal
 
 abbrev pub invariant-loop-k : goal.invariant-loop-k

@@ -1,7 +1,7 @@
 use Rattle.std.proofs.Common.{◌≡◌, ℕ, ◌+◌, ◌<◌, length, get_or}
 use Rattle.window_lines.proofs.Numbered.{IsNumbered}
 use Rattle.neighbour_tests.proofs.made.endpoints.Given as goal
-use Rattle.window_lines.specs.window_config.specs.Endpoints.{no_endpoint}
+use Rattle.window_config.specs.Endpoints.{no_endpoint}
 
 abbrev pub invariant-loop-k : goal.invariant-loop-k
 invariant-loop-k l = record {

@@ -1,8 +1,8 @@
 use Rattle.std.proofs.Common.{[], ◌∙◌, subst, ap, sym, arith, length-drop}
 use Rattle.fh_time.specs.declared.values.Shape.{Shape}
 use Rattle.fh_time.specs.Numbering.{shape_of}
-use Rattle.unit_model.specs.uplane_sections.specs.Messages.{Telling}
-use Rattle.unit_model.specs.uplane_sections.specs.States.{StandsBehind}
+use Rattle.uplane_sections.specs.Messages.{Telling}
+use Rattle.uplane_sections.specs.States.{StandsBehind}
 use Rattle.unit_model.specs.Decoding.{nothing_told, gathered}
 use Rattle.plain_units.proofs.Told.{gathered_none, gathered_on, stands_on, refused_here}
 use Rattle.plain_units.proofs.decoding.tell.Goals as goal

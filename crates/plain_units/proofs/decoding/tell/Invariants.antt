@@ -1,7 +1,7 @@
 use Rattle.std.proofs.Common.{◌≡◌, ◌-◌, ◌≤◌, length, take}
 use Rattle.fh_time.specs.Numbering.{shape_of}
-use Rattle.unit_model.specs.uplane_sections.specs.Messages.{told}
-use Rattle.unit_model.specs.uplane_sections.specs.States.{used_by, StandsBehind}
+use Rattle.uplane_sections.specs.Messages.{told}
+use Rattle.uplane_sections.specs.States.{used_by, StandsBehind}
 use Rattle.unit_model.specs.Decoding.{nothing_told, gathered}
 use Rattle.plain_units.proofs.decoding.tell.Given as goal
 

@@ -1,9 +1,8 @@
-use Rattle.std.proofs.Common.{arith}
+use Rattle.std.proofs.Common.{arith, ℕ, ap, ◌∙◌}
 use Rattle.unit_model.specs.Claims.{claim_at}
 use Rattle.unit_model.specs.Radiated.{is_used}
 use Rattle.std.specs.Prelude.{Option, if◌then◌else◌}
 use Rattle.unit_model.specs.declared.cells.Claim.{Claim}
-use Rattle.std.proofs.Common.{ℕ, ap, ◌∙◌}
 use Rattle.plain_units.proofs.RadiatedLaws.{used_below_none, used_below_few, used_below_more}
 use Rattle.plain_units.proofs.radiating.used_mask.Goals as goal
 

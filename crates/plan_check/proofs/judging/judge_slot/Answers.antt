@@ -1,6 +1,6 @@
 -- One line after the other.
 use Rattle.std.proofs.Common.{Some, refl, ap, ◌∙◌}
-use Rattle.plan_parts.specs.plan_model.specs.declared.refusals.PlanWhy.{PlanWhy}
+use Rattle.plan_model.specs.declared.refusals.PlanWhy.{PlanWhy}
 use Rattle.plan_check.proofs.KnowLemmas.{others_free}
 use Rattle.plan_check.proofs.StepLemmas.{line_at, ring_slot, at_start, at_more, at_refused, at_end}
 use Rattle.plan_check.proofs.judging.judge_slot.Goals as goal

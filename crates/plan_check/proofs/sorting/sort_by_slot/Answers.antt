@@ -3,7 +3,7 @@ use Rattle.std.proofs.Common.{rules}
 use Rattle.std.proofs.lemmas.List.Sorted.{answers_always}
 use Rattle.plan_check.proofs.SortLemmas.{sorted_order, homes_stay}
 use Rattle.plan_check.specs.declared.sorting.SlotKey.{SlotKey}
-use Rattle.plan_parts.specs.plan_model.specs.declared.lines.PlannedLine.{PlannedLine}
+use Rattle.plan_model.specs.declared.lines.PlannedLine.{PlannedLine}
 use Rattle.plan_check.proofs.sorting.sort_by_slot.Goals as goal
 
 abbrev key_of : PlannedLine → SlotKey

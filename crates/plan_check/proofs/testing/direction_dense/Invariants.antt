@@ -1,5 +1,5 @@
 use Rattle.std.proofs.Common.{◌≡◌, drop}
-use Rattle.plan_parts.specs.plan_model.specs.Dense.{dense_from, lesser}
+use Rattle.plan_model.specs.Dense.{dense_from, lesser}
 use Rattle.plan_check.specs.Answers.{distance_of}
 use Rattle.plan_check.specs.Walks.{stream_of}
 use Rattle.plan_check.proofs.testing.direction_dense.Given as goal

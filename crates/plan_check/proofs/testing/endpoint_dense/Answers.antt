@@ -1,10 +1,10 @@
 -- The parts, their messages, and the messages that leave too near.
 use Rattle.std.proofs.Common.{ℤ, List, map, ap, ap₂, ◌∙◌}
-use Rattle.plan_parts.specs.plan_model.specs.Streams.{parts_in}
-use Rattle.plan_parts.specs.plan_model.specs.declared.streams.Stream.{Stream}
+use Rattle.plan_model.specs.Streams.{parts_in}
+use Rattle.plan_model.specs.declared.streams.Stream.{Stream}
 use Rattle.plan_parts.specs.Parts.{timed}
-use Rattle.plan_parts.specs.plan_model.specs.Dense.{dense_in}
-use Rattle.plan_parts.specs.plan_model.specs.declared.dense.Sending.{Sending}
+use Rattle.plan_model.specs.Dense.{dense_in}
+use Rattle.plan_model.specs.declared.dense.Sending.{Sending}
 use Rattle.plan_check.specs.Walks.{sendings_walked}
 use Rattle.plan_parts.specs.declared.parts.TimedPart.{TimedPart}
 use Rattle.plan_check.specs.declared.walking.Limits.{Limits}

@@ -3,9 +3,9 @@ use Rattle.std.proofs.Common.{◌≡◌, List, map, ap, sym, ◌∙◌, subst}
 use Rattle.std.specs.Prelude.{All}
 use Rattle.window_config.specs.Endpoints.{IsEndpoint}
 use Rattle.window_config.specs.declared.endpoints.EndpointConfig.{EndpointConfig}
-use Rattle.plan_parts.specs.plan_model.specs.Lines.{line_allocation}
-use Rattle.plan_parts.specs.plan_model.specs.Valid.{dense_refused}
-use Rattle.plan_parts.specs.plan_model.specs.declared.lines.PlannedLine.{PlannedLine}
+use Rattle.plan_model.specs.Lines.{line_allocation}
+use Rattle.plan_model.specs.Valid.{dense_refused}
+use Rattle.plan_model.specs.declared.lines.PlannedLine.{PlannedLine}
 use Rattle.plan_check.specs.Slots.{entry_of, numbered_lines}
 use Rattle.plan_check.proofs.PlacedLemmas.{placed_numbered}
 use Rattle.plan_check.proofs.PlanLemmas.{placed_lines, placed_at, stop_at, tests_first, judged_first, stop_first, dense_last}

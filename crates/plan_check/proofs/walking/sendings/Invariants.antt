@@ -1,5 +1,5 @@
 use Rattle.std.specs.Prelude.{All}
-use Rattle.plan_parts.specs.plan_model.specs.Dense.{IsSending}
+use Rattle.plan_model.specs.Dense.{IsSending}
 use Rattle.plan_check.proofs.WalkingLemmas.{SoFar}
 use Rattle.plan_check.proofs.walking.sendings.Given as goal
 

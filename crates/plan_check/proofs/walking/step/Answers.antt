@@ -1,6 +1,6 @@
 -- A part more, or another message.
 use Rattle.std.proofs.Common.{ℕ, List, ◌++◌, ap, sym, ◌∙◌}
-use Rattle.plan_parts.specs.plan_model.specs.declared.dense.Sending.{Sending}
+use Rattle.plan_model.specs.declared.dense.Sending.{Sending}
 use Rattle.plan_parts.specs.OpenMessages.{next_to}
 use Rattle.plan_check.specs.Walks.{sending_walk}
 use Rattle.plan_parts.specs.declared.open_messages.OpenMessage.{OpenMessage}

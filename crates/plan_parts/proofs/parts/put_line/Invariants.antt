@@ -1,5 +1,5 @@
 use Rattle.std.proofs.Common.{◌≡◌, ◌∷◌, [], ◌++◌, map}
-use Rattle.unit_laws.specs.unit_model.specs.Lists.{each}
+use Rattle.unit_model.specs.Lists.{each}
 use Rattle.plan_model.specs.Streams.{part_in}
 use Rattle.plan_parts.specs.Parts.{timed}
 use Rattle.plan_parts.proofs.parts.put_line.Given as goal

@@ -1,8 +1,8 @@
 -- The parts, their messages, and what is kept of them.
 use Rattle.std.proofs.Common.{◌≤◌, ◌<◌, ◌^◌, List, length, map, ap, sym, ◌∙◌, subst}
 use Rattle.std.specs.List.{AllByRecursion}
-use Rattle.plan_runs.specs.plan_model.specs.Streams.{parts_in}
-use Rattle.plan_runs.specs.plan_parts.specs.declared.parts.TimedPart.{TimedPart}
+use Rattle.plan_model.specs.Streams.{parts_in}
+use Rattle.plan_parts.specs.declared.parts.TimedPart.{TimedPart}
 use Rattle.plan_table.specs.Kept.{placed_line_of}
 use Rattle.plan_table.proofs.PlanLemmas.{placed, has_endpoint, short, few_of}
 use Rattle.plan_table.proofs.MessageLemmas.{lines_are}

@@ -1,5 +1,5 @@
 use Rattle.std.proofs.Common.{reverse}
-use Rattle.symbol_search.specs.unit_model.specs.Starts.{jobs_at}
+use Rattle.unit_model.specs.Starts.{jobs_at}
 use Rattle.ru_jobs.proofs.LeftLemmas.{some_left}
 use Rattle.ru_jobs.proofs.left.has_left.Goals as goal
 

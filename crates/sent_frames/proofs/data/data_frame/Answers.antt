@@ -1,5 +1,5 @@
 use Rattle.std.proofs.Common.{◌≡◌, ap, ap₂, ◌∙◌, sym, arith}
-use Rattle.schedule_laws.specs.plan_model.specs.Streams.{part_in}
+use Rattle.plan_model.specs.Streams.{part_in}
 use Rattle.frame_bytes.specs.Cuts.{piece_frame}
 use Rattle.frame_bytes.specs.Messages.{message_of, message_size}
 use Rattle.frame_bytes.specs.declared.messages.Carrier.{Carrier}

@@ -1,9 +1,7 @@
-use Rattle.std.proofs.Common.{rules, cond}
+use Rattle.std.proofs.Common.{rules, cond, get_or, arith}
 use Rattle.std.proofs.lemmas.List.FromFn.{fill_by_all}
-use Rattle.std.proofs.Common.{get_or}
 use Rattle.shared_cell.specs.Joined.{plus, in_mask, sample_at, no_sum}
 use Rattle.std.proofs.lemmas.Grind.{common_steps}
-use Rattle.std.proofs.Common.{arith}
 use Rattle.shared_cell.proofs.Bounds.{next_set, next_kept}
 use Rattle.shared_cell.proofs.joining.add_samples.Goals as goal
 use Rattle.shared_cell.proofs.joining.add_samples.Goals.{then-mask-k-eq1, else-mask-k-eq1}

@@ -1,5 +1,5 @@
 use Rattle.std.proofs.Common.{◌∙◌, ap, add-one, rules, get_or}
-use Rattle.report_lines.specs.bfp_codec.specs.Samples.{no_wide}
+use Rattle.bfp_codec.specs.Samples.{no_wide}
 use Rattle.sum_air.specs.Totals.{samples_totals, with_sample}
 use Rattle.sum_air.proofs.Elements.{all_in, none_within}
 use Rattle.sum_air.proofs.totals.all_totals.Goals as goal

@@ -1,5 +1,5 @@
 use Rattle.std.proofs.Common.{arith}
-use Rattle.unit_cells.specs.unit_model.specs.declared.symbol_start.SymbolStart.{SymbolStart}
+use Rattle.unit_model.specs.declared.symbol_start.SymbolStart.{SymbolStart}
 use Rattle.symbol_search.specs.Symbols.{OfEndpoint}
 use Rattle.symbol_search.proofs.SearchLemmas.{first_of_all, searched_below_more}
 use Rattle.symbol_search.proofs.finding.first_symbol.Goals as goal

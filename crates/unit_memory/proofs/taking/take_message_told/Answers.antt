@@ -1,4 +1,4 @@
-use Rattle.std.proofs.Common.{rules, ◌≡◌, false, true, ap, sym, subst}
+use Rattle.std.proofs.Common.{rules, ◌≡◌, false, true, ap, sym, subst, List}
 use Rattle.std.specs.Prelude.{Some, None}
 use Rattle.fh_time.specs.declared.values.Shape.{Shape}
 use Rattle.ecpri_fragments.specs.Assemblies.{message_of}
@@ -10,7 +10,6 @@ use Rattle.uplane_messages.specs.Joined.{message_bytes}
 use Rattle.uplane_messages.specs.Whole.{IsWhole}
 use Rattle.unit_memory.specs.Sections.{items_of}
 use Rattle.unit_memory.proofs.MessageLemmas.{HoldsAfter, backwards_holds, refused_holds, says_backwards, says_refused, says_sections, sections_hold}
-use Rattle.std.proofs.Common.{List}
 use Rattle.unit_memory.specs.Judgements.{Judgement}
 use Rattle.unit_memory.proofs.ToldLemmas.{judged_refused, judged_sections, judged_turned}
 use Rattle.unit_memory.proofs.taking.take_message_told.Goals as goal

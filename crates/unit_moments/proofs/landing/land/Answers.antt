@@ -1,6 +1,6 @@
 use Rattle.std.proofs.Common.{rules, ◌≡◌, ◌∙◌, refl}
 use Rattle.air_source.specs.declared.airs.AirFault.TheVariants.{Failed, NoMemory}
-use Rattle.delay_exchange.specs.delay_model.specs.Doings.{with_frames}
+use Rattle.delay_model.specs.Doings.{with_frames}
 use Rattle.frame_ways.specs.Landed.{bytes_of}
 use Rattle.unit_model.specs.Standing.{arrived, at_clock}
 use Rattle.unit_moments.specs.Landing.{landed}

@@ -1,10 +1,10 @@
 use Rattle.std.proofs.Common.{◌≡◌, List}
-use Rattle.delay_exchange.specs.delay_laws.specs.Nodes.{Compensation}
-use Rattle.delay_exchange.specs.delay_model.specs.Doings.{Doings}
+use Rattle.delay_laws.specs.Nodes.{Compensation}
+use Rattle.delay_model.specs.Doings.{Doings}
 use Rattle.frame_ways.specs.Ways.{OnWay, frames_on_way}
 use Rattle.unit_model.specs.Standing.{History}
 use Rattle.unit_model.specs.declared.allocations.Allocation.{Allocation}
-use Rattle.unit_model.specs.window_config.specs.declared.config.Config.{Config}
+use Rattle.window_config.specs.declared.config.Config.{Config}
 use Rattle.unit_moments.specs.Landing.{MayLand}
 use Rattle.unit_moments.proofs.LandLemmas.{AreTold}
 use Rattle.unit_moments.proofs.landing.land.Given as goal

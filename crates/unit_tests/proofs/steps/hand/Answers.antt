@@ -1,4 +1,4 @@
-use Rattle.plain_units.specs.unit_model.specs.Standing.{arrived}
+use Rattle.unit_model.specs.Standing.{arrived}
 use Rattle.unit_tests.proofs.steps.hand.Goals as goal
 
 pub returns-clause-unit : goal.returns-clause-unit

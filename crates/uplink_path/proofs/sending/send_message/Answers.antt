@@ -1,6 +1,6 @@
 use Rattle.std.proofs.Common.{◌≡◌, ℕ, ◌+◌, ◌∙◌, ap, sym, subst, arith, rules, List, ◌++◌, ◌∷◌, []}
-use Rattle.uplink_model.specs.air_source.specs.declared.links.LinkFrame.{LinkFrame}
-use Rattle.uplink_model.specs.unit_model.specs.Lists.{each}
+use Rattle.air_source.specs.declared.links.LinkFrame.{LinkFrame}
+use Rattle.unit_model.specs.Lists.{each}
 use Rattle.uplink_model.specs.Frames.{uplink_frame_of}
 use Rattle.uplink_path.specs.Sending.{SentSome, wait_behind}
 use Rattle.uplink_path.proofs.FrameLemmas.{HandedUpTo, all_handed, at_start, count_as, ends_at, frame_handed, none_handed, on_err, some_handed, wait_next, wait_now}

@@ -1,8 +1,8 @@
 use Rattle.std.proofs.Common.{◌≡◌, ℕ, ◌+◌, ◌≤◌, length, ◌∷◌, []}
-use Rattle.uplink_model.specs.air_source.specs.Answers.{AnswersBy}
-use Rattle.uplink_model.specs.air_source.specs.Kept.{closure_of}
-use Rattle.uplink_model.specs.plan_model.specs.Packs.{Message}
-use Rattle.uplink_model.specs.unit_model.specs.declared.jobs.UplinkJob.{UplinkJob}
+use Rattle.air_source.specs.Answers.{AnswersBy}
+use Rattle.air_source.specs.Kept.{closure_of}
+use Rattle.plan_model.specs.Packs.{Message}
+use Rattle.unit_model.specs.declared.jobs.UplinkJob.{UplinkJob}
 use Rattle.uplink_model.specs.Frames.{Antenna, uplink_frame_of}
 use Rattle.uplink_path.specs.Sending.{IsBehind, wait_behind}
 use Rattle.uplink_path.proofs.FrameLemmas.{HandedUpTo}

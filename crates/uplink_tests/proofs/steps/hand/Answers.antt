@@ -1,4 +1,4 @@
-use Rattle.uplink_path.specs.unit_model.specs.Standing.{arrived}
+use Rattle.unit_model.specs.Standing.{arrived}
 use Rattle.uplink_tests.proofs.steps.hand.Goals as goal
 
 pub deliver-requires-clause-unit : goal.deliver-requires-clause-unit

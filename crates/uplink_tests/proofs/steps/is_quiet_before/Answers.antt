@@ -1,5 +1,5 @@
 use Rattle.std.proofs.Common.{◌-ℤ◌, pos}
-use Rattle.uplink_path.specs.ru_buffers.specs.history_laws.proofs.TickLemmas.{one_before}
+use Rattle.history_laws.proofs.TickLemmas.{one_before}
 use Rattle.uplink_tests.proofs.steps.is_quiet_before.Goals as goal
 
 pub returns-in-Some : goal.returns-in-Some

@@ -1,7 +1,7 @@
 use Rattle.std.proofs.Common.{pos, ◌≤ℤ◌, arith}
 use Rattle.std.proofs.lemmas.Int.{ints}
 use Rattle.std.proofs.lemmas.Result.{IfOk-weaker}
-use Rattle.delay_exchange.specs.replay_events.specs.unit_model.specs.Radiated.{first_clock}
+use Rattle.unit_model.specs.Radiated.{first_clock}
 use Rattle.way_tests.specs.Comps.{comps_of}
 use Rattle.way_tests.proofs.moments.meters_of.Goals as goal
 

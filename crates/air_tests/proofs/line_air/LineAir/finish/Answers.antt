@@ -1,7 +1,7 @@
 use Rattle.std.proofs.Common.{◌≡◌, ℕ, Bool, [], ◌∷◌, ◌++◌, if◌then◌else◌, subst, ap, ◌∙◌}
-use Rattle.owed_bytes.specs.fh_base.specs.Told.{WritesFront}
-use Rattle.owed_bytes.specs.fh_base.proofs.Progress.{front_second}
-use Rattle.report_lines.specs.air_source.specs.Tellings.{bytes_owed}
+use Rattle.fh_base.specs.Told.{WritesFront}
+use Rattle.fh_base.proofs.Progress.{front_second}
+use Rattle.air_source.specs.Tellings.{bytes_owed}
 use Rattle.air_tests.proofs.line_air.LineAir.finish.Goals as goal
 
 pub returns-clause-front : goal.returns-clause-front

@@ -1,5 +1,5 @@
 use Rattle.std.proofs.Common.{List, ℕ, subst, ◌++◌}
-use Rattle.owed_bytes.specs.fh_base.specs.Told.{WritesFront, WritesPart}
+use Rattle.fh_base.specs.Told.{WritesFront, WritesPart}
 use Rattle.std.proofs.lemmas.Result.{on_err_weaker}
 use Rattle.owed_bytes.proofs.Carrying.{front_pushed}
 use Rattle.owed_bytes.proofs.Parts.{part_pushed}

@@ -10,7 +10,7 @@ use Rattle.du_intake.specs.declared.lines.UplinkLine.{UplinkLine}
 use Rattle.du_intake.specs.declared.plan.UplinkPlan.{UplinkPlan}
 use Rattle.du_intake.proofs.PlanLemmas.{are_lines, is_listed}
 use Rattle.du_intake.proofs.plan.UplinkPlan.make.Goals as goal
-use Rattle.schedule_laws.specs.plan_model.specs.Lines.{uplink_allocations}
+use Rattle.plan_model.specs.Lines.{uplink_allocations}
 
 pub planned_symbols-requires-clause-lines : goal.planned_symbols-requires-clause-lines
 planned_symbols-requires-clause-lines c =

@@ -1,4 +1,4 @@
-use Rattle.schedule_laws.specs.unit_model.specs.Standing.{heard}
+use Rattle.unit_model.specs.Standing.{heard}
 use Rattle.air_source.proofs.Causes.{cause_then}
 use Rattle.du_intake.proofs.LoopLemmas.{closing_goes, closing_starts, stops_then, symbols_fall, told_over}
 use Rattle.du_intake.proofs.unit.Intake.close_due.Goals as goal

@@ -1,5 +1,5 @@
 use Rattle.std.proofs.Common.{arith}
-use Rattle.schedule_laws.specs.unit_model.specs.Standing.{heard}
+use Rattle.unit_model.specs.Standing.{heard}
 use Rattle.du_intake.specs.Closing.{at_prb}
 use Rattle.du_intake.proofs.CloseLemmas.{closes_claimed}
 use Rattle.du_intake.proofs.NextLemmas.{symbol_below}

@@ -2,7 +2,7 @@ use Rattle.std.proofs.Common.{arith}
 use Rattle.du_intake.proofs.PlanLemmas.{plan_planned}
 use Rattle.du_intake.proofs.UnitLemmas.{stands_made}
 use Rattle.du_intake.proofs.unit.Intake.make.Goals as goal
-use Rattle.schedule_laws.specs.plan_model.specs.Lines.{uplink_allocations}
+use Rattle.plan_model.specs.Lines.{uplink_allocations}
 
 pub returns : goal.returns
 returns c =

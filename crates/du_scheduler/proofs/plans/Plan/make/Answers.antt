@@ -1,10 +1,10 @@
 use Rattle.std.proofs.Common.{◌≡◌, List, [], map, refl, ap, subst, ◌∙◌, arith}
 use Rattle.window_config.specs.declared.endpoints.EndpointConfig.{EndpointConfig}
-use Rattle.plan_check.specs.plan_model.specs.Lines.{planned}
-use Rattle.plan_check.specs.plan_model.specs.Sent.{sent}
-use Rattle.plan_check.specs.plan_model.specs.declared.lines.PlannedLine.{PlannedLine}
+use Rattle.plan_model.specs.Lines.{planned}
+use Rattle.plan_model.specs.Sent.{sent}
+use Rattle.plan_model.specs.declared.lines.PlannedLine.{PlannedLine}
 use Rattle.frame_order.specs.Queues.{StandsFor}
-use Rattle.plan_table.specs.sent_order.specs.Runs.{turn_of}
+use Rattle.sent_order.specs.Runs.{turn_of}
 use Rattle.plan_table.specs.Tables.{IsTable}
 use Rattle.du_scheduler.proofs.plans.Plan.make.Goals as goal
 

@@ -1,5 +1,5 @@
-use Rattle.capture_air.specs.air_source.specs.declared.events.Side.TheVariants.{Du}
-use Rattle.measured_traffic.specs.unit_model.specs.Radiated.{first_clock}
+use Rattle.air_source.specs.declared.events.Side.TheVariants.{Du}
+use Rattle.unit_model.specs.Radiated.{first_clock}
 use Rattle.replay_turns.proofs.AnswerLemmas.{begins}
 use Rattle.replay_turns.proofs.WayLemmas.{starts}
 use Rattle.fronthaul_replay.proofs.answers.Answers.make.Goals as goal

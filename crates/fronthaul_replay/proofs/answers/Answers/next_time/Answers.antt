@@ -1,6 +1,6 @@
 use Rattle.std.proofs.Common.{List, Option, Some, None, sym, subst}
-use Rattle.capture_air.specs.air_source.specs.declared.events.Side.TheVariants.{Du}
-use Rattle.capture_air.specs.air_source.specs.declared.links.LinkFrame.{LinkFrame}
+use Rattle.air_source.specs.declared.events.Side.TheVariants.{Du}
+use Rattle.air_source.specs.declared.links.LinkFrame.{LinkFrame}
 use Rattle.fh_time.specs.Least.{IsLeastOf}
 use Rattle.fh_time.specs.declared.values.Ticks.{Ticks}
 use Rattle.frame_ways.proofs.TimeLemmas.{earlier_of_both}

@@ -1,6 +1,6 @@
 use Rattle.replay_turns.proofs.DownLemmas.{down_begins}
 use Rattle.replay_turns.proofs.WayLemmas.{starts}
-use Rattle.capture_air.specs.air_source.specs.declared.events.Side.TheVariants.{Ru}
+use Rattle.air_source.specs.declared.events.Side.TheVariants.{Ru}
 use Rattle.fronthaul_replay.proofs.downlink.Downlink.make.Goals as goal
 
 pub returns : goal.returns

@@ -1,9 +1,9 @@
 -- Endpoint after endpoint, and the queue.
 use Rattle.std.proofs.Common.{◌<◌, ◌≤◌, List, length, map, ◌∙◌, subst}
 use Rattle.window_config.specs.declared.endpoints.EndpointConfig.{EndpointConfig}
-use Rattle.plan_runs.specs.plan_model.specs.Sent.{sent}
-use Rattle.plan_runs.specs.sent_order.specs.Runs.{turn_of}
-use Rattle.plan_runs.specs.plan_parts.proofs.PlacingLemmas.{some_of}
+use Rattle.plan_model.specs.Sent.{sent}
+use Rattle.sent_order.specs.Runs.{turn_of}
+use Rattle.plan_parts.proofs.PlacingLemmas.{some_of}
 use Rattle.plan_table.proofs.TableLemmas.{filled_more, filled_table, filled_runs, runs_fit, runs_ordered}
 use Rattle.plan_table.proofs.tables.Table.make.Goals as goal
 

@@ -1,7 +1,7 @@
 use Rattle.std.proofs.Common.{ℤ, ◌≤ℤ◌, ◌∙◌, ap, subst, sym}
 use Rattle.std.specs.Prelude.{pos, ◌-ℤ◌}
 use Rattle.fh_time.specs.declared.values.Ticks.{Ticks}
-use Rattle.radio_laws.specs.history_laws.specs.unit_model.specs.Standing.{heard}
+use Rattle.unit_model.specs.Standing.{heard}
 use Rattle.radio_laws.specs.Reporting.{due_of}
 use Rattle.ru_buffers.proofs.CallLemmas.{ready_known, ready_settled, stands_later}
 use Rattle.ru_buffers.proofs.LoopLemmas.{standing, standing_with, stands_settled_unit}

@@ -1,4 +1,4 @@
-use Rattle.radio_laws.specs.history_laws.specs.air_source.specs.declared.events.Side.TheVariants.{Ru as AtRu}
+use Rattle.air_source.specs.declared.events.Side.TheVariants.{Ru as AtRu}
 use Rattle.ru_buffers.proofs.CallLemmas.{holds_some, ready_settled, settled_is, stands_delivered}
 use Rattle.ru_buffers.proofs.DeliverLemmas.{message_then, symbol_then}
 use Rattle.ru_buffers.proofs.LoopLemmas.{standing, standing_with}

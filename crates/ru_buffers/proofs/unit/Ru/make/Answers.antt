@@ -1,4 +1,4 @@
-use Rattle.radio_laws.specs.history_laws.specs.unit_model.specs.Standing.{nothing_yet}
+use Rattle.unit_model.specs.Standing.{nothing_yet}
 use Rattle.ru_buffers.proofs.CallLemmas.{given_made, stands_made}
 use Rattle.ru_buffers.proofs.LoopLemmas.{standing_with}
 use Rattle.ru_buffers.proofs.unit.Ru.make.Goals as goal

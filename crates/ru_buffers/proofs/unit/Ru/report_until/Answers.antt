@@ -1,5 +1,5 @@
 use Rattle.std.proofs.Common.{◌∙◌}
-use Rattle.radio_laws.specs.history_laws.specs.unit_model.specs.Standing.{heard}
+use Rattle.unit_model.specs.Standing.{heard}
 use Rattle.air_source.proofs.Causes.{cause_then}
 use Rattle.ru_buffers.proofs.LoopLemmas.{goes_some, known_then, loop_falls, next_some, over_at_none, reporting_goes, reporting_starts, stops_then, told_over}
 use Rattle.ru_buffers.proofs.unit.Ru.report_until.Goals as goal

@@ -1,6 +1,6 @@
 use Rattle.std.proofs.Common.{◌≡◌}
 use Rattle.symbol_search.specs.Searches.{InPlace}
-use Rattle.symbol_search.specs.unit_cells.specs.Cells.{cells_index}
+use Rattle.unit_cells.specs.Cells.{cells_index}
 use Rattle.ru_reports.proofs.SearchLemmas.{due_fits}
 use Rattle.ru_reports.proofs.finding.LeftAfterSymbolTest.earliest_at.Goals as goal
 

@@ -1,4 +1,4 @@
-use Rattle.window_lines.specs.window_plan.specs.Fitting.{fitted}
+use Rattle.window_plan.specs.Fitting.{fitted}
 use Rattle.top_call.specs.Answers.{fit_shown}
 use Rattle.top_call.proofs.Written.{put_as, fit_is_verdict}
 use Rattle.top_call.proofs.commands.fit.show_fit.Goals as goal

@@ -1,4 +1,4 @@
-use Rattle.capture_show.specs.capture_records.specs.Reading.{checked}
+use Rattle.capture_records.specs.Reading.{checked}
 use Rattle.capture_show.specs.Messages.{capture_lines}
 use Rattle.capture_show.specs.Texts.{lines_text}
 use Rattle.top_call.proofs.Captures.{held, shown_as}

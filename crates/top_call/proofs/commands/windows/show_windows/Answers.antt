@@ -1,4 +1,4 @@
-use Rattle.window_lines.specs.window_config.specs.Relations.{checked}
+use Rattle.window_config.specs.Relations.{checked}
 use Rattle.top_call.specs.Answers.{windows_shown}
 use Rattle.top_call.proofs.Written.{put_as, check_is_verdict}
 use Rattle.top_call.proofs.commands.windows.show_windows.Goals as goal

@@ -1,4 +1,4 @@
-use Rattle.std.proofs.Common.{◌≡◌, List, ◌∷◌, sym, ap, ◌∙◌, subst}
+use Rattle.std.proofs.Common.{◌≡◌, List, ◌∷◌, sym, ap, ◌∙◌, subst, []}
 use Rattle.air_source.specs.declared.events.Side.{Side}
 use Rattle.air_source.specs.declared.events.Side.TheVariants.{Ru}
 use Rattle.cplane_sections.specs.Message.{sections_in}
@@ -11,7 +11,6 @@ use Rattle.unit_model.specs.Reports.{hold_of}
 use Rattle.unit_memory.specs.Parts.{MemoryStands}
 use Rattle.unit_model.proofs.CommandLaws.{for_ru, told_at_ru}
 use Rattle.unit_memory.proofs.HoldLemmas.{before_message, met_so_far, stands_ignored, stands_commands, stands_piece}
-use Rattle.std.proofs.Common.{[]}
 use Rattle.unit_memory.specs.Judgements.{Met, judged_commands, judged_meeting, judged_piece}
 use Rattle.unit_memory.proofs.memory.UnitMemory.message.Goals as goal
 

@@ -2,12 +2,11 @@ use Rattle.air_source.specs.declared.events.Side.{Side}
 use Rattle.air_source.specs.declared.events.Side.TheVariants.{Ru}
 use Rattle.unit_cells.specs.Cells.{IsOf}
 use Rattle.unit_cells.specs.Keeping.{SameReported}
-use Rattle.std.proofs.Common.{◌≡◌, refl, sym, subst, ◌∙◌}
+use Rattle.std.proofs.Common.{◌≡◌, refl, sym, subst, ◌∙◌, [], ◌∷◌}
 use Rattle.unit_model.specs.Commands.{accepted, command_verdict}
 use Rattle.unit_model.proofs.CountLemmas.{added_as}
 use Rattle.unit_model.proofs.SectionLemmas.{command_count}
 use Rattle.unit_memory.proofs.StepLemmas.{keeps_command}
-use Rattle.std.proofs.Common.{[], ◌∷◌}
 use Rattle.unit_model.specs.declared.verdicts.CommandVerdict.{CommandVerdict}
 use Rattle.unit_memory.specs.Judgements.{Commanded}
 use Rattle.unit_memory.proofs.memory.UnitMemory.section.Goals as goal

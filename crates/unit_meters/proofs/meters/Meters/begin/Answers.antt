@@ -1,6 +1,6 @@
 use Rattle.std.proofs.Common.{refl, sym}
 use Rattle.air_source.specs.declared.events.Side.TheVariants.{Du, Ru}
-use Rattle.delay_exchange.specs.delay_model.specs.Doings.{with_begins}
+use Rattle.delay_model.specs.Doings.{with_begins}
 use Rattle.unit_meters.specs.Begins.{begins_of}
 use Rattle.unit_meters.proofs.BeginLemmas.{all_begun, begins_early, begins_late, fewer_wait, next_begun, next_passed, none_begun, one_is, one_now}
 use Rattle.unit_meters.proofs.meters.Meters.begin.Goals as goal

@@ -1,7 +1,7 @@
 use Rattle.std.proofs.Common.{List, length}
-use Rattle.delay_exchange.specs.delay_laws.specs.Nodes.{Compensation}
-use Rattle.delay_exchange.specs.delay_laws.specs.Ticks.{Begin}
-use Rattle.delay_exchange.specs.delay_model.specs.Doings.{Doings}
+use Rattle.delay_laws.specs.Nodes.{Compensation}
+use Rattle.delay_laws.specs.Ticks.{Begin}
+use Rattle.delay_model.specs.Doings.{Doings}
 use Rattle.unit_meters.specs.Begins.{MetersStand}
 use Rattle.unit_meters.proofs.BeginLemmas.{IsBeginning}
 use Rattle.unit_meters.proofs.meters.Meters.begin.Given as goal

@@ -1,8 +1,8 @@
 use Rattle.std.proofs.Common.{ap, subst, List, ◌++◌, ◌∙◌}
 use Rattle.std.proofs.lemmas.Result.{on_err_weaker, on_ok_weaker}
-use Rattle.uplink_model.specs.air_source.specs.declared.links.LinkFrame.{LinkFrame}
-use Rattle.uplink_model.specs.unit_model.specs.declared.jobs.UplinkJob.{UplinkJob as SpecJob}
-use Rattle.uplink_model.specs.plan_model.specs.Packs.{Message}
+use Rattle.air_source.specs.declared.links.LinkFrame.{LinkFrame}
+use Rattle.unit_model.specs.declared.jobs.UplinkJob.{UplinkJob as SpecJob}
+use Rattle.plan_model.specs.Packs.{Message}
 use Rattle.uplink_path.specs.Emitting.{AreNumbered}
 use Rattle.uplink_path.specs.Sending.{SentSome}
 use Rattle.uplink_path.proofs.CloseLemmas.{all_closed, all_numbered, none_is, none_numbered, none_sent, open_is}

@@ -1,5 +1,5 @@
 use Rattle.std.proofs.Common.{refl, ◌∙◌}
-use Rattle.uplink_model.specs.unit_model.specs.Lists.{onto}
+use Rattle.unit_model.specs.Lists.{onto}
 use Rattle.uplink_path.specs.Emitting.{given_too}
 use Rattle.uplink_path.proofs.EmitLemmas.{all_taken, can_pack, can_take, fewer, none_taken, on_ok, one_taken, stopped_at, stopped_last}
 use Rattle.uplink_path.proofs.FrameLemmas.{on_err}

@@ -1,10 +1,10 @@
 use Rattle.std.proofs.Common.{◌≡◌, List, length}
-use Rattle.uplink_model.specs.air_source.specs.Kept.{closure_of}
-use Rattle.uplink_model.specs.plan_model.specs.Packs.{Message}
+use Rattle.air_source.specs.Kept.{closure_of}
+use Rattle.plan_model.specs.Packs.{Message}
 use Rattle.ru_buffers.specs.Calls.{StandsFor}
-use Rattle.ru_buffers.specs.radio_laws.specs.Units.{left_up_to}
-use Rattle.uplink_model.specs.unit_model.specs.Standing.{History}
-use Rattle.uplink_model.specs.unit_model.specs.declared.jobs.UplinkJob.{UplinkJob}
+use Rattle.radio_laws.specs.Units.{left_up_to}
+use Rattle.unit_model.specs.Standing.{History}
+use Rattle.unit_model.specs.declared.jobs.UplinkJob.{UplinkJob}
 use Rattle.uplink_path.specs.Emitting.{AreNumbered}
 use Rattle.uplink_path.proofs.EmitLemmas.{Taken}
 use Rattle.window_config.specs.declared.config.Config.{Config}

@@ -1,5 +1,5 @@
 use Rattle.std.proofs.Common.{arith, sym, ap, ◌∙◌}
-use Rattle.uplink_model.specs.plan_model.proofs.ListLemmas.{endpoint_is}
+use Rattle.plan_model.proofs.ListLemmas.{endpoint_is}
 use Rattle.uplink_path.specs.declared.rules.Rules.{Rules}
 use Rattle.uplink_path.proofs.CloseLemmas.{none_is, open_is}
 use Rattle.uplink_path.proofs.FrameLemmas.{on_err}

@@ -1,12 +1,12 @@
 use Rattle.std.proofs.Common.{◌≡◌, ℕ, ◌+◌, ◌∙◌, min, refl, rules, sym, subst, ap, List, [], ◌++◌, get_or, slice_index_or}
 use Rattle.std.specs.Option.{option_map_or}
 use Rattle.std.proofs.lemmas.List.{length-set}
-use Rattle.uplink_model.specs.air_source.specs.declared.links.LinkFrame.{LinkFrame}
+use Rattle.air_source.specs.declared.links.LinkFrame.{LinkFrame}
 use Rattle.window_config.specs.declared.config.Config.{Config as SpecConfig}
 use Rattle.window_config.specs.declared.endpoints.EndpointConfig.{EndpointConfig}
-use Rattle.uplink_model.specs.plan_model.specs.Packs.{Message}
-use Rattle.uplink_model.specs.unit_model.specs.declared.jobs.UplinkJob.{UplinkJob as SpecJob}
-use Rattle.uplink_model.specs.plan_model.proofs.ListLemmas.{endpoint_is}
+use Rattle.plan_model.specs.Packs.{Message}
+use Rattle.unit_model.specs.declared.jobs.UplinkJob.{UplinkJob as SpecJob}
+use Rattle.plan_model.proofs.ListLemmas.{endpoint_is}
 use Rattle.uplink_model.specs.Frames.{Antenna, uplink_frames_from, uplink_message_frames}
 use Rattle.uplink_model.specs.Messages.{frame_count, uplink_frames_before, number_behind}
 use Rattle.uplink_path.specs.Emitting.{AreNumbered}
