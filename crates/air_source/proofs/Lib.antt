@@ -2,3 +2,10 @@ pub mod Blocks
 pub mod Causes
 pub mod Stops
 pub mod Texts
+pub mod Fronts
+pub mod Turns
+pub mod Sums
+pub mod Grids
+pub mod ToneBlocks
+pub mod CellParts
+pub mod Masks

@@ -8,3 +8,10 @@ pub mod MovesLaws
 pub mod Stops
 pub mod Tellings
 pub mod Units
+pub mod SinkCauses
+pub mod Stopping
+pub mod Tones
+pub mod Steps
+pub mod CellLines
+pub mod SymbolWords
+pub mod UnitLines

@@ -4,14 +4,14 @@ ghost use Rattle.std.specs.Io.KnownBytes.{append_known};
 ghost use Rattle.fh_base.specs.Told.{WritesFront};
 ghost use Rattle.air_source.specs.Causes.{HasAirCause};
 ghost use Rattle.air_source.specs.declared.events.Event.TheVariants.{Arrival};
-ghost use Rattle.capture_air.specs.Capture.{whole_capture};
+ghost use Rattle.report_airs.specs.Capture.{whole_capture};
 
 use crate::built::{calls, missing};
 use air_source::{Air, AirFault, Side};
-use capture_air::CaptureAir;
 use fault_counters::Counter;
 use fh_base::{MemorySink, PlainSink, Sink};
 use fh_time::Ticks;
+use report_airs::CaptureAir;
 use std::test::Fail;
 
 /// Writes the capture of one frame that arrived, which shows how a caller makes, tells and finishes the air.

@@ -1,10 +1,11 @@
 // Lines that were written down by hand: each kind, and those of the greatest values.
 use crate::built::{missing, ramp};
-use air_source::{AirCell, Side};
+use air_source::{
+    AirCell, Line, Side, cell_line, count_line, delay_line, put_cell, put_count, put_delay,
+};
 use bfp_codec::Wide;
 use fault_counters::Counter;
 use fh_time::{Slot, Ticks};
-use report_lines::{Line, cell_line, count_line, delay_line, put_cell, put_count, put_delay};
 
 /// A cell whose every field has its greatest or least value.
 fn longest() -> AirCell {

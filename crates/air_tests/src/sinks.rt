@@ -1,9 +1,7 @@
 // What is owed to a sink, and a sink that fails.
 use crate::built::calls;
-use air_sinks::{push_out, tell};
-use air_source::AirFault;
-use fh_base::{MemorySink, PlainSink};
-use owed_bytes::OwedBytes;
+use air_source::{AirFault, push_out, tell};
+use fh_base::{MemorySink, OwedBytes, PlainSink};
 use std::test::Fail;
 
 #[test]

@@ -4,9 +4,9 @@ ghost use Rattle.std.specs.Io.KnownBytes.{append_known};
 ghost use Rattle.fh_base.specs.Told.{WritesFront};
 ghost use Rattle.air_source.specs.Causes.{HasAirCause};
 ghost use Rattle.air_source.specs.declared.events.Event.TheVariants.{Cell};
-ghost use Rattle.sum_air.specs.Airs.{sink_name, sink_of, owed_of, sums_of};
-ghost use Rattle.sum_air.specs.States.{sum_start};
-ghost use Rattle.sum_air.specs.Summary.{whole_summary};
+ghost use Rattle.report_airs.specs.SumAirs.{sink_name, sink_of, owed_of, sums_of};
+ghost use Rattle.report_airs.specs.States.{sum_start};
+ghost use Rattle.report_airs.specs.Summary.{whole_summary};
 
 use crate::built::{calls, missing, ramp};
 use crate::telling::tell_cells;
@@ -14,8 +14,8 @@ use air_source::{Air, AirCell, AirFault, Side};
 use fault_counters::Counter;
 use fh_base::{MemorySink, PlainSink, Sink};
 use fh_time::{Slot, Ticks};
+use report_airs::{SumAir, Sums};
 use std::test::Fail;
-use sum_air::{SumAir, Sums};
 
 /// Tells a fresh air the cells, and finishes it.
 fn tell_all<K: Sink>(cells: &[AirCell], air: &mut SumAir<'_, K>) -> Result<(), AirFault>

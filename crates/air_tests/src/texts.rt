@@ -4,7 +4,7 @@ ghost use Rattle.std.specs.Io.KnownBytes.{append_known};
 ghost use Rattle.fh_base.specs.Told.{WritesFront};
 ghost use Rattle.air_source.specs.Causes.{HasAirCause};
 ghost use Rattle.air_source.specs.declared.events.Event.TheVariants.{Cell};
-ghost use Rattle.text_air.specs.Text.{whole_text};
+ghost use Rattle.report_airs.specs.Text.{whole_text};
 
 use crate::built::{calls, level, missing};
 use crate::telling::tell_cells;
@@ -12,8 +12,8 @@ use air_source::{Air, AirCell, AirFault, Side};
 use fault_counters::Counter;
 use fh_base::{MemorySink, PlainSink, Sink};
 use fh_time::Ticks;
+use report_airs::{CountAir, TextAir};
 use std::test::Fail;
-use text_air::{CountAir, TextAir};
 
 /// Writes the report of some cells, which shows how a caller makes, tells and finishes the air.
 fn write_cells<K: Sink>(cells: &[AirCell], out: &mut K) -> Result<(), AirFault>

@@ -2,13 +2,12 @@
 ghost use Rattle.std.specs.Prelude.{◌≡◌, ◌<◌, ◌≤◌};
 ghost use Rattle.air_source.specs.Answers.{AnswersBy, Fits16, block_of};
 ghost use Rattle.air_source.specs.Kept.{IsKept, closure_of};
-ghost use Rattle.tone_source.specs.Tones.{tone_of};
-ghost use Rattle.tone_source.specs.declared.values.Tone.{Tone};
+ghost use Rattle.air_source.specs.Tones.{tone_of};
+ghost use Rattle.air_source.specs.declared.tones.Tone.{Tone};
 
-use air_source::{RePlace, Samples};
+use air_source::{RePlace, Samples, Tone, ToneSteps, tone};
 use bfp_codec::{Iq, Wide};
 use fh_time::Slot;
-use tone_source::{Tone, ToneSteps, tone};
 
 /// The first slot of a frame.
 fn slot_of(frame: i64) -> Slot {

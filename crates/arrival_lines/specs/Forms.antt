@@ -3,7 +3,7 @@
 use Rattle.std.specs.Prelude.{ℕ, ℤ, ◌+◌, List, Bool, ◌&&◌, ◌||◌, Option, Some, None, if◌then◌else◌, codes}
 use Rattle.std.specs.Option.{is_some}
 use Rattle.std.specs.Str.{bytes_eq}
-use Rattle.text_lines.specs.Numbers.{word_at}
+use Rattle.fh_base.specs.Numbers.{word_at}
 use Rattle.picture_lines.specs.Numbers.{taking, numeral, keyed, integer, digit, after, is_id, is_mask, most}
 use Rattle.arrival_lines.specs.declared.forms.Command.{Command}
 use Rattle.arrival_lines.specs.declared.arrivals.Margins.{Margins}

@@ -1,7 +1,7 @@
 -- The windows of a text (O-RAN.WG4.CUS, section 2.3, delay management), and where times stand in a picture of them.
 use Rattle.std.specs.Prelude.{ℕ, ℤ, pos, ◌+◌, ◌+ℤ◌, List, length, max, ◌&&◌, ◌==◌, Option, Some, None, if◌then◌else◌, codes}
 use Rattle.std.specs.Str.{bytes_eq}
-use Rattle.text_lines.specs.Numbers.{word_at}
+use Rattle.fh_base.specs.Numbers.{word_at}
 use Rattle.picture_lines.specs.Numbers.{taking, numeral}
 use Rattle.picture_lines.specs.Scales.{or_zero, scaled}
 use Rattle.arrival_lines.specs.declared.windows.Window.{Window}

@@ -1,5 +1,5 @@
 // Fields of bits and numbers of bytes, worked out by hand.
-use bit_fields::{field_at, number_at, put_number};
+use bfp_codec::{field_at, number_at, put_number};
 
 #[test]
 fn fields_of_bits(rt: HostRuntime) {

@@ -1,4 +1,4 @@
-//! Tests of bytes, lists and tables, by the public calls of `bit_fields`, `fh_base`, `text_lines`, `owed_bytes`, `eaxc_map`,
+//! Tests of bytes, lists and tables, by the public calls of `bfp_codec`, `fh_base`, `fh_base`, `fh_base`, `eaxc_map`,
 //! `fault_counters` and `window_config`, which are proved without them.
 #![tactic(auto)]
 

@@ -1,5 +1,5 @@
 // Each kind of word, and a line that is full.
-use text_lines::{Line, number_in};
+use fh_base::{Line, number_in};
 
 #[test]
 fn decimal_numbers(rt: HostRuntime) {

@@ -1,7 +1,6 @@
 // Texts at the edge of the room, and sinks that fail in a long one.
 use crate::lists::calls;
-use fh_base::{MemorySink, PlainSink, SinkFault};
-use owed_bytes::OwedBytes;
+use fh_base::{MemorySink, OwedBytes, PlainSink, SinkFault};
 use std::test::Fail;
 
 #[test]

@@ -2,16 +2,14 @@
 ghost use Rattle.std.specs.Prelude.{◌≡◌, ◌<◌, ◌≤◌};
 ghost use Rattle.air_source.specs.Answers.{Fits16};
 ghost use Rattle.air_source.specs.Kept.{IsKept};
-ghost use Rattle.tone_source.specs.Tones.{tone_of};
+ghost use Rattle.air_source.specs.Tones.{tone_of};
 
 use crate::words::Ending;
-use air_source::{AirCell, RePlace, Samples, Side};
+use air_source::{AirCell, RePlace, Samples, Side, Tone, ToneSteps, put_cell};
 use bfp_codec::Wide;
+use fh_base::Line;
 use fh_time::{FRAME, Slot, Ticks};
-use report_lines::put_cell;
 use std::io;
-use text_lines::Line;
-use tone_source::{Tone, ToneSteps};
 
 const SLOT: Slot = Slot {
     frame: 1,

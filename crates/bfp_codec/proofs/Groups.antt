@@ -4,10 +4,10 @@ use Rattle.std.proofs.lemmas.Bool.{cases_lt}
 use Rattle.std.proofs.lemmas.List.{ext_get_or}
 use Rattle.std.proofs.lemmas.Nat.{mul-le, pow-add, shl_whole, shr-shr, shr_below, and_mask, shr_split, or_shifted}
 use Rattle.std.proofs.Math.Nat.{mod-eq_of_lt}
-use Rattle.bit_fields.specs.Field.{field, signed, digits}
-use Rattle.bit_fields.proofs.Same.{digits_same}
+use Rattle.bfp_codec.specs.Field.{field, signed, digits}
+use Rattle.bfp_codec.proofs.Same.{digits_same}
 use Rattle.bfp_codec.proofs.Spelled.{digits_split}
-use Rattle.bit_fields.proofs.Field.{field_of_field, field_split, field_fits}
+use Rattle.bfp_codec.proofs.Field.{field_of_field, field_split, field_fits}
 use Rattle.bfp_codec.specs.declared.samples.Wide.{Wide}
 use Rattle.bfp_codec.specs.Samples.{no_wide, pair_of, wide_block}
 use Rattle.bfp_codec.specs.Eight.{value_in, four_in, number_in}

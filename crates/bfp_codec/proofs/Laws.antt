@@ -5,8 +5,8 @@ use Rattle.std.proofs.lemmas.Nat.{pow_pos, pow-add, shr_split, mod_below, shl-sh
 use Rattle.std.proofs.lemmas.Bool.{cases_lt}
 use Rattle.std.proofs.Math.IntN.{pos-*ℤ-pos}
 use Rattle.std.proofs.Math.Nat.{mul_assoc}
-use Rattle.bit_fields.specs.Field.{field}
-use Rattle.bit_fields.proofs.Same.{digits_same}
+use Rattle.bfp_codec.specs.Field.{field}
+use Rattle.bfp_codec.proofs.Same.{digits_same}
 use Rattle.bfp_codec.specs.declared.samples.Iq.{Iq}
 use Rattle.bfp_codec.specs.declared.methods.Method.{Method}
 use Rattle.bfp_codec.specs.declared.methods.Method.TheVariants.{Plain, Bfp}

@@ -7,3 +7,8 @@ pub mod Laws
 pub mod Groups
 pub mod Filling
 pub mod Whole
+pub mod Field
+pub mod Digits
+pub mod Same
+pub mod Cut
+mod Worked

@@ -2,10 +2,10 @@
 use Rattle.std.proofs.Common.{◌≡◌, ℕ, ℤ, zero, suc, ◌+◌, ◌*◌, ◌/◌, ◌%◌, ◌^◌, ◌<◌, ◌≤◌, List, [], ◌∷◌, length, get_or, refl, sym, ap, subst, ◌∙◌, arith, add-zero, add-suc, add_assoc}
 use Rattle.std.proofs.Math.Nat.{mul-suc, mul-zero, mod-eq_of_lt}
 use Rattle.std.proofs.lemmas.Nat.{pow-add, mod_below, mod-pow-add}
-use Rattle.bit_fields.specs.Field.{field, signed, digits}
-use Rattle.bit_fields.proofs.Field.{field_split, field_fits, field_byte, field_drop, field_of_field}
-use Rattle.bit_fields.proofs.Digits.{field_digits, digits_fit, same_digits}
-use Rattle.bit_fields.proofs.Same.{same_bytes}
+use Rattle.bfp_codec.specs.Field.{field, signed, digits}
+use Rattle.bfp_codec.proofs.Field.{field_split, field_fits, field_byte, field_drop, field_of_field}
+use Rattle.bfp_codec.proofs.Digits.{field_digits, digits_fit, same_digits}
+use Rattle.bfp_codec.proofs.Same.{same_bytes}
 use Rattle.bfp_codec.specs.Exponent.{Within}
 use Rattle.bfp_codec.specs.Layout.{twos, be_bytes, number_bytes, Spells, SpellsPlain}
 use Rattle.bfp_codec.proofs.Twos.{twos_fits, signed_twos}

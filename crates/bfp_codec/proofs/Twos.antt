@@ -12,7 +12,7 @@ use Rattle.std.proofs.lemmas.Bool.Decides.{nat_tests}
 use Rattle.std.proofs.lemmas.Bool.{le-ltb, lt-ltb, cases_lt, cond-true, cond-false}
 use Rattle.std.proofs.lemmas.Nat.{pow_pos, pow-add, one_shl, and_mask, mod_low, shl_below, shl-shr, div-mul-add, mul-le, mod-pow-add}
 use Rattle.std.proofs.lemmas.Nat.Bits.{ones_shr}
-use Rattle.bit_fields.specs.Field.{signed}
+use Rattle.bfp_codec.specs.Field.{signed}
 use Rattle.bfp_codec.specs.Exponent.{Within, floor_of}
 use Rattle.bfp_codec.specs.Layout.{twos}
 use Rattle.bfp_codec.specs.Magnitude.{magnitude_of}

@@ -1,8 +1,8 @@
 -- The bytes of a whole block from its three groups, and its samples from them.
 use Rattle.std.proofs.Common.{◌≡◌, ℕ, ℤ, pos, ◌+◌, ◌*◌, ◌^◌, ◌<◌, ◌≤◌, ◌*ℤ◌, List, ◌∷◌, length, get_or, sym, ap, ◌∙◌, arith}
-use Rattle.bit_fields.specs.Field.{field, signed, digits}
-use Rattle.bit_fields.proofs.Field.{field_byte}
-use Rattle.bit_fields.proofs.Same.{digits_same}
+use Rattle.bfp_codec.specs.Field.{field, signed, digits}
+use Rattle.bfp_codec.proofs.Field.{field_byte}
+use Rattle.bfp_codec.proofs.Same.{digits_same}
 use Rattle.bfp_codec.specs.declared.samples.Iq.{Iq}
 use Rattle.bfp_codec.specs.declared.samples.Wide.{Wide}
 use Rattle.bfp_codec.specs.declared.methods.Method.TheVariants.{Plain, Bfp}

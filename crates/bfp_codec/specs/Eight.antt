@@ -1,6 +1,6 @@
 -- Signed numbers of one width side by side, in a number and in bytes.
 use Rattle.std.specs.Prelude.{ℕ, ℤ, pos, ◌+◌, ◌-◌, ◌*◌, ◌/◌, ◌%◌, ◌^◌, ◌*ℤ◌, List}
-use Rattle.bit_fields.specs.Field.{field, signed}
+use Rattle.bfp_codec.specs.Field.{field, signed}
 
 -- number j of the eight of w bits that a number spells, times 2 ^ e
 abbrev pub value_in : ℕ → ℕ → ℕ → ℕ → ℤ

@@ -1,6 +1,6 @@
 -- The bytes of a packed PRB (O-RAN.WG4.CUS, U-plane section: udCompParam and iSample, qSample).
 use Rattle.std.specs.Prelude.{ℕ, zero, suc, ℤ, pos, negsuc, ◌+◌, ◌-◌, ◌*◌, ◌/◌, ◌%◌, ◌^◌, ◌<◌, ◌≤◌, ◌≡◌, ◌*ℤ◌, List, [], ◌∷◌, length, slice_index}
-use Rattle.bit_fields.specs.Field.{field, signed, digits}
+use Rattle.bfp_codec.specs.Field.{field, signed, digits}
 use Rattle.bfp_codec.specs.declared.samples.Iq.{Iq}
 use Rattle.bfp_codec.specs.declared.samples.Wide.{Wide}
 use Rattle.bfp_codec.specs.declared.methods.Method.{Method}

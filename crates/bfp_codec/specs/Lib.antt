@@ -5,3 +5,5 @@ pub mod Shrunk
 pub mod Bytes
 pub mod Magnitude
 pub mod Eight
+pub mod Field
+pub mod Cut

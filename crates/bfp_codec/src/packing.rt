@@ -1,5 +1,5 @@
 ghost use Rattle.std.specs.Prelude.{◌≡◌, ℕ, ◌+◌, ◌*◌, ◌-◌, ◌<◌, ◌≤◌, ◌^◌, ◌⊎◌, length, slice_index, take};
-ghost use Rattle.bit_fields.specs.Field.{field, digits};
+ghost use Rattle.bfp_codec.specs.Field.{field, digits};
 ghost use Rattle.bfp_codec.specs.Samples.{component, samples_of};
 ghost use Rattle.bfp_codec.specs.Exponent.{floor_of, Within, BlockFits};
 ghost use Rattle.bfp_codec.specs.Layout.{HasWidth, IsLaidOut, length_of, twos, packed_of, unpacked_of};
@@ -11,8 +11,8 @@ ghost use Rattle.bfp_codec.specs.declared.methods.Method.TheVariants.{Plain, Bfp
 use crate::exponents::exponent;
 use crate::methods::{Method, block_len};
 use crate::packed_bytes::Packed;
+use crate::put_number;
 use crate::samples::Iq;
-use bit_fields::put_number;
 
 /// The whole number at or below `x` over a power of two.
 #[inline(always)]

@@ -1,5 +1,5 @@
 ghost use Rattle.std.specs.Prelude.{◌≡◌, ℕ, pos, ◌*ℤ◌, ◌+◌, ◌*◌, ◌-◌, ◌<◌, ◌≤◌, ◌^◌, ◌/◌, ◌%◌, ◌⊎◌, length, slice_index_or};
-ghost use Rattle.bit_fields.specs.Field.{field, signed};
+ghost use Rattle.bfp_codec.specs.Field.{field, signed};
 ghost use Rattle.bfp_codec.specs.Samples.{no_wide, pair_of};
 ghost use Rattle.bfp_codec.specs.Eight.{value_in, four_in, number_in};
 ghost use Rattle.bfp_codec.specs.Exponent.{floor_of, Within};
@@ -7,8 +7,8 @@ ghost use Rattle.bfp_codec.specs.Layout.{HasWidth, length_of, unpacked_of};
 ghost use Rattle.bfp_codec.specs.declared.methods.Method.TheVariants.{Plain, Bfp};
 
 use crate::methods::Method;
+use crate::number_at;
 use crate::samples::Wide;
-use bit_fields::number_at;
 
 /// The whole number at or below `x` over a power of two.
 #[inline(always)]
@@ -74,7 +74,7 @@ fn put_four(into: &mut [Wide; 12], part: usize, number: u128, width: u8, e: u8)
 
 /// The exponent in udCompParam.
 #[inline(always)]
-#[tactic(auto, using(std::proofs::lemmas::Grind::common_steps, bit_fields::proofs::Field::fields))]
+#[tactic(auto, using(std::proofs::lemmas::Grind::common_steps, crate::proofs::Field::fields))]
 fn exponent_at(bytes: &[u8]) -> u8
     requires { 1 ≤ length bytes.now }
     ensures value { result ≡ field bytes.now 4 4 }
@@ -85,7 +85,7 @@ fn exponent_at(bytes: &[u8]) -> u8
 
 /// Four bytes from a place on, as one number.
 #[inline(always)]
-#[tactic(auto, using(bit_fields::proofs::Field::field_word))]
+#[tactic(auto, using(crate::proofs::Field::field_word))]
 fn half_at(bytes: &[u8], at: usize) -> u32
     requires { at + 4 ≤ length bytes.now }
     ensures { result ≡ field bytes.now (8 * at) 32 }
@@ -205,7 +205,7 @@ fn unpack_bfp(width: u8, bytes: &[u8], into: &mut [Wide; 12])
 
 /// Two bytes from a place on, as one number.
 #[inline(always)]
-#[tactic(auto, using(bit_fields::proofs::Field::field_half))]
+#[tactic(auto, using(crate::proofs::Field::field_half))]
 fn pair_at(bytes: &[u8], at: usize) -> u16
     requires { at + 2 ≤ length bytes.now }
     ensures { result ≡ field bytes.now (8 * at) 16 }

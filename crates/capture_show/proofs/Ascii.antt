@@ -14,7 +14,7 @@ use Rattle.cplane_sections.specs.declared.values.CWhy.TheVariants as command
 use Rattle.ecpri_frames.specs.declared.refusals.PduWhy.TheVariants as frame
 use Rattle.capture_show.specs.declared.values.Word.{Word}
 use Rattle.capture_show.specs.declared.values.Word.TheVariants.{Hex2, Hex3, Hex4, Way, Command, Fragmented, Frame}
-use Rattle.text_lines.specs.Words.{hex2_text, hex3_text}
+use Rattle.fh_base.specs.Words.{hex2_text, hex3_text}
 use Rattle.capture_show.specs.Lines.{word_text}
 
 -- a test of a text that is written out

@@ -1,9 +1,9 @@
 -- The texts of members that are told one after the other.
 use Rattle.std.proofs.Common.{◌≡◌, ℕ, ◌+◌, List, ◌++◌, Option, ap₂, subst}
 use Rattle.fh_base.specs.Told.{WritesPart}
-use Rattle.owed_bytes.specs.Owed.{Carried}
-use Rattle.owed_bytes.specs.CarriedLaws.{carried_more}
-use Rattle.owed_bytes.proofs.Parts.{part_behind}
+use Rattle.fh_base.specs.Owed.{Carried}
+use Rattle.fh_base.specs.CarriedLaws.{carried_more}
+use Rattle.fh_base.proofs.Parts.{part_behind}
 
 -- one text and then another, by what they are
 pub carried_pair : (w v u : Option (List ℕ)) (o p q a b first second : List ℕ) → a ≡ first → b ≡ second → Carried w o a v p → Carried v p b u q

@@ -1,2 +1,2 @@
 -- The rules of fields of bits, for tactics.
-pub use Rattle.bit_fields.proofs.Field.{fields}
+pub use Rattle.bfp_codec.proofs.Field.{fields}

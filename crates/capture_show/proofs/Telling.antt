@@ -1,9 +1,9 @@
 -- Lines that are told one after the other.
 use Rattle.std.proofs.Common.{◌≡◌, ℕ, Bool, true, List, [], ◌∷◌, ◌++◌, Option, refl, sym, ap, ap₂, subst, append_assoc, append-nil, ◌∙◌}
 use Rattle.fh_base.specs.Told.{WritesPart}
-use Rattle.owed_bytes.specs.Owed.{Carried}
-use Rattle.owed_bytes.specs.CarriedLaws.{carried_none, carried_more}
-use Rattle.owed_bytes.proofs.Parts.{part_first, part_behind}
+use Rattle.fh_base.specs.Owed.{Carried}
+use Rattle.fh_base.specs.CarriedLaws.{carried_none, carried_more}
+use Rattle.fh_base.proofs.Parts.{part_first, part_behind}
 use Rattle.capture_show.specs.Lines.{ShownLine}
 use Rattle.capture_show.specs.Texts.{piece, pieces}
 use Rattle.capture_show.specs.Printing.{State, Told, Stopped, later_behind}

@@ -2,10 +2,10 @@
 use Rattle.std.proofs.Common.{◌≡◌, ℕ, Bool, false, List, [], ◌++◌, Option, sym, ap, ap₂, subst, append_assoc, ◌∙◌}
 use Rattle.std.specs.Io.KnownBytes.{append_known}
 use Rattle.fh_base.specs.Told.{WritesFront, WritesPart}
-use Rattle.owed_bytes.specs.Owed.{Carried}
-use Rattle.owed_bytes.specs.CarriedLaws.{carried_more}
-use Rattle.owed_bytes.proofs.Carrying.{front_behind, all_behind}
-use Rattle.owed_bytes.proofs.Parts.{part_first, part_behind}
+use Rattle.fh_base.specs.Owed.{Carried}
+use Rattle.fh_base.specs.CarriedLaws.{carried_more}
+use Rattle.fh_base.proofs.Carrying.{front_behind, all_behind}
+use Rattle.fh_base.proofs.Parts.{part_first, part_behind}
 use Rattle.capture_show.specs.Lines.{ShownLine}
 use Rattle.capture_show.specs.Texts.{pieces, lines_text, front_text, end_text}
 use Rattle.capture_show.specs.Printing.{State, Told, Stopped}

@@ -4,7 +4,7 @@ use Rattle.std.specs.Prelude.{ℕ, ℤ, Bool, true, false, List, codes, decimal,
 use Rattle.std.specs.Fmt.{signed_decimal}
 use Rattle.cplane_sections.specs.Names.{name_of as command_why}
 use Rattle.ecpri_frames.specs.Refusals.{name_of as frame_why}
-use Rattle.text_lines.specs.Words.{hex4_text, hex3_text, hex2_text}
+use Rattle.fh_base.specs.Words.{hex4_text, hex3_text, hex2_text}
 use Rattle.capture_show.specs.declared.values.Kind.{Kind}
 use Rattle.capture_show.specs.declared.values.Kind.TheVariants as kind
 use Rattle.capture_show.specs.declared.values.Name.{Name}

@@ -1,6 +1,6 @@
 -- How far lines were printed (this project's profile).
 use Rattle.std.specs.Prelude.{◌≡◌, ℕ, Bool, true, List, [], ◌∷◌, ◌++◌, Option}
-use Rattle.owed_bytes.specs.Owed.{Carried}
+use Rattle.fh_base.specs.Owed.{Carried}
 use Rattle.fh_base.specs.Told.{WritesPart}
 use Rattle.capture_show.specs.declared.printing.Printer.{Printer}
 use Rattle.capture_show.specs.Lines.{ShownLine}

@@ -11,10 +11,10 @@ use crate::line::Shown;
 use crate::names::{kind_text, name_text};
 use crate::values::{Field, Word};
 use crate::words::put_word;
+use fh_base::Line;
 use serde_json::{Map, Value, put};
 use std::alloc::{AllocError, Global};
 use std::str::from_utf8;
-use text_lines::Line;
 
 // A word as a string.
 fn word_value(alloc: Global, word: Word) -> Result<Value, AllocError>

@@ -1,7 +1,7 @@
 // Lines on their way to a sink, as text or as JSON.
 ghost use Rattle.std.specs.Prelude.{◌≡◌, ◌≤◌, ◌++◌, [], ◌∷◌, length, OnOk, OnErr};
 ghost use Rattle.fh_base.specs.Told.{WritesFront, WritesPart};
-ghost use Rattle.owed_bytes.specs.Owed.{Carried};
+ghost use Rattle.fh_base.specs.Owed.{Carried};
 ghost use Rattle.serde_json.specs.Written.{comma_if, compact_text};
 ghost use Rattle.capture_show.specs.Faults.{HasWriteCause};
 ghost use Rattle.capture_show.specs.Texts.{member_text, line_text, object_of};
@@ -14,11 +14,9 @@ use crate::objects::object_text;
 use crate::opening::{ending, opening};
 use crate::values::Member;
 use crate::words::put_field;
-use fh_base::{Sink, SinkFault};
+use fh_base::{Line, OwedBytes, Sink, SinkFault};
 use member_lines::lead;
-use owed_bytes::OwedBytes;
 use std::alloc::Global;
-use text_lines::Line;
 
 /// What prints lines, one after the other.
 #[derive(Drop)]

@@ -3,8 +3,8 @@ ghost use Rattle.std.specs.Prelude.{◌≡◌, ◌+◌, ◌≤◌, ◌++◌, len
 ghost use Rattle.capture_show.specs.Lines.{word_text, field_text};
 
 use crate::values::{Field, Word};
+use fh_base::Line;
 use member_lines::way;
-use text_lines::Line;
 
 /// Appends a word.
 pub fn put_word(line: &mut Line, word: Word)

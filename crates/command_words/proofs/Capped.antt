@@ -2,7 +2,7 @@
 use Rattle.std.proofs.Common.{◌≡◌, ℕ, ◌+◌, ◌*◌, ◌<◌, List, length, min, take, get_or, refl, ap, ◌∙◌, arith}
 use Rattle.std.specs.Char.{digit_value}
 use Rattle.std.specs.Str.Parse.{digits_value}
-use Rattle.text_lines.proofs.DigitSteps.{value_more}
+use Rattle.fh_base.proofs.DigitSteps.{value_more}
 
 -- one digit more, capped before and after
 capped : (v d h : ℕ) → min (min v h * 10 + d) h ≡ min (v * 10 + d) h

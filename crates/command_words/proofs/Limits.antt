@@ -4,7 +4,7 @@ use Rattle.std.specs.Prelude.{Some, None, Option, if◌then◌else◌}
 use Rattle.std.specs.Str.{bytes_eq}
 use Rattle.std.specs.Str.Parse.{digits_value}
 use Rattle.std.proofs.lemmas.Bool.Decides.{nat_tests}
-use Rattle.text_lines.specs.Numbers.{is_decimal, number_in}
+use Rattle.fh_base.specs.Numbers.{is_decimal, number_in}
 use Rattle.command_words.specs.Words.{bare_command, command_of, command_with_four, command_with_one, command_with_three, command_with_two, count_in, frame_in, whose_in, least_in, plain_in, seed_in, slots_in, start_in, step_in, subframe_in, subframes_in, with_both, with_frames, with_grid}
 use Rattle.command_words.specs.declared.commands.Command.{Command}
 use Rattle.command_words.specs.declared.commands.Command.TheVariants.{Replay, Summary, Capture, Show, Explain, Sent, Windows, Fit, Generate, Trial, Shared, Idle, DrawGrid, DrawWindows, Pcap, PcapCapture}

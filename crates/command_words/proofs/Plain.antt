@@ -12,7 +12,7 @@ use Rattle.std.proofs.lemmas.Str.Ascii.{IsAscii-nil, IsAscii-cons}
 use Rattle.std.proofs.lemmas.Bool.Decides.{nat_tests}
 use Rattle.air_source.specs.declared.events.Side.{Side}
 use Rattle.air_source.specs.declared.events.Side.TheVariants.{Ru, Du}
-use Rattle.text_lines.specs.Numbers.{number_in, is_decimal, word_at}
+use Rattle.fh_base.specs.Numbers.{number_in, is_decimal, word_at}
 use Rattle.command_words.specs.Words.{address_in, bare_command, bytes_in, command_of, command_with_four, command_with_one, command_with_three, command_with_two, count_in, frame_in, whose_by, whose_in, least_in, plain_in, seed_in, slots_in, start_in, step_in, subframe_in, subframes_in, way_in, with_both, with_frames, with_grid}
 use Rattle.command_words.specs.declared.commands.Command.{Command}
 use Rattle.command_words.specs.declared.commands.Command.TheVariants.{Replay, Summary, Capture, Show, Explain, Sent, Windows, Fit, Generate, Trial, Shared, Pcap, PcapCapture}

@@ -15,7 +15,7 @@ use Rattle.command_words.specs.declared.faults.WordsFault.TheVariants.{BadWords}
 use Rattle.command_words.proofs.Parses.{Gives, faults_gives, flags_of, given_of, json_gives, no_flags, plain_gives, words_of}
 use Rattle.command_words.proofs.Walks.{ArePlain}
 use Rattle.command_words.proofs.Plain.{ascii_of, bare_plain, four_plain, plain_word, three_plain, two_plain, two_words, word_ascii}
-use Rattle.text_lines.specs.Numbers.{word_at}
+use Rattle.fh_base.specs.Numbers.{word_at}
 
 pub some_of : {X : Type 0} (o : Option X) → is_some o ≡ true → (x : X) × (o ≡ Some x)
 some_of None e = cc

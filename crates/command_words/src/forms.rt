@@ -7,10 +7,10 @@ ghost use Rattle.fh_time.specs.declared.nanoseconds.TheConstants.{LAST_TIME};
 use crate::commands::Command;
 use crate::numbers::plain_in;
 use air_source::Side;
+use fh_base::number_in;
 use fh_time::LAST_TIME;
 use hex::decode_to_slice;
 use pcap_frames::Whose;
-use text_lines::number_in;
 
 /// The command that one word is.
 fn bare_command(word: &str) -> Option<Command>

@@ -4,7 +4,7 @@ ghost use Rattle.std.specs.Str.{IsUtf8};
 ghost use Rattle.clap.specs.Words.{kind_of};
 ghost use Rattle.command_words.specs.Answered.{AnswersWords};
 ghost use Rattle.command_words.specs.Words.{IsProper, command_of};
-ghost use Rattle.text_lines.specs.Numbers.{word_at};
+ghost use Rattle.fh_base.specs.Numbers.{word_at};
 
 use crate::commands::Command;
 use crate::faults::WordsFault;

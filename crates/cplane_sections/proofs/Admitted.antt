@@ -4,8 +4,8 @@ use Rattle.std.specs.Prelude.{All}
 use Rattle.std.proofs.lemmas.Bool.Decides.{nat_tests}
 use Rattle.std.proofs.lemmas.Int.{ints}
 use Rattle.std.proofs.lemmas.List.Elements.{All-cons, All-nil}
-use Rattle.bit_fields.specs.Field.{field, signed, flag}
-use Rattle.bit_fields.proofs.Field.{field_fits}
+use Rattle.bfp_codec.specs.Field.{field, signed, flag}
+use Rattle.bfp_codec.proofs.Field.{field_fits}
 use Rattle.fh_time.specs.declared.values.Shape.{Shape}
 use Rattle.cplane_sections.specs.declared.values.CHead.{CHead}
 use Rattle.cplane_sections.specs.Header.{head_of, kind_of, size_of_head}

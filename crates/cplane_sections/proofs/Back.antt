@@ -2,7 +2,7 @@
 use Rattle.std.proofs.Common.{◌≡◌, ℕ, ◌+◌, ◌<◌, ◌≤◌, ◌⊎◌, inl, inr, eqb, ltb, cond, List, [], ◌∷◌, ◌++◌, length, take, drop, false, Ok, refl, sym, ap, ◌∙◌, arith}
 use Rattle.std.proofs.lemmas.Bool.Decides.{nat_tests}
 use Rattle.std.proofs.lemmas.Bool.{le-ltb}
-use Rattle.bit_fields.specs.Field.{field, flag}
+use Rattle.bfp_codec.specs.Field.{field, flag}
 use Rattle.fh_time.specs.declared.values.Shape.{Shape}
 use Rattle.cplane_sections.specs.declared.values.CBody.{CBody}
 use Rattle.cplane_sections.specs.declared.values.CBody.TheVariants.{Idle, Normal, Offset}

@@ -3,8 +3,8 @@ use Rattle.std.proofs.Common.{◌≡◌, ℕ, pos, ◌+◌, ◌*◌, ◌<◌, �
 use Rattle.std.proofs.lemmas.Bool.{cases_eq}
 use Rattle.std.proofs.lemmas.Bool.Decides.{nat_tests}
 use Rattle.std.proofs.lemmas.List.{length-append, length-take-le, get_or_append_left, get_or-take, get_or-drop, drop_at}
-use Rattle.bit_fields.specs.Field.{field, signed}
-use Rattle.bit_fields.proofs.Field.{field_same}
+use Rattle.bfp_codec.specs.Field.{field, signed}
+use Rattle.bfp_codec.proofs.Field.{field_same}
 use Rattle.cplane_sections.specs.declared.values.CHead.{CHead}
 use Rattle.cplane_sections.specs.declared.values.CSection.{CSection}
 use Rattle.cplane_sections.specs.Header.{head_of, body_of, kind_of, size_of_head}

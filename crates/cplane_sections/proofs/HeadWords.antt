@@ -1,7 +1,7 @@
 -- What the words of a header say of its fields.
 use Rattle.std.proofs.Common.{◌≡◌, ℕ, ◌+◌, ◌*◌, ◌^◌, ◌<◌, eqb, List, refl, ap, ◌∙◌, arith}
-use Rattle.bit_fields.specs.Field.{field, flag}
-use Rattle.bit_fields.proofs.Field.{field_of_word}
+use Rattle.bfp_codec.specs.Field.{field, flag}
+use Rattle.bfp_codec.proofs.Field.{field_of_word}
 use Rattle.cplane_sections.specs.declared.values.CBody.{CBody}
 use Rattle.cplane_sections.specs.declared.values.CBody.TheVariants.{Idle, Normal, Offset}
 use Rattle.cplane_sections.specs.declared.values.CHead.{CHead}

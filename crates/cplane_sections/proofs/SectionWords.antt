@@ -3,8 +3,8 @@ use Rattle.std.proofs.Common.{◌≡◌, ℕ, ℤ, pos, negsuc, ◌+◌, ◌*◌
 use Rattle.std.proofs.lemmas.Int.{ints}
 use Rattle.std.proofs.lemmas.Bool.Decides.{nat_tests}
 use mir.Syntax.{w32}
-use Rattle.bit_fields.specs.Field.{field, signed, flag}
-use Rattle.bit_fields.proofs.Field.{field_of_word}
+use Rattle.bfp_codec.specs.Field.{field, signed, flag}
+use Rattle.bfp_codec.proofs.Field.{field_of_word}
 use Rattle.cplane_sections.specs.declared.values.CSection.{CSection}
 use Rattle.cplane_sections.specs.Section.{offset_of}
 use Rattle.cplane_sections.specs.Message.{SectionFits}

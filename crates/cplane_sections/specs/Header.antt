@@ -1,6 +1,6 @@
 -- The application header of a C-plane message, as fields of its bytes (O-RAN.WG4.CUS, clause 7.5.2).
 use Rattle.std.specs.Prelude.{ℕ, List, if◌then◌else◌, ◌==◌}
-use Rattle.bit_fields.specs.Field.{field}
+use Rattle.bfp_codec.specs.Field.{field}
 use Rattle.cplane_sections.specs.declared.values.CBody.{CBody}
 use Rattle.cplane_sections.specs.declared.values.CBody.TheVariants.{Idle, Normal, Offset}
 use Rattle.cplane_sections.specs.declared.values.CHead.{CHead}

@@ -6,7 +6,7 @@ use Rattle.cplane_sections.specs.declared.values.CSection.{CSection}
 use Rattle.cplane_sections.specs.Header.{size_of_head, kind_of}
 use Rattle.cplane_sections.specs.Section.{symInc, size_of_section, section_of}
 use Rattle.cplane_sections.specs.Tests.{sections_pass}
-use Rattle.bit_fields.specs.Field.{flag}
+use Rattle.bfp_codec.specs.Field.{flag}
 
 -- n sections from a place on, where the maintained symbol number was `before`
 unfoldable pub sections_of : ℕ → ℕ → List ℕ → ℕ → ℕ → List CSection

@@ -1,6 +1,6 @@
 -- One section of a C-plane message, as fields of the bytes that it begins (O-RAN.WG4.CUS, clause 7.5.3).
 use Rattle.std.specs.Prelude.{ℕ, ℤ, pos, ◌+◌, List, if◌then◌else◌, ◌==◌}
-use Rattle.bit_fields.specs.Field.{field, signed}
+use Rattle.bfp_codec.specs.Field.{field, signed}
 use Rattle.cplane_sections.specs.declared.values.CSection.{CSection}
 
 abbrev pub sectionId : List ℕ → ℕ

@@ -7,7 +7,7 @@ use Rattle.cplane_sections.specs.Header.{payloadVersion, sectionType, idle_reser
 use Rattle.cplane_sections.specs.Section.{rb, ef, beamId, offset_reserved, size_of_section, section_of}
 use Rattle.cplane_sections.specs.Tests.{checked}
 use Rattle.cplane_sections.specs.Message.{sections_in}
-use Rattle.bit_fields.specs.Field.{flag}
+use Rattle.bfp_codec.specs.Field.{flag}
 
 -- the bytes begin with this header
 pub record WritesHead (head : CHead) (bytes : List ℕ) : Type 0 where

@@ -10,7 +10,7 @@ use crate::values::{CHead, CRefusal, CWhy};
 use fh_time::Shape;
 
 /// The maintained symbol number of the section at a place, where it was `before`, by the first test that fails.
-#[tactic(auto, using(std::proofs::lemmas::Grind::common_steps, bit_fields::proofs::Field::field_of_word))]
+#[tactic(auto, using(std::proofs::lemmas::Grind::common_steps, bfp_codec::proofs::Field::field_of_word))]
 fn symbol_at(
     bytes: &[u8],
     place: usize,

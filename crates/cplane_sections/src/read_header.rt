@@ -7,7 +7,7 @@ use crate::values::{CBody, CHead, CRefusal, CWhy};
 use fh_time::Shape;
 
 /// The header of the message, by the first test that fails.
-#[tactic(auto, using(std::proofs::lemmas::Grind::common_steps, bit_fields::proofs::Field::fields))]
+#[tactic(auto, using(std::proofs::lemmas::Grind::common_steps, bfp_codec::proofs::Field::fields))]
 pub fn head_at(bytes: &[u8], shape: Shape) -> Result<CHead, CRefusal>
     ensures value { result ≡ head_checked shape bytes.now }
     ensures room { IfOk result (λ head. size_of_head (kind_of head.body) ≤ length bytes.now) }
@@ -62,7 +62,7 @@ pub fn head_at(bytes: &[u8], shape: Shape) -> Result<CHead, CRefusal>
 }
 
 /// The fields of a header that is whole.
-#[tactic(auto, using(std::proofs::lemmas::Grind::common_steps, bit_fields::proofs::Field::fields))]
+#[tactic(auto, using(std::proofs::lemmas::Grind::common_steps, bfp_codec::proofs::Field::fields))]
 fn fields_at(bytes: &[u8], kind: u8) -> CHead
     requires is_kind { kind ≡ sectionType bytes.now }
     requires known { (kind ≡ 0) ⊎ ((kind ≡ 1) ⊎ (kind ≡ 3)) }
@@ -84,7 +84,7 @@ fn fields_at(bytes: &[u8], kind: u8) -> CHead
 }
 
 /// The fields that the section type adds.
-#[tactic(auto, using(std::proofs::lemmas::Grind::common_steps, bit_fields::proofs::Field::fields))]
+#[tactic(auto, using(std::proofs::lemmas::Grind::common_steps, bfp_codec::proofs::Field::fields))]
 fn body_at(bytes: &[u8], kind: u8) -> CBody
     requires known { (kind ≡ 0) ⊎ ((kind ≡ 1) ⊎ (kind ≡ 3)) }
     requires room { size_of_head kind ≤ length bytes.now }

@@ -1,6 +1,6 @@
 // One section, read.
 ghost use Rattle.std.specs.Prelude.{◌≡◌, ◌+◌, ◌*◌, ◌≤◌, ◌<◌, length};
-ghost use Rattle.bit_fields.specs.Field.{field};
+ghost use Rattle.bfp_codec.specs.Field.{field};
 ghost use Rattle.cplane_sections.specs.Header.{kind_of};
 ghost use Rattle.cplane_sections.specs.Section.{size_of_section, section_of, offset_of, beam_of};
 
@@ -18,7 +18,7 @@ pub fn section_size(body: CBody) -> usize
 }
 
 /// The four bytes from a place, as one number.
-#[tactic(auto, using(bit_fields::proofs::Field::field_word))]
+#[tactic(auto, using(bfp_codec::proofs::Field::field_word))]
 pub fn word_at(bytes: &[u8], at: usize) -> u32
     requires { at + 4 ≤ length bytes.now }
     ensures { result ≡ field bytes.now (8 * at) 32 }
@@ -27,7 +27,7 @@ pub fn word_at(bytes: &[u8], at: usize) -> u32
 }
 
 /// The section that the bytes begin with, after the maintained symbol number `before`.
-#[tactic(auto, using(std::proofs::lemmas::Grind::common_steps, bit_fields::proofs::Field::field_of_word))]
+#[tactic(auto, using(std::proofs::lemmas::Grind::common_steps, bfp_codec::proofs::Field::field_of_word))]
 pub fn section_at(bytes: &[u8], body: CBody, before: u8) -> CSection
     requires room { size_of_section (kind_of body) ≤ length bytes.now }
     requires symbol { before < 255 }
@@ -50,7 +50,7 @@ pub fn section_at(bytes: &[u8], body: CBody, before: u8) -> CSection
 }
 
 /// The beam, which section type 0 has not.
-#[tactic(auto, using(std::proofs::lemmas::Grind::common_steps, bit_fields::proofs::Field::field_of_word))]
+#[tactic(auto, using(std::proofs::lemmas::Grind::common_steps, bfp_codec::proofs::Field::field_of_word))]
 fn beam_at(bytes: &[u8], body: CBody) -> u16
     requires { size_of_section (kind_of body) ≤ length bytes.now }
     ensures { result ≡ beam_of (kind_of body) bytes.now }
@@ -62,7 +62,7 @@ fn beam_at(bytes: &[u8], body: CBody) -> u16
 }
 
 /// The frequency offset, which section type 3 alone has; the shift keeps its sign.
-#[tactic(auto, using(std::proofs::lemmas::Grind::common_steps, bit_fields::proofs::Field::field_of_word))]
+#[tactic(auto, using(std::proofs::lemmas::Grind::common_steps, bfp_codec::proofs::Field::field_of_word))]
 fn offset_at(bytes: &[u8], body: CBody) -> i32
     requires { size_of_section (kind_of body) ≤ length bytes.now }
     ensures { result ≡ offset_of (kind_of body) bytes.now }

@@ -2,7 +2,7 @@
 ghost use Rattle.std.specs.Prelude.{◌≡◌, ℕ, ◌+◌, ◌-◌, ◌*◌, ◌≤◌, ◌<◌, ◌^◌, [], length, take, slice_index};
 ghost use Rattle.cplane_sections.specs.Header.{size_of_head, kind_of};
 ghost use Rattle.cplane_sections.specs.Message.{HeadFits};
-ghost use Rattle.bit_fields.specs.Field.{flag};
+ghost use Rattle.bfp_codec.specs.Field.{flag};
 ghost use Rattle.cplane_sections.specs.Writes.{WritesHead, WritesMessage};
 ghost use Rattle.cplane_sections.specs.Words.{words_of, BodyFits};
 

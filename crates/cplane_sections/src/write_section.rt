@@ -1,6 +1,6 @@
 // One section, written.
 ghost use Rattle.std.specs.Prelude.{◌≡◌, ℕ, ◌+◌, ◌-◌, ◌*◌, ◌≤◌, ◌<◌, ◌^◌, ◌⊎◌, List, [], ◌∷◌, ◌++◌, length, take, slice_index, if◌then◌else◌, ◌==◌};
-ghost use Rattle.bit_fields.specs.Field.{field, flag};
+ghost use Rattle.bfp_codec.specs.Field.{field, flag};
 ghost use Rattle.fh_time.specs.declared.values.Shape.{Shape};
 ghost use Rattle.cplane_sections.specs.declared.values.CSection.{CSection};
 ghost use Rattle.cplane_sections.specs.Header.{kind_of};
@@ -11,7 +11,7 @@ ghost use Rattle.cplane_sections.specs.Writes.{WritesSection, WritesMessage, IsR
 use crate::values::{CBody, CHead, CSection};
 
 /// Writes four bytes.
-#[tactic(auto, using(std::proofs::lemmas::Grind::common_steps, bit_fields::proofs::Field::field_put))]
+#[tactic(auto, using(std::proofs::lemmas::Grind::common_steps, bfp_codec::proofs::Field::field_put))]
 pub fn put_word(into: &mut [u8], at: usize, word: u32)
     requires { at + 4 ≤ length into.old }
     ensures word { field into.new (8 * at) 32 ≡ word }
@@ -54,7 +54,7 @@ fn second_word(body: CBody, s: &CSection) -> u32
 ///
 /// `symbol` is not written, `beam` not in section type 0, `freq_offset` only in type 3. The bytes after the section stay
 /// as they are.
-#[tactic(auto, using(std::proofs::lemmas::Grind::common_steps, bit_fields::proofs::Field::field_of_word))]
+#[tactic(auto, using(std::proofs::lemmas::Grind::common_steps, bfp_codec::proofs::Field::field_of_word))]
 pub fn put_section(head: &CHead, s: &CSection, into: &mut [u8]) -> usize
     requires room { 12 ≤ length into.old }
     requires fits { SectionFits s.now }

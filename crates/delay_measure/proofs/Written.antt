@@ -1,7 +1,7 @@
 -- The fields of a payload that was written number by number.
 use Rattle.std.proofs.Common.{◌≡◌, ℕ, ◌+◌, ◌<◌, ◌≤◌, ◌⊎◌, List, get_or, refl, ◌∙◌, arith}
-use Rattle.bit_fields.specs.Field.{field, signed}
-use Rattle.bit_fields.proofs.Field.{field_byte, field_kept}
+use Rattle.bfp_codec.specs.Field.{field, signed}
+use Rattle.bfp_codec.proofs.Field.{field_byte, field_kept}
 use Rattle.delay_measure.specs.declared.message.DelayMessage.{DelayMessage}
 use Rattle.delay_measure.specs.Payload.{message_of}
 

@@ -1,6 +1,6 @@
 -- The payload of a one-way delay measurement message, as bit fields (eCPRI 2.0, section 3.2.4.6).
 use Rattle.std.specs.Prelude.{◌≡◌, ℕ, ℤ, ◌+◌, ◌*◌, List, length}
-use Rattle.bit_fields.specs.Field.{field, signed}
+use Rattle.bfp_codec.specs.Field.{field, signed}
 use Rattle.delay_measure.specs.declared.message.DelayMessage.{DelayMessage}
 
 -- Measurement ID

@@ -1,9 +1,9 @@
 // The payload of a message.
 ghost use Rattle.std.specs.Prelude.{◌≡◌, ◌<◌, ◌^◌, ◌*◌, nat_lt, if◌then◌else◌, length, Some, None};
-ghost use Rattle.bit_fields.specs.Field.{signed};
+ghost use Rattle.bfp_codec.specs.Field.{signed};
 ghost use Rattle.delay_measure.specs.Payload.{message_of, value_of, WritesMessage};
 
-use bit_fields::{number_at, put_number};
+use bfp_codec::{number_at, put_number};
 
 /// The payload of an eCPRI message of type 5, one-way delay measurement (eCPRI 2.0, section 3.2.4.6).
 #[derive(Clone, Copy, Debug, PartialEq, Eq)]
@@ -22,7 +22,7 @@ pub struct DelayMessage {
 }
 
 /// Reads the payload of a message of type 5. None exactly under 20 bytes; bytes beyond them are dummy bytes.
-#[tactic(auto, using(bit_fields::proofs::Field::field_fits))]
+#[tactic(auto, using(bfp_codec::proofs::Field::field_fits))]
 pub fn read_delay(payload: &[u8]) -> Option<DelayMessage>
     ensures { result ≡ (if nat_lt (length payload.now) 20 then None else Some (message_of payload.now)) }
 {

@@ -11,13 +11,13 @@ use Rattle.air_source.specs.declared.links.LinkFrame.{LinkFrame}
 use Rattle.fh_document.specs.Proper.{IsDocument}
 use Rattle.fh_document.specs.declared.document.Document.{Document}
 use Rattle.fragment_laws.specs.Apart.{IsIn}
-use Rattle.history_laws.proofs.SendingLemmas.{jobs_are_proper}
+use Rattle.unit_laws.proofs.SendingLemmas.{jobs_are_proper}
 use Rattle.plan_model.specs.Departures.{departures_of}
 use Rattle.plan_model.specs.Packs.{Message, alone, with_part}
 use Rattle.plan_model.specs.Valid.{IsValid}
 use Rattle.plan_model.specs.declared.streams.Stream.TheVariants.{UpData}
-use Rattle.replay_events.proofs.CameLemmas.{arrivals_in_time}
-use Rattle.replay_events.specs.Moments.{all_arrivals}
+use Rattle.replay_laws.proofs.CameLemmas.{arrivals_in_time}
+use Rattle.replay_laws.specs.Moments.{all_arrivals}
 use Rattle.schedule_laws.proofs.ListLemmas.{in_all, in_map, of_each, of_map}
 use Rattle.schedule_laws.proofs.OrderLemmas.{below_get}
 use Rattle.schedule_laws.proofs.TimeLemmas.{wait_most}
@@ -52,7 +52,7 @@ use Rattle.document_traffic.proofs.TimeLemmas.{IsBy, frame_leaves, last_sent, lo
 use Rattle.document_traffic.proofs.WithinLemmas.{each_lands}
 use Rattle.window_config.specs.declared.delays.TheConstants.{MOST_DELAY}
 use Rattle.window_config.proofs.TickLemmas.{in_ticks}
-use Rattle.history_laws.proofs.UnitLemmas.{small_is}
+use Rattle.unit_laws.proofs.UnitLemmas.{small_is}
 
 -- ---- frames that are handed over for messages
 

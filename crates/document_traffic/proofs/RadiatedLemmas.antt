@@ -17,7 +17,7 @@ use Rattle.plan_model.specs.Lines.{line_allocation}
 use Rattle.plan_model.specs.Sent.{SentFrame}
 use Rattle.plan_model.specs.Valid.{IsValid}
 use Rattle.plan_model.specs.declared.lines.PlannedLine.{PlannedLine}
-use Rattle.replay_events.specs.Moments.{all_arrivals}
+use Rattle.replay_laws.specs.Moments.{all_arrivals}
 use Rattle.replay_laws.proofs.OnceLemmas.{cells_are_reported}
 use Rattle.schedule_laws.proofs.BlockLemmas.{decoded_once}
 use Rattle.schedule_laws.proofs.CommandLemmas.{commanded_once}

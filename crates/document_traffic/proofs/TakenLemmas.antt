@@ -12,7 +12,7 @@ use Rattle.fh_document.specs.declared.document.Document.{Document}
 use Rattle.fh_time.specs.Air.{air_of}
 use Rattle.fragment_laws.specs.Apart.{IsIn}
 use Rattle.plan_model.specs.Valid.{IsValid}
-use Rattle.replay_events.specs.Moments.{all_arrivals}
+use Rattle.replay_laws.specs.Moments.{all_arrivals}
 use Rattle.replay_laws.proofs.OnceLemmas.{cells_are_reported}
 use Rattle.schedule_laws.proofs.ListLemmas.{at_in, in_all}
 use Rattle.unit_model.specs.Meetings.{Arrival}

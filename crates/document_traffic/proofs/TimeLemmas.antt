@@ -12,10 +12,10 @@ use Rattle.plan_model.specs.Valid.{IsValid}
 use Rattle.plan_model.specs.declared.lines.PlannedLine.{PlannedLine}
 use Rattle.plan_model.specs.declared.streams.Stream.{Stream}
 use Rattle.plan_model.specs.declared.streams.Stream.TheVariants.{DownCommands, UpCommands, DownData, UpData}
-use Rattle.replay_events.specs.Passing.{AreLandings}
+use Rattle.replay_laws.specs.Passing.{AreLandings}
 use Rattle.schedule_laws.proofs.SentLemmas.{IsSentStream, message_part, sent_is}
 use Rattle.schedule_laws.proofs.TimeLemmas.{wait_most}
-use Rattle.sent_order.proofs.BoundLemmas.{most_before, part_time}
+use Rattle.frame_order.proofs.BoundLemmas.{most_before, part_time}
 use Rattle.unit_model.proofs.SweepLaws.{gap_is}
 use Rattle.unit_model.specs.Meetings.{Arrival}
 use Rattle.unit_model.specs.Proper.{IsAt, IsTime}

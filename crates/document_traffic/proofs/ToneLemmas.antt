@@ -11,8 +11,8 @@ use Rattle.bfp_codec.specs.Samples.{component, no_iq}
 use Rattle.bfp_codec.specs.declared.samples.Iq.{Iq}
 use Rattle.fh_document.specs.Proper.{IsTone}
 use Rattle.fh_time.specs.declared.values.Slot.{Slot}
-use Rattle.tone_source.specs.Tones.{number_of, tone_of, wave}
-use Rattle.tone_source.specs.declared.values.Tone.{Tone}
+use Rattle.air_source.specs.Tones.{number_of, tone_of, wave}
+use Rattle.air_source.specs.declared.tones.Tone.{Tone}
 
 rest_fits : (rest amplitude : ℕ) → rest < 2 * amplitude → amplitude ≤ 32768 → Within 16 (pos rest -ℤ pos amplitude)
 rest_fits rest amplitude below high = record { low = omega (arith, ints, below, high); high = omega (arith, ints, below, high) }

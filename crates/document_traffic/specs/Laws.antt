@@ -5,8 +5,8 @@ use Rattle.air_source.specs.declared.events.Side.{Side}
 use Rattle.fh_document.specs.Proper.{IsDocument}
 use Rattle.fh_document.specs.declared.document.Document.{Document}
 use Rattle.plan_model.specs.Valid.{IsValid}
-use Rattle.replay_events.specs.Passing.{AreLandings}
-use Rattle.replay_events.specs.Traffic.{landings_at}
+use Rattle.replay_laws.specs.Passing.{AreLandings}
+use Rattle.replay_laws.specs.Traffic.{landings_at}
 use Rattle.window_config.specs.declared.endpoints.EndpointConfig.{EndpointConfig}
 use Rattle.window_config.specs.declared.plan.PlanLine.{PlanLine}
 use Rattle.document_traffic.specs.Landing.{handed_for, leaving_answer, leaving_to, leaving_up, planned_traffic}

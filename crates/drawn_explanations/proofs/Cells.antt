@@ -13,8 +13,8 @@ use Rattle.air_source.specs.declared.events.Side.{Side}
 use Rattle.air_source.specs.declared.events.Side.TheVariants.{Ru, Du}
 use Rattle.fh_time.specs.Kinds.{kind_slots, kind_symbols}
 use Rattle.fh_time.specs.Numbering.{slots_of, symbols_of}
-use Rattle.text_lines.specs.Numbers.{word_at}
-use Rattle.text_lines.specs.Words.{hex3_text, hex4_text}
+use Rattle.fh_base.specs.Numbers.{word_at}
+use Rattle.fh_base.specs.Words.{hex3_text, hex4_text}
 use Rattle.window_config.specs.declared.endpoints.EndpointConfig.{EndpointConfig}
 use Rattle.explain_lines.specs.Reasons.{word_of, word_text}
 use Rattle.explain_lines.specs.declared.places.PrbRun.{PrbRun}

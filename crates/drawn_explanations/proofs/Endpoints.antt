@@ -20,7 +20,7 @@ use Rattle.fh_time.specs.declared.kind.Kind.TheVariants.{Ordinary, Offset, Exten
 use Rattle.fh_time.specs.declared.numerology.Numerology.{Numerology}
 use Rattle.fh_time.specs.declared.spacing.Spacing.{Spacing}
 use Rattle.fh_time.specs.declared.spacing.Spacing.TheVariants.{Khz15, Khz30, Khz60, Khz120, Khz240, Khz1x25, Khz5}
-use Rattle.text_lines.specs.Words.{hex4_text}
+use Rattle.fh_base.specs.Words.{hex4_text}
 use Rattle.window_config.specs.Endpoints.{ids_of}
 use Rattle.window_config.specs.declared.endpoints.EndpointConfig.{EndpointConfig}
 use Rattle.explain_lines.specs.Lines.{endpoint_text, kind_by, line_text, method_text, mode_text, offsets_text, spacing_text}

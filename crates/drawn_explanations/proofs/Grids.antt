@@ -10,7 +10,7 @@ use Rattle.air_source.specs.Units.{way_text}
 use Rattle.air_source.specs.declared.events.Side.{Side}
 use Rattle.air_source.specs.declared.events.Side.TheVariants.{Ru, Du}
 use Rattle.line_words.specs.Words.{is_text}
-use Rattle.text_lines.specs.Words.{hex4_text}
+use Rattle.fh_base.specs.Words.{hex4_text}
 use Rattle.window_config.specs.declared.delays.Range.{Range}
 use Rattle.window_config.specs.declared.endpoints.EndpointConfig.{EndpointConfig}
 use Rattle.explain_lines.specs.declared.values.ExplainLine.{ExplainLine}

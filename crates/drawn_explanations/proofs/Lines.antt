@@ -2,7 +2,7 @@
 use Rattle.std.proofs.Common.{◌≡◌, ℕ, ◌-◌, List, [], ◌∷◌, ◌++◌, length, take, drop, Bool, false, ℤ, refl, sym, ap, ◌∙◌, arith, length-append, codes, decimal}
 use Rattle.std.specs.Prelude.{Option, if◌then◌else◌}
 use Rattle.std.specs.Fmt.{signed_decimal}
-use Rattle.text_lines.specs.Words.{hex3_text, hex4_text}
+use Rattle.fh_base.specs.Words.{hex3_text, hex4_text}
 use Rattle.air_source.specs.Units.{way_text}
 use Rattle.air_source.specs.declared.events.Side.{Side}
 use Rattle.ecpri_fragments.specs.declared.verdict.Verdict.{Verdict}
@@ -27,7 +27,7 @@ use Rattle.explain_lines.specs.declared.values.WindowName.{WindowName}
 use Rattle.fault_counters.specs.Names.{name_of}
 use Rattle.fault_counters.specs.declared.kinds.Counter.{Counter}
 use Rattle.fh_time.specs.declared.values.Ticks.{Ticks}
-use Rattle.report_lines.specs.Units.{count_text, delay_text, side_text}
+use Rattle.air_source.specs.UnitLines.{count_text, delay_text, side_text}
 use Rattle.unit_model.specs.declared.verdicts.CommandVerdict.{CommandVerdict}
 use Rattle.unit_model.specs.declared.verdicts.CommandVerdict.TheVariants as command
 use Rattle.unit_model.specs.declared.verdicts.DataVerdict.{DataVerdict}

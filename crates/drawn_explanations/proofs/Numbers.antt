@@ -13,8 +13,8 @@ use Rattle.std.proofs.lemmas.Int.{ints}
 use Rattle.std.proofs.lemmas.List.Folds.{list_all-append}
 use Rattle.std.proofs.lemmas.Slice.Eq.{bytes_eq-Decides}
 use Rattle.std.proofs.lemmas.Str.{digit_value-digit_char}
-use Rattle.text_lines.specs.Numbers.{number_in}
-use Rattle.text_lines.specs.Words.{hex3_text, hex4_text}
+use Rattle.fh_base.specs.Numbers.{number_in}
+use Rattle.fh_base.specs.Words.{hex3_text, hex4_text}
 use Rattle.picture_lines.specs.Numbers.{digit, integer, is_id, is_mask, is_name_byte, most, numeral}
 use Rattle.drawn_explanations.specs.Drawable.{IsNear}
 use Rattle.drawn_explanations.proofs.Words.{IsWord, is_letter}

@@ -5,8 +5,8 @@ use Rattle.std.specs.Fmt.{signed_decimal}
 use Rattle.std.specs.Option.{is_some}
 use Rattle.std.specs.Str.{bytes_eq}
 use Rattle.std.proofs.lemmas.Int.{ints}
-use Rattle.text_lines.specs.Numbers.{word_at}
-use Rattle.text_lines.specs.Words.{hex3_text, hex4_text}
+use Rattle.fh_base.specs.Numbers.{word_at}
+use Rattle.fh_base.specs.Words.{hex3_text, hex4_text}
 use Rattle.explain_lines.specs.Lines.{window_text}
 use Rattle.explain_lines.specs.declared.places.SymbolPlace.{SymbolPlace}
 use Rattle.explain_lines.specs.declared.places.Timing.{Timing}

@@ -4,7 +4,7 @@ use Rattle.std.specs.Prelude.{Option, Some, None, if◌then◌else◌}
 use Rattle.std.specs.Fmt.{signed_decimal}
 use Rattle.std.specs.List.{list_all}
 use Rattle.std.proofs.lemmas.Bool.Decides.{nat_tests}
-use Rattle.text_lines.specs.Words.{hex3_text, hex4_text}
+use Rattle.fh_base.specs.Words.{hex3_text, hex4_text}
 use Rattle.air_source.specs.Units.{way_text}
 use Rattle.air_source.specs.declared.events.Side.{Side}
 use Rattle.air_source.specs.declared.events.Side.TheVariants.{Ru, Du}
@@ -42,7 +42,7 @@ use Rattle.fault_counters.specs.Names.{name_of}
 use Rattle.fault_counters.specs.declared.kinds.Counter.{Counter}
 use Rattle.fault_counters.specs.declared.kinds.Counter.TheVariants as counter
 use Rattle.fh_time.specs.declared.values.Slot.{Slot}
-use Rattle.report_lines.specs.Units.{side_text}
+use Rattle.air_source.specs.UnitLines.{side_text}
 use Rattle.uplane_sections.specs.Names.{name_of as data_why}
 use Rattle.uplane_sections.specs.declared.values.UWhy.{UWhy}
 use Rattle.uplane_sections.specs.declared.values.UWhy.TheVariants as u

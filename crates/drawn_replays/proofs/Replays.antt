@@ -6,10 +6,10 @@ use Rattle.air_source.specs.declared.events.Side.TheVariants.{Du, Ru}
 use Rattle.unit_model.specs.Meetings.{Arrival}
 use Rattle.unit_model.specs.Proper.{IsTime}
 use Rattle.unit_model.specs.Standing.{AreInTime}
-use Rattle.replay_events.specs.Moments.{all_arrivals, end_of_time}
-use Rattle.replay_events.specs.Passing.{AreLandings}
-use Rattle.replay_events.specs.Traffic.{Traffic, landings_at}
-use Rattle.replay_events.proofs.CameLemmas.{arrivals_in_time}
+use Rattle.replay_laws.specs.Moments.{all_arrivals, end_of_time}
+use Rattle.replay_laws.specs.Passing.{AreLandings}
+use Rattle.replay_laws.specs.Traffic.{Traffic, landings_at}
+use Rattle.replay_laws.proofs.CameLemmas.{arrivals_in_time}
 use Rattle.explain_laws.proofs.ReplayLemmas.{arrivals_are}
 use Rattle.drawn_replays.specs.Replays.{ReplaysAreDrawn}
 use Rattle.drawn_replays.proofs.Cells.{events_placed}

@@ -4,9 +4,9 @@ use Rattle.std.specs.List.{AllByRecursion}
 use Rattle.drawable_laws.specs.Events.{AreDrawnEvents}
 use Rattle.drawn_explanations.specs.Drawable.{IsShort}
 use Rattle.explain_model.specs.Stories.{arrival_count}
-use Rattle.replay_events.specs.Events.{events}
-use Rattle.replay_events.specs.Passing.{AreLandings}
-use Rattle.replay_events.specs.Traffic.{Traffic}
+use Rattle.replay_laws.specs.Events.{events}
+use Rattle.replay_laws.specs.Passing.{AreLandings}
+use Rattle.replay_laws.specs.Traffic.{Traffic}
 use Rattle.unit_model.specs.declared.allocations.Allocation.{Allocation}
 use Rattle.window_config.specs.Configs.{IsConfig}
 use Rattle.window_config.specs.declared.config.Config.{Config}

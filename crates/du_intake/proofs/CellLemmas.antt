@@ -38,19 +38,19 @@ use Rattle.unit_laws.proofs.FarLemmas.{endpoints_equal}
 use Rattle.unit_cells.specs.Cells.{cells_block}
 use Rattle.unit_cells.proofs.TimeLemmas.{live_at}
 use Rattle.unit_cells.proofs.ToldLemmas.{told_whole}
-use Rattle.history_laws.specs.First.{IsSweptIn, told_of}
-use Rattle.history_laws.proofs.FirstLemmas.{first_is_first}
-use Rattle.history_laws.proofs.TickLemmas.{last_before}
-use Rattle.history_laws.proofs.UnitLemmas.{same_ids, not_both}
-use Rattle.history_laws.proofs.ListLemmas.{one_of_two}
+use Rattle.unit_laws.specs.First.{IsSweptIn, told_of}
+use Rattle.unit_laws.proofs.FirstLemmas.{first_is_first}
+use Rattle.unit_laws.proofs.HistoryTicks.{last_before}
+use Rattle.unit_laws.proofs.UnitLemmas.{same_ids, not_both}
+use Rattle.unit_laws.proofs.HistoryLists.{one_of_two}
 use Rattle.schedule_laws.proofs.TimeLemmas.{by_then}
 use Rattle.unit_memory.specs.Memory.{Holds}
 use Rattle.unit_memory.specs.declared.memory.UnitMemory.{UnitMemory}
 use Rattle.unit_memory.proofs.HoldLemmas.{holds_later}
-use Rattle.ru_reports.specs.Symbols.{CountsTold}
-use Rattle.symbol_search.proofs.OrderLemmas.{not_before_itself}
-use Rattle.ru_reports.proofs.CountLemmas.{stand_told}
-use Rattle.history_laws.proofs.BeforeLemmas.{same_place}
+use Rattle.unit_symbols.specs.DueSymbols.{CountsTold}
+use Rattle.unit_symbols.proofs.OrderLemmas.{not_before_itself}
+use Rattle.unit_symbols.proofs.CountLemmas.{stand_told}
+use Rattle.unit_laws.proofs.BeforeLemmas.{same_place}
 use Rattle.du_intake.specs.Cursors.{CellCursor, uplink_cell_in, is_behind}
 use Rattle.du_intake.specs.Units.{IntakeKeeps, intake_due_of}
 use Rattle.du_intake.proofs.DueLemmas.{begun_late, by_cells, cells_left, each_nothing, next_swept, nothing_if, one_cell, own_not_behind, quiet, used_cell, wait_bounds}

@@ -21,8 +21,8 @@ use Rattle.unit_model.specs.declared.cells.Claim.{Claim}
 use Rattle.unit_model.specs.declared.symbol_start.SymbolStart.{SymbolStart}
 use Rattle.unit_cells.specs.Cells.{IsSlotIn, cells_block}
 use Rattle.unit_cells.proofs.KeepLemmas.{at_rings}
-use Rattle.ru_reports.specs.Symbols.{CountsTold}
-use Rattle.history_laws.proofs.UnitLemmas.{heard_none}
+use Rattle.unit_symbols.specs.DueSymbols.{CountsTold}
+use Rattle.unit_laws.proofs.UnitLemmas.{heard_none}
 use Rattle.du_intake.specs.Calls.{IntakeStandsFor, cursor_in, next_in}
 use Rattle.du_intake.specs.Closing.{Closes, ClosesSome, IntakeGoesOn, HasClaimed, IsClaimedFrom, IntakeStandsForSome, StaysAt, IntakeStopsAtDue, at_prb}
 use Rattle.du_intake.specs.Cursors.{CellCursor, HasStillLeft, IsNamed, IsNextPlannedSymbol, uplink_cell_in}

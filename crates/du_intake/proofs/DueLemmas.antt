@@ -34,11 +34,11 @@ use Rattle.unit_laws.proofs.FrameLemmas.{symbol_short, symbols_are_swept}
 use Rattle.window_config.specs.Windows.{ticks_of_ns}
 use Rattle.unit_laws.proofs.LookupLemmas.{reported_by_lookup}
 use Rattle.unit_laws.proofs.SweepLemmas.{each_related, none_kept}
-use Rattle.history_laws.specs.First.{IsSweptIn, told_of}
-use Rattle.history_laws.proofs.FirstLemmas.{first_is_first, nothing_is_nothing}
-use Rattle.history_laws.proofs.ListLemmas.{kept_one, filter_kept, both_nothing, one_unless}
+use Rattle.unit_laws.specs.First.{IsSweptIn, told_of}
+use Rattle.unit_laws.proofs.FirstLemmas.{first_is_first, nothing_is_nothing}
+use Rattle.unit_laws.proofs.HistoryLists.{kept_one, filter_kept, both_nothing, one_unless}
 use Rattle.unit_memory.specs.declared.memory.UnitMemory.{UnitMemory}
-use Rattle.symbol_search.proofs.OrderLemmas.{not_before_itself}
+use Rattle.unit_symbols.proofs.OrderLemmas.{not_before_itself}
 use Rattle.du_intake.specs.Cursors.{CellCursor, HasStillLeft, IsNamed, uplink_cell_in, is_behind}
 use Rattle.du_intake.specs.Symbols.{planned_start_in, symbol_at}
 use Rattle.du_intake.specs.Units.{IntakeKeeps, IntakeStands, cursor_by, intake_due_of}

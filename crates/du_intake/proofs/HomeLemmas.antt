@@ -14,7 +14,7 @@ use Rattle.std.proofs.lemmas.List.Sorted.{ranks_by}
 use Rattle.fh_time.specs.declared.values.Slot.{Slot}
 use Rattle.unit_model.specs.Claims.{same_slot}
 use Rattle.unit_model.specs.Order.{slot_before}
-use Rattle.history_laws.proofs.BeforeLemmas.{slot_cases}
+use Rattle.unit_laws.proofs.BeforeLemmas.{slot_cases}
 use Rattle.plan_model.proofs.ListLemmas.{filter_same}
 use Rattle.du_intake.specs.Lines.{AreLinesInOrder, home_before, is_home, lines_at, same_home}
 use Rattle.du_intake.specs.declared.lines.UplinkLine.{UplinkLine}

@@ -19,10 +19,10 @@ use Rattle.unit_laws.proofs.DueLemmas.{due_begins}
 use Rattle.unit_memory.specs.declared.memory.UnitMemory.{UnitMemory}
 use Rattle.unit_memory.proofs.HoldLemmas.{holds_later}
 use Rattle.fh_time.specs.declared.values.Ticks.{Ticks}
-use Rattle.history_laws.proofs.TickLemmas.{last_is_earlier}
-use Rattle.history_laws.proofs.ListLemmas.{front_empty}
+use Rattle.unit_laws.proofs.HistoryTicks.{last_is_earlier}
+use Rattle.unit_laws.proofs.HistoryLists.{front_empty}
 use Rattle.slot_rings.proofs.SeenLemmas.{if_some}
-use Rattle.history_laws.proofs.UnitLemmas.{heard_more, heard_none}
+use Rattle.unit_laws.proofs.UnitLemmas.{heard_more, heard_none}
 use Rattle.du_intake.specs.Calls.{IntakeStandsFor, cursor_in, next_in}
 use Rattle.du_intake.specs.Closing.{Closes, ClosesSome, ComesLater, IntakeGoesOn, HasClaimed, IsClaimedFrom, IsNextDue, IntakeStandsForSome, StaysAt, IntakeStopsAtDue, IntakeToldAll, at_prb, symbols_left}
 use Rattle.du_intake.specs.Cursors.{CellCursor, HasStillLeft, IsNamed}

@@ -11,7 +11,7 @@ use Rattle.unit_model.specs.Order.{comes_before}
 use Rattle.unit_model.specs.declared.allocations.Allocation.{Allocation}
 use Rattle.unit_model.specs.declared.symbol_start.SymbolStart.{SymbolStart}
 use Rattle.slot_rings.proofs.SeenLemmas.{if_some}
-use Rattle.symbol_search.proofs.OrderLemmas.{not_before_earlier, not_before_itself}
+use Rattle.unit_symbols.proofs.OrderLemmas.{not_before_earlier, not_before_itself}
 use Rattle.du_intake.specs.Cursors.{IsNamed, IsNextPlannedSymbol, uplink_cell_in, is_after}
 use Rattle.du_intake.specs.Lines.{claim_in_slot, lines_at}
 use Rattle.du_intake.specs.Rows.{IsRowOf, claim_of_planned, no_claim}
@@ -25,7 +25,7 @@ use Rattle.du_intake.specs.declared.lines.UplinkLine.{UplinkLine}
 use Rattle.du_intake.specs.declared.claims.PlannedClaim.{PlannedClaim}
 use Rattle.du_intake.specs.declared.plan.UplinkPlan.{UplinkPlan}
 use Rattle.du_intake.specs.declared.symbols.PlannedSymbol.{PlannedSymbol}
-use Rattle.symbol_search.specs.Searches.{IsNotBefore}
+use Rattle.unit_symbols.specs.Searches.{IsNotBefore}
 use Rattle.fh_time.specs.declared.carrier.TheConstants.{CARRIER_PRBS}
 
 -- ---- a symbol at its place

@@ -13,14 +13,14 @@ use Rattle.unit_model.specs.declared.cells.Cell.{Cell}
 use Rattle.unit_model.specs.declared.symbol_start.SymbolStart.{SymbolStart}
 use Rattle.unit_laws.proofs.FarLemmas.{endpoints_equal}
 use Rattle.unit_memory.specs.declared.memory.UnitMemory.{UnitMemory}
-use Rattle.symbol_search.proofs.OrderLemmas.{comes_trans}
-use Rattle.history_laws.proofs.BeforeLemmas.{same_place}
+use Rattle.unit_symbols.proofs.OrderLemmas.{comes_trans}
+use Rattle.unit_laws.proofs.BeforeLemmas.{same_place}
 use Rattle.du_intake.specs.Cursors.{CellCursor, IsNextPlannedSymbol, is_behind}
 use Rattle.du_intake.specs.Units.{IntakeKeeps}
 use Rattle.du_intake.proofs.CellLemmas.{cursor_at, own_behind, own_start, swept}
 use Rattle.du_intake.proofs.UnitLemmas.{found_behind}
 use Rattle.du_intake.proofs.UsedLemmas.{used_named}
-use Rattle.symbol_search.specs.Searches.{IsNotBefore}
+use Rattle.unit_symbols.specs.Searches.{IsNotBefore}
 
 other_ahead : (a b x : Bool) → a ≡ false → b ≡ true → (a || (not b && x)) ≡ false
 other_ahead a b x h k = rw (h, k) refl

@@ -18,8 +18,8 @@ use Rattle.unit_model.proofs.BlockLemmas.{all_timely}
 use Rattle.unit_laws.proofs.HistoryLemmas.{data_are_proper}
 use Rattle.unit_cells.specs.Told.{IsTold}
 use Rattle.unit_cells.proofs.ToldLemmas.{told_whole}
-use Rattle.history_laws.specs.Arriving.{IsNextArrival}
-use Rattle.history_laws.proofs.ArrivingLemmas.{arrival_leaves_due}
+use Rattle.unit_laws.specs.Arriving.{IsNextArrival}
+use Rattle.unit_laws.proofs.ArrivingLemmas.{arrival_leaves_due}
 use Rattle.unit_memory.specs.Memory.{Holds, HoldsSome, arrival_at}
 use Rattle.unit_memory.specs.declared.memory.UnitMemory.{UnitMemory}
 use Rattle.unit_memory.proofs.HoldLemmas.{holds_later}
@@ -35,12 +35,12 @@ use Rattle.du_intake.specs.declared.plan.UplinkPlan.{UplinkPlan}
 use Rattle.du_intake.proofs.DueLemmas.{own_not_behind}
 use Rattle.du_intake.proofs.NextLemmas.{first_symbol}
 use Rattle.du_intake.proofs.UsedLemmas.{named_left, used_named}
-use Rattle.symbol_search.specs.Searches.{IsNotBefore}
+use Rattle.unit_symbols.specs.Searches.{IsNotBefore}
 use Rattle.fh_time.proofs.Orders.{at_most}
 use Rattle.unit_laws.proofs.BeginLemmas.{nothing_past}
 use Rattle.unit_model.proofs.SlotLemmas.{first_time}
 use Rattle.fh_time.specs.declared.carrier.TheConstants.{CARRIER_PRBS}
-use Rattle.history_laws.proofs.UnitLemmas.{whole_data}
+use Rattle.unit_laws.proofs.UnitLemmas.{whole_data}
 
 -- ---- what it answers
 

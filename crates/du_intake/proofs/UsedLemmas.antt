@@ -16,7 +16,7 @@ use Rattle.unit_model.specs.declared.cells.Cell.{Cell}
 use Rattle.unit_model.specs.declared.cells.Claim.{Claim}
 use Rattle.unit_model.specs.declared.symbol_start.SymbolStart.{SymbolStart}
 use Rattle.unit_laws.proofs.FarLemmas.{endpoints_equal}
-use Rattle.history_laws.proofs.UnitLemmas.{not_both}
+use Rattle.unit_laws.proofs.UnitLemmas.{not_both}
 use Rattle.schedule_laws.proofs.TimeLemmas.{first_less}
 use Rattle.du_intake.specs.Cursors.{ArePlanned, HasStillLeft, IsNamed, uplink_cell_in}
 use Rattle.unit_model.proofs.ClaimLemmas.{none_used as unused, slot_self as slot_own, covers_is}

@@ -11,7 +11,7 @@ use Rattle.unit_model.specs.Starts.{start_at}
 use Rattle.unit_model.specs.declared.allocations.Allocation.{Allocation}
 use Rattle.unit_model.specs.declared.symbol_start.SymbolStart.{SymbolStart}
 use Rattle.window_config.specs.declared.plan.TheConstants.{LAST_FRAME}
-use Rattle.symbol_search.specs.Searches.{IsNotBefore}
+use Rattle.unit_symbols.specs.Searches.{IsNotBefore}
 use Rattle.fh_time.specs.declared.carrier.TheConstants.{CARRIER_PRBS}
 
 -- the times of an allocation's symbols can be told

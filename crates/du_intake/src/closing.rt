@@ -9,7 +9,7 @@ ghost use Rattle.unit_model.specs.Radiated.{report_of};
 ghost use Rattle.unit_model.specs.Standing.{History, at_clock, heard};
 ghost use Rattle.unit_model.specs.declared.allocations.Allocation.{Allocation as SpecAllocation};
 ghost use Rattle.unit_cells.specs.Cells.{IsSlotIn, cells_block};
-ghost use Rattle.ru_reports.specs.Symbols.{CountsTold};
+ghost use Rattle.unit_symbols.specs.DueSymbols.{CountsTold};
 ghost use Rattle.du_intake.specs.Cursors.{uplink_cell_in};
 ghost use Rattle.du_intake.specs.Rows.{claim_of_planned};
 ghost use Rattle.du_intake.specs.Units.{intake_due_of};

@@ -41,8 +41,8 @@ use Rattle.du_scheduler.proofs.PartLemmas.{first_within, is_read, no_place}
 use Rattle.sent_frames.specs.Messages.{Source, data_head, data_section, message_bytes, message_samples}
 use Rattle.sent_frames.specs.Sources.{AreAnswersIn, data_frame, id_at, source_of}
 use Rattle.sent_frames.proofs.MessageFacts.{IsGoodMessage, IsGoodPart, good_message, good_part, message_fits, message_short, message_size_is}
-use Rattle.plan_table.specs.Kept.{placed_line}
-use Rattle.plan_table.specs.declared.kept.PlacedLine.{PlacedLine}
+use Rattle.du_scheduler.specs.Kept.{placed_line}
+use Rattle.du_scheduler.specs.declared.kept.PlacedLine.{PlacedLine}
 use Rattle.du_scheduler.specs.Written.{IsData, StandIn, StandsAt, message_sections}
 use Rattle.du_scheduler.proofs.FewLemmas.{all_few}
 use Rattle.du_scheduler.proofs.PlaceLemmas.{line_place}

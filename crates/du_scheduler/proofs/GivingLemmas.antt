@@ -12,10 +12,10 @@ use Rattle.plan_model.proofs.ListLemmas.{in_right}
 use Rattle.frame_order.specs.Queues.{Gives, IsQueue, StandsFor}
 use Rattle.frame_order.specs.declared.queue.Queue.{Queue}
 use Rattle.frame_order.specs.declared.turns.Turn.{Turn}
-use Rattle.sent_order.specs.Runs.{turn_of}
-use Rattle.plan_table.specs.Kept.{placed_line}
-use Rattle.plan_table.specs.Tables.{IsTable, IsTurnOf}
-use Rattle.plan_table.specs.declared.kept.PlacedLine.{PlacedLine}
+use Rattle.frame_order.specs.Runs.{turn_of}
+use Rattle.du_scheduler.specs.Kept.{placed_line}
+use Rattle.du_scheduler.specs.Tables.{IsTable, IsTurnOf}
+use Rattle.du_scheduler.specs.declared.kept.PlacedLine.{PlacedLine}
 use Rattle.du_scheduler.specs.Frames.{IsFrameOf}
 use Rattle.du_scheduler.specs.Plans.{HasToSend}
 use Rattle.du_scheduler.specs.declared.plans.Plan.{Plan}

@@ -6,3 +6,6 @@ mod FrameLemmas
 mod GivingLemmas
 mod TouchLemmas
 pub mod PlanLemmas
+pub mod TablePlanLemmas
+pub mod MessageLemmas
+pub mod TableLemmas

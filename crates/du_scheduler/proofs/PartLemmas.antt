@@ -14,8 +14,8 @@ use Rattle.plan_model.specs.Packs.{Message, parts_of}
 use Rattle.plan_model.specs.Streams.{Part, part_in}
 use Rattle.frame_bytes.specs.Messages.{MessageFits, message_size}
 use Rattle.plan_model.specs.declared.lines.PlannedLine.{PlannedLine}
-use Rattle.plan_table.specs.Kept.{placed_line}
-use Rattle.plan_table.specs.declared.kept.PlacedLine.{PlacedLine}
+use Rattle.du_scheduler.specs.Kept.{placed_line}
+use Rattle.du_scheduler.specs.declared.kept.PlacedLine.{PlacedLine}
 use Rattle.du_scheduler.specs.Written.{StandIn, StandsAt, message_sections}
 use Rattle.frame_bytes.specs.Headers.{carrier_of}
 use Rattle.unit_model.specs.Terms.{piece_count}

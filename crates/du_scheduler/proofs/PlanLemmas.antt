@@ -10,7 +10,7 @@ use Rattle.plan_model.specs.Lines.{planned}
 use Rattle.plan_model.specs.Sent.{SentFrame, sent}
 use Rattle.plan_check.specs.declared.testing.PlanRefusal.{PlanRefusal}
 use Rattle.frame_order.specs.Queues.{first_time}
-use Rattle.sent_order.specs.Runs.{turn_of}
+use Rattle.frame_order.specs.Runs.{turn_of}
 use Rattle.du_scheduler.specs.Plans.{Checks, GivesSent, HasToSend, IsPlan, IsSent, LeavesPlan}
 use Rattle.du_scheduler.specs.declared.plans.Plan.{Plan}
 use Rattle.du_scheduler.specs.declared.plans.Sent.{Sent}

@@ -11,9 +11,9 @@ use Rattle.plan_model.specs.Sent.{SentFrame, sent}
 use Rattle.plan_model.specs.Valid.{IsValid}
 use Rattle.plan_model.specs.declared.lines.PlannedLine.{PlannedLine}
 use Rattle.frame_order.specs.declared.turns.Turn.{Turn}
-use Rattle.sent_order.specs.Runs.{turn_of}
-use Rattle.plan_table.specs.Kept.{placed_line}
-use Rattle.plan_table.specs.declared.kept.PlacedLine.{PlacedLine}
+use Rattle.frame_order.specs.Runs.{turn_of}
+use Rattle.du_scheduler.specs.Kept.{placed_line}
+use Rattle.du_scheduler.specs.declared.kept.PlacedLine.{PlacedLine}
 
 -- the turn of this frame, which is sent for the plan with these lines, where its message has these parts
 pub record IsFrameOf (c : Config) (plan : List PlanLine) (f : SentFrame) (lines : List PlannedLine) (parts : List PlacedLine) (turn : Turn) (fragment : ℕ) : Type 0 where

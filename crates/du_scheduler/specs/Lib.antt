@@ -3,3 +3,6 @@ pub mod Frames
 pub mod Plans
 pub mod After
 pub mod Touched
+pub mod Kept
+pub mod TablePlans
+pub mod Tables

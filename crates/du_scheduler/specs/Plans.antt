@@ -14,10 +14,10 @@ use Rattle.plan_model.specs.declared.streams.Stream.TheVariants.{DownCommands, U
 use Rattle.plan_check.specs.declared.testing.PlanRefusal.{PlanRefusal}
 use Rattle.plan_check.specs.declared.testing.PlanRefusal.TheVariants.{At, NoMemory}
 use Rattle.frame_order.specs.Queues.{IsQueue, StandsFor}
-use Rattle.sent_order.specs.Runs.{turn_of}
+use Rattle.frame_order.specs.Runs.{turn_of}
 use Rattle.sent_frames.specs.Frames.{sent_bytes}
 use Rattle.sent_frames.specs.Sources.{source_of}
-use Rattle.plan_table.specs.Tables.{IsTable}
+use Rattle.du_scheduler.specs.Tables.{IsTable}
 use Rattle.du_scheduler.specs.declared.plans.Plan.{Plan}
 use Rattle.du_scheduler.specs.declared.plans.Plane.{Plane}
 use Rattle.du_scheduler.specs.declared.plans.Plane.TheVariants.{C, U}

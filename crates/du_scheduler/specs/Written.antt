@@ -7,8 +7,8 @@ use Rattle.plan_model.specs.declared.lines.PlannedLine.{PlannedLine}
 use Rattle.frame_bytes.specs.Messages.{MessageFits}
 use Rattle.frame_bytes.specs.declared.messages.DataSection.{DataSection}
 use Rattle.sent_frames.specs.Messages.{data_head, data_section}
-use Rattle.plan_table.specs.Kept.{placed_line}
-use Rattle.plan_table.specs.declared.kept.PlacedLine.{PlacedLine}
+use Rattle.du_scheduler.specs.Kept.{placed_line}
+use Rattle.du_scheduler.specs.declared.kept.PlacedLine.{PlacedLine}
 use Rattle.fh_time.specs.declared.symbols.TheConstants.{SLOT_SYMBOLS}
 use Rattle.window_config.specs.declared.config.TheConstants.{MESSAGE_SECTIONS}
 use Rattle.frame_bytes.specs.Headers.{carrier_of}

@@ -13,6 +13,7 @@ ghost use Rattle.plan_model.specs.Sent.{SentFrame, sent};
 ghost use Rattle.plan_model.specs.Valid.{IsValid};
 ghost use Rattle.window_config.specs.declared.plan.TheConstants.{PLAN_LINES};
 
+use crate::Table;
 use crate::keeping::planned_lines;
 use crate::touching::are_touching;
 use crate::writing::write_frame;
@@ -23,7 +24,6 @@ use fh_time::{Slot, Ticks};
 use frame_order::Queue;
 use plan_check::{PlanRefusal, tested};
 use plan_model::{PlannedLine, Stream};
-use plan_table::Table;
 use std::alloc::Global;
 use window_config::{Config, PlanLine};
 
@@ -87,7 +87,7 @@ pub struct Plan {
 
 impl Plan {
     ghost use Rattle.frame_order.specs.Queues.{first_time};
-    ghost use Rattle.sent_order.specs.Runs.{turn_of};
+    ghost use Rattle.frame_order.specs.Runs.{turn_of};
     ghost use Rattle.du_scheduler.specs.Plans.{Checks, GivesSent, HasToSend, IsLent, IsPlan, LeavesPlan, Writes};
     ghost use Rattle.du_scheduler.specs.After.{LeavesAfter};
     ghost use Rattle.du_scheduler.specs.Touched.{Touches};

@@ -1,6 +1,6 @@
 -- The sequence field of messages of types 0 and 2 (O-RAN.WG4.CUS, eCPRI transport header, ecpriSeqid).
 use Rattle.std.specs.Prelude.{ℕ, Bool, List, take, drop, not, ◌&&◌, ◌==◌}
-use Rattle.bit_fields.specs.Field.{field}
+use Rattle.bfp_codec.specs.Field.{field}
 use Rattle.ecpri_fragments.specs.declared.sequence.SeqField.{SeqField}
 
 -- sequence id in 8 bits, E in 1, subsequence id in 7

@@ -12,7 +12,7 @@ pub struct SeqField {
 }
 
 /// Reads the two bytes of a sequence field: sequence id 8 bits, E 1, subsequence id 7.
-#[tactic(auto, using(std::proofs::lemmas::Grind::common_steps, bit_fields::proofs::Field::fields))]
+#[tactic(auto, using(std::proofs::lemmas::Grind::common_steps, bfp_codec::proofs::Field::fields))]
 pub fn read_seq(bytes: [u8; 2]) -> SeqField
     ensures reads { result ≡ seq_field_of bytes }
     ensures sub { result.sub < 128 }
@@ -25,7 +25,7 @@ pub fn read_seq(bytes: [u8; 2]) -> SeqField
 }
 
 /// The two bytes of a sequence field, whose subsequence is under 128. `read_seq` reads them back.
-#[tactic(auto, using(std::proofs::lemmas::Grind::common_steps, bit_fields::proofs::Field::fields))]
+#[tactic(auto, using(std::proofs::lemmas::Grind::common_steps, bfp_codec::proofs::Field::fields))]
 pub fn put_seq(f: SeqField) -> [u8; 2]
     requires { f.sub < 128 }
     ensures len { length result ≡ 2 }

@@ -3,7 +3,7 @@ use Rattle.std.proofs.Common.{◌≡◌, ℕ, zero, suc, ◌+◌, ◌%◌, ◌�
 use Rattle.std.proofs.lemmas.List.{take-append-drop, drop-drop, length-take-le, take_at, drop_at}
 use Rattle.std.proofs.Math.Seq.{drop-append-add}
 use Rattle.std.proofs.lemmas.Bool.{le-ltb, eq-eqb, eqb-true}
-use Rattle.bit_fields.proofs.Field.{field_in_byte}
+use Rattle.bfp_codec.proofs.Field.{field_in_byte}
 use Rattle.ecpri_frames.specs.declared.heads.Head.{Head}
 use Rattle.ecpri_frames.specs.declared.refusals.PduWhy.TheVariants.{Revision, NoPadding}
 use Rattle.ecpri_frames.specs.Headers.{revision, head_of}

@@ -1,6 +1,6 @@
 -- The common header of a message, as bit fields (eCPRI 2.0, section 3.1.3).
 use Rattle.std.specs.Prelude.{◌≡◌, ℕ, ◌==◌, List, length}
-use Rattle.bit_fields.specs.Field.{field}
+use Rattle.bfp_codec.specs.Field.{field}
 use Rattle.ecpri_frames.specs.declared.heads.Head.{Head}
 
 -- revision 4 bits, reserved 3, C 1, message type 8, payload size 16

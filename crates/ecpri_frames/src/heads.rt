@@ -27,7 +27,7 @@ pub struct Head {
 
 /// Reads the four bytes of a common header: revision 4 bits, reserved 3, C 1, message type 8,
 /// payload size 16. Revision and reserved bits may hold anything.
-#[tactic(auto, using(std::proofs::lemmas::Grind::common_steps, bit_fields::proofs::Field::fields))]
+#[tactic(auto, using(std::proofs::lemmas::Grind::common_steps, bfp_codec::proofs::Field::fields))]
 pub fn read_head(bytes: [u8; 4]) -> Head
     ensures { result ≡ head_of bytes }
 {
@@ -39,7 +39,7 @@ pub fn read_head(bytes: [u8; 4]) -> Head
 }
 
 /// The four bytes of a common header, of revision 1 and with reserved bits 0.
-#[tactic(auto, using(std::proofs::lemmas::Grind::common_steps, bit_fields::proofs::Field::fields))]
+#[tactic(auto, using(std::proofs::lemmas::Grind::common_steps, bfp_codec::proofs::Field::fields))]
 pub fn put_head(head: Head) -> [u8; 4]
     ensures { WritesHead head result }
 {

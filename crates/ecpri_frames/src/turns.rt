@@ -18,7 +18,7 @@ pub(crate) enum Turn {
 }
 
 /// Whether a header may begin with this byte: its revision is 1.
-#[tactic(auto, using(std::proofs::lemmas::Grind::common_steps, bit_fields::proofs::Field::fields))]
+#[tactic(auto, using(std::proofs::lemmas::Grind::common_steps, bfp_codec::proofs::Field::fields))]
 fn is_first(byte: u8) -> bool
     ensures { result ≡ (revision (byte ∷ []) == 1) }
 {

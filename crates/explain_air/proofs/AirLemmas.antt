@@ -19,7 +19,7 @@ use Rattle.explain_model.specs.Stories.{arrival_count}
 use Rattle.explain_model.specs.Text.{explain_of, lines_of}
 use Rattle.fault_counters.specs.declared.kinds.Counter.{Counter}
 use Rattle.fh_base.specs.Told.{WritesFront, WritesPart}
-use Rattle.owed_bytes.specs.Owed.{Carried}
+use Rattle.fh_base.specs.Owed.{Carried}
 
 -- ---- heard
 

@@ -22,9 +22,9 @@ use Rattle.explain_model.specs.Text.{explain_of, lines_of}
 use Rattle.fault_counters.specs.declared.kinds.Counter.{Counter}
 use Rattle.fh_base.proofs.Progress.{front_first}
 use Rattle.fh_base.specs.Told.{WritesFront, WritesPart}
-use Rattle.owed_bytes.proofs.Carrying.{carried_known, front_behind, front_pushed}
-use Rattle.owed_bytes.proofs.Parts.{part_behind, part_front, part_pushed}
-use Rattle.owed_bytes.specs.Owed.{Carried}
+use Rattle.fh_base.proofs.Carrying.{carried_known, front_behind, front_pushed}
+use Rattle.fh_base.proofs.Parts.{part_behind, part_front, part_pushed}
+use Rattle.fh_base.specs.Owed.{Carried}
 
 none_some : {k : Kept} → None ≡ Some k → ⊥
 none_some e = cc

@@ -16,10 +16,10 @@ use Rattle.explain_lines.specs.declared.values.ExplainLine.TheVariants as line
 use Rattle.explain_model.specs.Text.{explain_of, first_lines, lines_of}
 use Rattle.fh_base.proofs.Progress.{front_first}
 use Rattle.fh_base.specs.Told.{WritesFront, WritesPart}
-use Rattle.owed_bytes.proofs.Carrying.{front_behind}
-use Rattle.owed_bytes.proofs.Parts.{part_front}
-use Rattle.owed_bytes.specs.CarriedLaws.{carried_more}
-use Rattle.owed_bytes.specs.Owed.{Carried}
+use Rattle.fh_base.proofs.Carrying.{front_behind}
+use Rattle.fh_base.proofs.Parts.{part_front}
+use Rattle.fh_base.specs.CarriedLaws.{carried_more}
+use Rattle.fh_base.specs.Owed.{Carried}
 use Rattle.window_config.specs.declared.config.Config.{Config}
 
 -- the first line is kept

@@ -23,9 +23,9 @@ use Rattle.explain_units.specs.declared.units.UnitLines.{UnitLines}
 use Rattle.heard_records.specs.Records.{HaveHeard}
 use Rattle.heard_records.specs.declared.records.HeardRecords.{HeardRecords}
 use Rattle.plan_model.specs.declared.lines.PlannedLine.{PlannedLine}
-use Rattle.reason_lines.proofs.MissingLemmas.{same_runs, text_is}
+use Rattle.explain_records.proofs.MissingLemmas.{same_runs, text_is}
 use Rattle.line_runs.specs.Runs.{run_lines}
-use Rattle.reason_lines.specs.Missing.{missing_line_of, missing_related, missing_text}
+use Rattle.explain_records.specs.Missing.{missing_line_of, missing_related, missing_text}
 use Rattle.reason_records.specs.Keys.{run_key}
 use Rattle.reason_records.specs.declared.keys.SymbolKey.{SymbolKey}
 use Rattle.reason_records.specs.declared.runs.CellRun.{CellRun}

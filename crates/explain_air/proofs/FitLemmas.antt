@@ -1,7 +1,7 @@
 -- One more run of cells.
 use Rattle.std.specs.Prelude.{List, [], ◌∷◌, ◌++◌}
 use Rattle.std.specs.List.{AllByRecursion}
-use Rattle.reason_lines.specs.Missing.{IsCellRun}
+use Rattle.explain_records.specs.Missing.{IsCellRun}
 use Rattle.reason_records.specs.declared.runs.CellRun.{CellRun}
 
 pub fits_more : (rs : List CellRun) (r : CellRun) → AllByRecursion IsCellRun rs → IsCellRun r → AllByRecursion IsCellRun (rs ++ r ∷ [])

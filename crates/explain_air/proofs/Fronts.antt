@@ -15,10 +15,10 @@ use Rattle.explain_model.specs.Text.{Reasoned, explain_of, lines_of}
 use Rattle.line_runs.specs.Stops.{StopsSome, Between, Within}
 use Rattle.fh_base.proofs.Progress.{front_first}
 use Rattle.fh_base.specs.Told.{WritesFront, WritesPart}
-use Rattle.owed_bytes.proofs.Carrying.{carried_front, front_behind}
-use Rattle.owed_bytes.proofs.Parts.{part_front}
-use Rattle.owed_bytes.specs.CarriedLaws.{carried_more}
-use Rattle.owed_bytes.specs.Owed.{Carried}
+use Rattle.fh_base.proofs.Carrying.{carried_front, front_behind}
+use Rattle.fh_base.proofs.Parts.{part_front}
+use Rattle.fh_base.specs.CarriedLaws.{carried_more}
+use Rattle.fh_base.specs.Owed.{Carried}
 use Rattle.air_source.specs.declared.events.Event.{Event}
 use Rattle.window_config.specs.declared.config.Config.{Config}
 

@@ -9,8 +9,8 @@ use Rattle.explain_lines.specs.Faults.{is_fault}
 use Rattle.explain_lines.specs.Lines.{line_text, lines_text}
 use Rattle.explain_lines.specs.declared.values.ExplainLine.{ExplainLine}
 use Rattle.explain_model.specs.Text.{kept}
-use Rattle.owed_bytes.specs.CarriedLaws.{carried_none, carried_more}
-use Rattle.owed_bytes.specs.Owed.{Carried}
+use Rattle.fh_base.specs.CarriedLaws.{carried_none, carried_more}
+use Rattle.fh_base.specs.Owed.{Carried}
 
 pub kept_both : (faults : Bool) (xs ys : List ExplainLine) → kept faults (xs ++ ys) ≡ kept faults xs ++ kept faults ys
 kept_both true xs ys = filter-append is_fault xs ys

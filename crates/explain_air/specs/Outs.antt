@@ -6,7 +6,7 @@ use Rattle.explain_lines.specs.Lines.{lines_text}
 use Rattle.explain_lines.specs.declared.values.ExplainLine.{ExplainLine}
 use Rattle.explain_model.specs.Text.{kept}
 use Rattle.fh_base.specs.Told.{WritesFront}
-use Rattle.owed_bytes.specs.Owed.{Carried}
+use Rattle.fh_base.specs.Owed.{Carried}
 
 -- of these lines the ones that are kept, as a text
 abbrev pub kept_text : Bool → List ExplainLine → List ℕ

@@ -19,16 +19,13 @@ ghost use Rattle.window_config.specs.Configs.{IsConfig};
 use crate::first::tell_first;
 use crate::kept::Kept;
 use crate::out::LineOut;
-use air_sinks::push_out;
-use air_source::{Air, AirCell, AirFault, Side};
+use air_source::{Air, AirCell, AirFault, Side, push_out};
 use explain_lines::ExplainLine;
 use fault_counters::Counter;
-use fh_base::Sink;
+use fh_base::{Line, OwedBytes, Sink};
 use fh_time::Ticks;
 use line_runs::LineSink;
-use owed_bytes::OwedBytes;
 use std::alloc::Global;
-use text_lines::Line;
 use window_config::Config;
 
 /// An air that writes an explanation to a sink that it borrows: all lines, or those of the text of the faults alone.

@@ -1,7 +1,7 @@
 // The runs of cells that were told.
 ghost use Rattle.std.specs.Prelude.{◌≡◌, [], ◌∷◌, ◌++◌, OnOk, IfOk};
 ghost use Rattle.std.specs.List.{AllByRecursion};
-ghost use Rattle.reason_lines.specs.Missing.{IsCellRun};
+ghost use Rattle.explain_records.specs.Missing.{IsCellRun};
 ghost use Rattle.reason_records.specs.Keys.{run_key};
 ghost use Rattle.reason_records.specs.declared.keys.SymbolKey.{SymbolKey as SpecKey};
 ghost use Rattle.symbol_records.specs.Keys.{of_symbol};
@@ -21,7 +21,7 @@ pub(crate) struct CellRuns {
 impl Model for CellRuns {
     ghost use Rattle.std.specs.Prelude.{List};
     ghost use Rattle.std.specs.List.{AllByRecursion};
-    ghost use Rattle.reason_lines.specs.Missing.{IsCellRun};
+    ghost use Rattle.explain_records.specs.Missing.{IsCellRun};
     ghost use Rattle.reason_records.specs.declared.runs.CellRun.{CellRun};
 
     ghost Value = { List CellRun };

@@ -4,13 +4,10 @@ ghost use Rattle.explain_air.specs.OutLaws.{same_more, same_none, took_more, too
 ghost use Rattle.explain_air.specs.Outs.{AreSame, Took, kept_text, owed_of, sink_of};
 ghost use Rattle.fh_base.specs.Told.{WritesPart};
 
-use air_sinks::tell;
-use air_source::AirFault;
+use air_source::{AirFault, tell};
 use explain_lines::{ExplainLine, is_fault, put_line};
-use fh_base::Sink;
+use fh_base::{Line, OwedBytes, Sink};
 use line_runs::LineSink;
-use owed_bytes::OwedBytes;
-use text_lines::Line;
 
 /// Takes lines to a sink: all, or those of the text of the faults alone. What does not fill a buffer is owed to the sink.
 #[derive(Drop)]

@@ -14,7 +14,7 @@ use Rattle.explain_model.specs.Cells.{CellRun, Entry, Lines, Of, closed_in, clos
 use Rattle.explain_model.specs.Pieces.{pieces}
 use Rattle.explain_model.specs.Stories.{Story, Told, Came, Cell, Delay, arrival_count, arrival_with, stories, stories_in, story, told, told_after, told_of}
 use Rattle.fh_time.specs.declared.values.Ticks.{Ticks}
-use Rattle.replay_events.specs.Heard.{arrivals_heard}
+use Rattle.replay_laws.specs.Heard.{arrivals_heard}
 use Rattle.window_config.specs.declared.config.Config.{Config}
 
 -- ---- lines

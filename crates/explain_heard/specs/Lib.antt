@@ -1,2 +1,4 @@
 pub mod Heard
 pub mod Laws
+pub mod Named
+pub mod Built

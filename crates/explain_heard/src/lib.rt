@@ -1,12 +1,21 @@
 //! A listener that keeps what a unit judges of a frame, as small values: what the lines and the reasons of an explanation need of it.
 //!
 //! A [`Hearing`] cannot fail: where memory is refused it notes that and keeps no more, and what it has then says nothing.
+//!
+//! The lines of what a unit judged of a part of a frame, but for what they say of earlier ones: which section an overlapping one clashes
+//! with, and how many PRBs had no block before, are given to them.
 #![tactic(auto)]
 
+mod building;
 mod heard;
 mod hearing;
+mod naming;
 mod pieces;
+mod timings;
 mod words;
 
+pub use building::{control_line, data_line, fragment_line, message_line, whole_line};
 pub use heard::{FragmentHeard, Heard, MessageHeard, MessageWord, WholeHeard};
 pub use hearing::Hearing;
+pub use naming::{symbol_named, whole_symbol};
+pub use timings::{control_timing, data_timing, heading_slot};

@@ -16,7 +16,7 @@ use fh_time::shape;
 use window_config::EndpointConfig;
 
 /// The eAxC id of a payload.
-#[tactic(auto, using(std::proofs::lemmas::Grind::common_steps, bit_fields::proofs::Field::fields))]
+#[tactic(auto, using(std::proofs::lemmas::Grind::common_steps, bfp_codec::proofs::Field::fields))]
 fn id_at(payload: &[u8]) -> u16
     requires { 4 ≤ length payload.now }
     ensures { result ≡ id_of payload.now }

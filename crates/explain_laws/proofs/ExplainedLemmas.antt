@@ -1,5 +1,5 @@
 -- The laws of the lines of every replay, together.
-use Rattle.replay_events.specs.Events.{events}
+use Rattle.replay_laws.specs.Events.{events}
 use Rattle.explain_laws.specs.Explained.{EachIsExplained}
 use Rattle.explain_laws.proofs.EachLemmas.{each_has_one}
 use Rattle.explain_laws.proofs.ReplayLemmas.{are_lines}

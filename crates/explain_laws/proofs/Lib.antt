@@ -6,3 +6,7 @@ pub mod LineLemmas
 pub mod ReplayLemmas
 pub mod RunLemmas
 pub mod SignLemmas
+pub mod ListLemmas
+pub mod AcceptedLemmas
+pub mod HeardLemmas
+pub mod SilentLemmas

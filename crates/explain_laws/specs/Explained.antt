@@ -1,7 +1,7 @@
 -- What holds of the lines of every replay (this project's profile).
 use Rattle.window_config.specs.declared.config.Config.{Config}
-use Rattle.replay_events.specs.Events.{events}
-use Rattle.replay_events.specs.Traffic.{Traffic}
+use Rattle.replay_laws.specs.Events.{events}
+use Rattle.replay_laws.specs.Traffic.{Traffic}
 use Rattle.explain_model.specs.Text.{Reasoned}
 use Rattle.explain_laws.specs.Counted.{LinesAreCounters}
 use Rattle.explain_laws.specs.Each.{EachHasOneLine}

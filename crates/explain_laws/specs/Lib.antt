@@ -4,3 +4,4 @@ pub mod Each
 pub mod Runs
 pub mod Signs
 pub mod Explained
+pub mod Silent

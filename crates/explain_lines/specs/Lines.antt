@@ -33,8 +33,8 @@ use Rattle.fh_time.specs.Numbering.{code_of, offsets_of, symbols_of}
 use Rattle.fh_time.specs.declared.numerology.Numerology.{Numerology}
 use Rattle.fh_time.specs.declared.values.Slot.{Slot}
 use Rattle.member_lines.specs.Members.{named_text}
-use Rattle.report_lines.specs.Units.{side_text, delay_text, count_text}
-use Rattle.text_lines.specs.Words.{hex4_text, spaced_signed_text, spaced_text}
+use Rattle.air_source.specs.UnitLines.{side_text, delay_text, count_text}
+use Rattle.fh_base.specs.Words.{hex4_text, spaced_signed_text, spaced_text}
 use Rattle.unit_model.specs.declared.verdicts.CommandVerdict.{CommandVerdict}
 use Rattle.unit_model.specs.declared.verdicts.CommandVerdict.TheVariants as command
 use Rattle.unit_model.specs.declared.verdicts.DataVerdict.{DataVerdict}

@@ -8,7 +8,7 @@ use Rattle.explain_lines.specs.declared.places.SymbolPlace.{SymbolPlace}
 use Rattle.explain_lines.specs.declared.places.Timing.{Timing}
 use Rattle.fh_time.specs.declared.values.Slot.{Slot}
 use Rattle.member_lines.specs.Members.{member_text, named_text, named_signed_text, named_hex3_text}
-use Rattle.text_lines.specs.Words.{hex4_text, spaced_signed_text, spaced_text}
+use Rattle.fh_base.specs.Words.{hex4_text, spaced_signed_text, spaced_text}
 
 -- frame, subframe, slot and symbol
 abbrev pub moment_text : Slot → ℕ → List ℕ

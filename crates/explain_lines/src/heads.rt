@@ -5,8 +5,8 @@ ghost use Rattle.explain_lines.specs.Lines.{head_text, window_text, kind_text, s
 use crate::values::WindowName;
 use crate::words::id;
 use bfp_codec::Method;
+use fh_base::Line;
 use fh_time::{Numerology, code, offsets, shape};
-use text_lines::Line;
 use window_config::EndpointConfig;
 
 /// The first line.

@@ -11,13 +11,12 @@ use crate::sections::{command_answer, control, data, fragment_word, frame_answer
 use crate::sum_words::{cell_word, class_name, margin_words, reason_line};
 use crate::values::{CellWord, CommandAnswer, ExplainLine, Margin, MarginClass, WindowName};
 use crate::words::{id, mask_word, message, run_words, side_name};
-use air_source::Side;
+use air_source::{Side, put_count, put_delay};
 use ecpri_fragments::Verdict;
 use ecpri_frames::PduRefusal;
+use fh_base::Line;
 use fh_time::Ticks;
 use member_lines::{named, way};
-use report_lines::{put_count, put_delay};
-use text_lines::Line;
 use window_config::Range;
 
 #[tactic(auto, unfolding(crate::specs::Lines::line_text))]

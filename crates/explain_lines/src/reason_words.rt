@@ -3,8 +3,8 @@ ghost use Rattle.std.specs.Prelude.{◌≡◌, ◌+◌, ◌≤◌, ◌++◌, len
 ghost use Rattle.explain_lines.specs.Reasons.{word_of, word_text, from_text, by_text, rest_text, reason_text};
 
 use crate::reasons::{Reason, ReasonWord};
+use fh_base::Line;
 use member_lines::named;
-use text_lines::Line;
 
 impl Reason {
     ghost use Rattle.std.specs.Prelude.{◌≡◌};

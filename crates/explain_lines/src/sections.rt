@@ -7,9 +7,9 @@ use crate::values::{CommandAnswer, ControlLine, DataLine, WholeAnswer, WholeLine
 use crate::words::{clash, id, mask_word, moment, prbs, symbol, timing};
 use ecpri_fragments::Verdict;
 use ecpri_frames::PduRefusal;
+use fh_base::Line;
 use fh_time::Slot;
 use member_lines::named;
-use text_lines::Line;
 use unit_model::{CommandVerdict, DataVerdict};
 
 // Appends why, and where.

@@ -6,8 +6,8 @@ use crate::reason_words::from_word;
 use crate::values::{CellWord, Margin, MarginClass};
 use crate::words::{id, timing};
 use air_source::Side;
+use fh_base::Line;
 use member_lines::{named, way};
-use text_lines::Line;
 
 /// The name of a class.
 pub fn class_name(class: MarginClass) -> &'static [u8]

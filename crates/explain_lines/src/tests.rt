@@ -8,9 +8,9 @@ use air_source::Side;
 use ecpri_fragments::{SeqField, Verdict};
 use ecpri_frames::{PduRefusal, PduWhy};
 use fault_counters::Counter;
+use fh_base::Line;
 use fh_time::{Slot, Ticks};
 use std::test::Fail;
-use text_lines::Line;
 use unit_model::{CommandVerdict, DataVerdict};
 use uplane_sections::{URefusal, UWhy};
 

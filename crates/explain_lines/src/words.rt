@@ -1,14 +1,14 @@
 // The words that say where something stands.
 ghost use Rattle.std.specs.Prelude.{◌≡◌, ◌+◌, ◌≤◌, ◌++◌, length, codes};
 ghost use Rattle.explain_lines.specs.Places.{moment_text, symbol_text, prbs_text, mask_text, run_text, bit_text, message_text, timing_text, clash_text};
-ghost use Rattle.report_lines.specs.Units.{side_text};
-ghost use Rattle.text_lines.specs.Words.{hex4_text};
+ghost use Rattle.air_source.specs.UnitLines.{side_text};
+ghost use Rattle.fh_base.specs.Words.{hex4_text};
 
 use crate::places::{Clash, MessagePlace, PrbRun, SymbolPlace, Timing};
 use air_source::Side;
+use fh_base::Line;
 use fh_time::Slot;
 use member_lines::{named, named_hex3, named_signed, named_word, way};
-use text_lines::Line;
 
 /// The name of a unit.
 pub fn side_name(side: Side) -> &'static [u8]

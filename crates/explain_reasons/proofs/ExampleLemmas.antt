@@ -1,6 +1,6 @@
 -- The definitions compute what was worked out by hand.
 use Rattle.std.proofs.Common.{refl}
-use Rattle.bit_fields.specs.Field.{field}
+use Rattle.bfp_codec.specs.Field.{field}
 use Rattle.fh_time.specs.Frame.{absolute_frame}
 use Rattle.unit_model.specs.Lists.{each, in_order, put_in, some}
 use Rattle.plan_model.specs.Lines.{planned_from}

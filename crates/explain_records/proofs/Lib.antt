@@ -1,3 +1,4 @@
 pub mod NearestLemmas
 pub mod LineLemmas
 pub mod OrderLemmas
+pub mod MissingLemmas

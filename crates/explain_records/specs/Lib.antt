@@ -2,3 +2,6 @@ pub mod Nearest
 pub mod Elements
 pub mod Stored
 pub mod OfLines
+pub mod Missing
+pub mod MissingSteps
+pub mod Laws

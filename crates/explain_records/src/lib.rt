@@ -1,17 +1,25 @@
 //! What waits in memory until the end of a replay, and why a cell is missing or an element silent by it.
+//!
+//! The lines at the end of an explanation that say why cells are missing.
 #![tactic(auto)]
 
 mod commands;
 mod given;
 mod headers;
+mod laws;
+mod missing;
 mod of_lines;
 mod ordered;
 mod reasons;
+mod same;
 mod store;
 
 pub use commands::{Asked, accepted_command, command_reason};
 pub use given::giver_of;
+pub use laws::missing_are_told;
+pub use missing::{is_next, tell_missing};
 pub use of_lines::{command_record, data_record, header_record, lines_tell_records};
 pub use ordered::OrderedKept;
 pub use reasons::{AtSymbol, missing_reason};
+pub use same::{same_reason, word_place};
 pub use store::KeptRecords;

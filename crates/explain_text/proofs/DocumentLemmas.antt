@@ -18,7 +18,7 @@ use Rattle.reason_documents.proofs.UplinkLemmas.{planned_uplink_is_heard}
 use Rattle.reason_laws.proofs.BlockLemmas.{are_told as blocks_told}
 use Rattle.reason_laws.proofs.GivingLemmas.{are_blocks}
 use Rattle.reason_laws.proofs.KeptLemmas.{are_kept}
-use Rattle.silent_laws.proofs.SilentLemmas.{none_names}
+use Rattle.explain_laws.proofs.SilentLemmas.{none_names}
 
 pub at_ok : {T E : Type 0} (r : Result T E) (P : Type 0) → P → OnOk r P
 at_ok (Ok x) P holds = holds

@@ -26,8 +26,8 @@ use Rattle.explain_model.specs.Messages.{command_answer, line_to, message_lines}
 use Rattle.explain_model.specs.Sections.{clash_by, control_line, data_line, fresh_by, judged_lines, judgement_lines, some_of}
 use Rattle.explain_model.specs.Timings.{control_timing}
 use Rattle.explain_units.specs.Known.{IsKnown, Known, add_all, after_all, all_said, as_lines, clash_with, fresh_with, nothing_known, said, with_heard}
-use Rattle.heard_lines.proofs.KeptLemmas.{whole_is}
-use Rattle.heard_lines.specs.Built.{control_with, data_with, line_by, placed}
+use Rattle.explain_heard.proofs.KeptLemmas.{whole_is}
+use Rattle.explain_heard.specs.Built.{control_with, data_with, line_by, placed}
 use Rattle.unit_cells.specs.declared.heading.DataHeading.{DataHeading}
 use Rattle.unit_memory.specs.Judgements.{Judgement, Met, Commanded, Fragmented, Unread, Turned, Given}
 use Rattle.unit_model.specs.Commands.{allocation_of, with_accepted}

@@ -16,7 +16,7 @@ use Rattle.explain_model.specs.Judged.{accepted_in, clash_in, last_place}
 use Rattle.explain_model.specs.Margins.{Dated, control_class, data_class_of, dated_by, way_of}
 use Rattle.explain_model.specs.Sections.{some_of}
 use Rattle.explain_model.specs.Timings.{control_timing, data_timing}
-use Rattle.heard_lines.specs.Built.{control_with, data_with, fragment_line, line_of_message, whole_line}
+use Rattle.explain_heard.specs.Built.{control_with, data_with, fragment_line, line_of_message, whole_line}
 use Rattle.unit_cells.specs.declared.heading.DataHeading.{DataHeading}
 use Rattle.unit_memory.specs.Judgements.{Judgement, Given}
 use Rattle.unit_model.specs.Commands.{allocation_of, with_accepted}

@@ -15,13 +15,13 @@ use crate::given::{fresh_by, keep_given};
 use crate::windows::Windows;
 use air_source::{AirCell, Side};
 use earlier_sections::{Blocks, Claims};
-use explain_heard::Heard;
+use explain_heard::{
+    Heard, control_line, control_timing, data_line, data_timing, fragment_line, message_line,
+    whole_line,
+};
 use explain_kept::{EndpointMargins, Margins, control_class, data_class};
 use explain_lines::{Clash, ExplainLine, MarginClass};
 use fh_base::NoMemory;
-use heard_lines::{
-    control_line, control_timing, data_line, data_timing, fragment_line, message_line, whole_line,
-};
 use std::alloc::Global;
 use unit_cells::DataHeading;
 use unit_model::{CommandVerdict, ControlSection, DataVerdict, allocation_of};

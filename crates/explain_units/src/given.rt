@@ -8,8 +8,8 @@ ghost use Rattle.unit_cells.specs.Headings.{IsSoundHeading};
 ghost use Rattle.unit_memory.specs.Judgements.{Given as GivenData};
 
 use earlier_sections::{Blocks, Given};
+use explain_heard::heading_slot;
 use fh_base::NoMemory;
-use heard_lines::heading_slot;
 use unit_cells::DataHeading;
 use unit_model::DataVerdict;
 

@@ -12,7 +12,7 @@ use Rattle.fh_document.specs.ConfigLines.{number_at, time_at, counted, ordered}
 use Rattle.fh_document.specs.EndpointLines.{taking}
 use Rattle.fh_document.specs.Proper.{IsFrom}
 use Rattle.window_config.specs.declared.delays.TheConstants.{MOST_DELAY}
-use Rattle.text_lines.specs.Numbers.{word_at}
+use Rattle.fh_base.specs.Numbers.{word_at}
 
 pub ok_if : {A : Type 0} (P : A → Type 0) (b : Bool) (x y : Result A DocWhy) → (b ≡ true → IfOk x P) → (b ≡ false → IfOk y P) → IfOk (if b then x else y) P
 ok_if P true x y f g = f refl

@@ -8,3 +8,11 @@ pub mod Anyone
 pub mod Properness
 pub mod Texts
 pub mod Marks
+pub mod Tests
+pub mod JoinLemmas
+pub mod NumberLemmas
+pub mod HexLemmas
+pub mod LineLemmas
+pub mod InjectLemmas
+pub mod PlanLemmas
+pub mod DeliverLemmas

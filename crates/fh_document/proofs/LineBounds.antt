@@ -23,7 +23,7 @@ use Rattle.fh_document.specs.declared.config_lines.TheConstants.{MOST_TRANSIT}
 use Rattle.fh_document.specs.declared.deliver_lines.TheConstants.{MOST_NUMBER}
 use Rattle.window_config.specs.declared.plan.TheConstants.{LAST_FRAME}
 use Rattle.fh_time.proofs.Orders.{both as both_true}
-use Rattle.text_lines.specs.Numbers.{word_at}
+use Rattle.fh_base.specs.Numbers.{word_at}
 
 with_word : {B : Type 0} (Q : B → Type 0) (low high : ℕ) (w : List ℕ) (next : ℕ → Option B) → ((n : ℕ) → Within low high n → IfSome (next n) Q)
     → IfSome (taking (number_in low high w) next) Q

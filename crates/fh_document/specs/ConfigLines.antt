@@ -3,7 +3,7 @@ use Rattle.std.specs.Prelude.{◌≡◌, ℕ, ℤ, pos, ◌+◌, List, length, B
 use Rattle.std.specs.Str.{bytes_eq}
 use Rattle.std.proofs.lemmas.Bool.{eqb-true}
 use Rattle.eaxc_map.specs.declared.widths.Widths.{Widths}
-use Rattle.tone_source.specs.declared.values.Tone.{Tone}
+use Rattle.air_source.specs.declared.tones.Tone.{Tone}
 use Rattle.window_config.specs.declared.delays.Range.{Range}
 use Rattle.window_config.specs.Usual.{usual_delays}
 use Rattle.fh_document.specs.declared.document.Comps.{Comps}
@@ -20,7 +20,7 @@ use Rattle.window_config.specs.declared.delays.TheConstants.{MOST_DELAY}
 use Rattle.fh_document.specs.declared.config_lines.TheConstants.{MOST_TRANSIT}
 use Rattle.delay_measure.specs.declared.stamps.TheConstants.{MOST_COMPENSATION}
 use Rattle.window_config.specs.declared.config.TheConstants.{MESSAGE_SECTIONS, MOST_FRAGMENT, LEAST_FRAGMENT}
-use Rattle.text_lines.specs.Numbers.{word_at}
+use Rattle.fh_base.specs.Numbers.{word_at}
 
 -- the number that the i-th word spells, from low to high
 abbrev pub number_at : ℕ → ℕ → List (List ℕ) → ℕ → Result ℕ DocWhy

@@ -14,7 +14,7 @@ use Rattle.fh_document.specs.EndpointLines.{taking}
 use Rattle.fh_document.specs.InjectLines.{side_of}
 use Rattle.fh_document.specs.declared.config_lines.TheConstants.{MOST_TRANSIT}
 use Rattle.fh_document.specs.declared.deliver_lines.TheConstants.{MOST_NUMBER}
-use Rattle.text_lines.specs.Numbers.{word_at}
+use Rattle.fh_base.specs.Numbers.{word_at}
 
 -- frames of the C-plane, of the U-plane, and of delay measurement
 abbrev pub class_of : List ℕ → Option TrafficClass

@@ -17,7 +17,7 @@ use Rattle.fh_document.specs.Refusals.{or_refuse, ◌>>=◌}
 use Rattle.fh_document.specs.Words.{number_in}
 use Rattle.fh_document.specs.Hex.{hex_of}
 use Rattle.fh_document.specs.Keywords.{is_after_one}
-use Rattle.text_lines.specs.Numbers.{word_at}
+use Rattle.fh_base.specs.Numbers.{word_at}
 use Rattle.fh_time.specs.declared.carrier.TheConstants.{CARRIER_PRBS}
 
 -- what follows on a value, and nothing where there is none

@@ -8,7 +8,7 @@ use Rattle.fh_document.specs.declared.keywords.Setting.{Setting}
 use Rattle.fh_document.specs.declared.keywords.Setting.TheVariants.{Widths, T1a, T2a, Advance, Ta3, Ta4, T12, T34, Hold, Gap, Fragment, Source, Antenna, Comp, TransitDl, TransitUl, TransitM, Pack}
 use Rattle.fh_document.specs.declared.keywords.Keyword.{Keyword}
 use Rattle.fh_document.specs.declared.keywords.Keyword.TheVariants as keyword
-use Rattle.text_lines.specs.Numbers.{word_at}
+use Rattle.fh_base.specs.Numbers.{word_at}
 
 -- the grammar has `pack` and extended endpoints: version 2 and every later one
 abbrev pub is_after_one : Version → Bool

@@ -16,3 +16,7 @@ pub mod Answered
 pub mod Proper
 pub mod Generated
 pub mod Steps
+pub mod Joined
+pub mod LineWords
+pub mod WrittenLines
+pub mod Laws

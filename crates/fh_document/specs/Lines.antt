@@ -20,7 +20,7 @@ use Rattle.fh_document.specs.PlanLines.{plan_line}
 use Rattle.fh_document.specs.DeliverLines.{deliver_line}
 use Rattle.fh_document.specs.InjectLines.{inject_line}
 use Rattle.fh_document.specs.MeasureLines.{measure_line}
-use Rattle.text_lines.specs.Numbers.{word_at}
+use Rattle.fh_base.specs.Numbers.{word_at}
 
 -- before any line but the first
 abbrev pub start : Reading

@@ -15,7 +15,7 @@ use Rattle.fh_document.specs.Words.{number_in}
 use Rattle.fh_document.specs.ConfigLines.{counted}
 use Rattle.fh_document.specs.EndpointLines.{taking}
 use Rattle.fh_time.specs.declared.nanoseconds.TheConstants.{LAST_TIME}
-use Rattle.text_lines.specs.Numbers.{word_at}
+use Rattle.fh_base.specs.Numbers.{word_at}
 
 -- the unit that begins the measurement
 abbrev pub unit_of : List ℕ → Option Side

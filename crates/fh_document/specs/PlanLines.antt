@@ -14,7 +14,7 @@ use Rattle.fh_document.specs.Words.{number_in}
 use Rattle.fh_document.specs.Hex.{hex_of}
 use Rattle.fh_document.specs.ConfigLines.{counted}
 use Rattle.fh_document.specs.EndpointLines.{taking}
-use Rattle.text_lines.specs.Numbers.{word_at}
+use Rattle.fh_base.specs.Numbers.{word_at}
 
 -- downlink data, uplink data, or downlink resources that stay idle
 abbrev pub plan_kind_of : List ℕ → Option PlanKind

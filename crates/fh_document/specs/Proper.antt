@@ -2,7 +2,7 @@
 use Rattle.std.specs.Prelude.{ℕ, ℤ, pos, ◌^◌, ◌<◌, ◌≤◌, ◌≤ℤ◌, ◌≡◌, List, [], ◌∷◌, All, false, length, map, IfSome}
 use Rattle.bfp_codec.specs.Layout.{AreBytes}
 use Rattle.eaxc_map.specs.Endpoints.{AppearOnce}
-use Rattle.tone_source.specs.declared.values.Tone.{Tone}
+use Rattle.air_source.specs.declared.tones.Tone.{Tone}
 use Rattle.window_config.specs.declared.endpoints.EndpointConfig.{EndpointConfig}
 use Rattle.window_config.specs.declared.plan.PlanLine.{PlanLine}
 use Rattle.window_config.specs.Configs.{IsConfig}

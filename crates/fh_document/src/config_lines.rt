@@ -6,10 +6,10 @@ use crate::document::{Comps, Settings, Transits, Version};
 use crate::keywords::{Setting, is_three};
 use crate::refusals::DocWhy;
 use crate::words::number_in;
+use air_source::Tone;
 use delay_measure::MOST_COMPENSATION;
 use eaxc_map::Widths;
 use line_words::{KEPT, Words};
-use tone_source::Tone;
 use window_config::{Delays, LEAST_FRAGMENT, MESSAGE_SECTIONS, MOST_DELAY, MOST_FRAGMENT, Range};
 
 /// The greatest time on the way, in nanoseconds.

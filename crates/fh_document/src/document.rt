@@ -1,11 +1,10 @@
 // What a document says, and what is known of it while its lines are read.
 
 use crate::delivered::{Deliveries, Delivery};
-use air_source::Side;
+use air_source::{Side, Tone};
 use delay_measure::Kind;
 use eaxc_map::Widths;
 use fh_base::{Bytes, List};
-use tone_source::Tone;
 use window_config::{Config, Delays, EndpointList, PlanLine};
 
 /// The delays between an antenna's connector and the edges that delay measurement stamps, as a unit's compensation: each from 0 to

@@ -2,9 +2,8 @@
 ghost use Rattle.std.specs.Prelude.{◌≡◌, ◌≤◌, ◌<◌, ◌+◌, ◌++◌, length, [], OnOk, IfOk};
 ghost use Rattle.fh_document.specs.Generated.{each, tone_text, opening_text, endpoint_text, kind_text, kind_words, slot_text, plan_text, plans_text, deliver_text, generated};
 
-use fh_base::{Bytes, NoMemory};
+use fh_base::{Bytes, Line, NoMemory};
 use std::alloc::Global;
-use text_lines::Line;
 
 /// How many endpoints the document has; their ids are the numbers below it.
 const ENDPOINTS: u16 = 4;

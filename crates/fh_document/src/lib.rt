@@ -6,6 +6,10 @@
 //!
 //! Beside the grammar stand the lines of a report ([`cell_line`], [`delay_line`], [`count_line`]) and the samples that a [`Tone`]
 //! gives.
+//!
+//! Laws of the grammar of documents: what a program wrote is read back. Who writes documents cites them.
+//!
+//! There are no functions: a law is stated in `specs/` and proved as a lemma in `proofs/`.
 #![tactic(auto)]
 
 mod config_lines;
@@ -24,6 +28,7 @@ mod reading;
 mod refusals;
 mod words;
 
+pub use air_source::{Line, Tone, ToneSteps, cell_line, count_line, delay_line, tone};
 pub use config_lines::MOST_TRANSIT;
 pub use deliver_lines::MOST_NUMBER;
 pub use delivered::{Copies, Delivery, ListFull, TrafficClass, frame_number};
@@ -32,5 +37,3 @@ pub use generating::write;
 pub use measure_lines::FIRST_MEASURE;
 pub use reading::read;
 pub use refusals::{DocFault, DocWhy};
-pub use report_lines::{Line, cell_line, count_line, delay_line};
-pub use tone_source::{Tone, ToneSteps, tone};

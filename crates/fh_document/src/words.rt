@@ -10,7 +10,7 @@ pub(crate) fn number_in(word: &[u8], low: u64, high: u64) -> Option<u64>
     ensures value { result ≡ number_in low high word.now }
     ensures within { IfSome result (λ n. (low ≤ n) × (n ≤ high) × (n < 10 ^ MOST_DIGITS)) }
 {
-    text_lines::number_in(word, MOST_DIGITS, low, high)
+    fh_base::number_in(word, MOST_DIGITS, low, high)
 }
 
 /// The same as a number of 8 bits.

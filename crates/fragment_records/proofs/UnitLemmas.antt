@@ -4,7 +4,7 @@ use Rattle.std.specs.Prelude.{if◌then◌else◌, ◌&&◌, ◌==◌, nat_lt, O
 use Rattle.std.specs.List.{flat_map}
 use Rattle.std.proofs.Math.Dec.{leb}
 use Rattle.std.proofs.lemmas.Bool.{lt-leb}
-use Rattle.bit_fields.specs.Field.{field}
+use Rattle.bfp_codec.specs.Field.{field}
 use Rattle.fh_time.specs.declared.values.Slot.{Slot}
 use Rattle.fh_time.specs.declared.numerology.Numerology.{Numerology}
 use Rattle.ecpri_fragments.specs.Generations.{Fragment}
@@ -18,7 +18,7 @@ use Rattle.explain_heard.specs.Heard.{first_eight, first_four, fragment_heard}
 use Rattle.explain_heard.specs.declared.heard.FragmentHeard.{FragmentHeard}
 use Rattle.explain_heard.specs.declared.heard.Heard.TheVariants as heard
 use Rattle.explain_model.specs.Sections.{symbol_named}
-use Rattle.heard_lines.proofs.KeptLemmas.{named_is}
+use Rattle.explain_heard.proofs.KeptLemmas.{named_is}
 use Rattle.reason_records.specs.declared.headers.BeginningRecord.{BeginningRecord}
 use Rattle.reason_records.specs.declared.headers.RepeatedRecord.{RepeatedRecord}
 use Rattle.explain_reasons.specs.Fragments.{NumberedFragment, beginnings_after, first_named, repeated_after}

@@ -6,9 +6,8 @@ ghost use Rattle.unit_model.specs.Proper.{IsTime};
 
 use air_source::Side;
 use ecpri_fragments::Verdict;
-use explain_heard::FragmentHeard;
+use explain_heard::{FragmentHeard, symbol_named};
 use fh_time::{Slot, Ticks};
-use heard_lines::symbol_named;
 use uplane_sections::{UHead, read_head};
 
 /// How a fragment begins.

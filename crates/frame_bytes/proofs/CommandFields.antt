@@ -3,8 +3,8 @@ use Rattle.std.proofs.Common.{◌≡◌, ℕ, ℤ, pos, negsuc, ◌-ℤ◌, ltb,
 use Rattle.std.proofs.lemmas.Bool.{cases_eq, cases_lt}
 use Rattle.std.proofs.lemmas.Bool.Decides.{nat_tests}
 use Rattle.std.proofs.lemmas.Int.{ints}
-use Rattle.bit_fields.specs.Field.{field, signed}
-use Rattle.bit_fields.proofs.Field.{field_fits}
+use Rattle.bfp_codec.specs.Field.{field, signed}
+use Rattle.bfp_codec.proofs.Field.{field_fits}
 use Rattle.bfp_codec.specs.Layout.{AreBytes, twos}
 use Rattle.cplane_sections.specs.declared.values.CBody.{CBody}
 use Rattle.cplane_sections.specs.declared.values.CBody.TheVariants.{Idle, Normal, Offset}

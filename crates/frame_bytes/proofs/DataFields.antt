@@ -1,8 +1,8 @@
 -- Headers of data messages, as the bytes that their fields spell.
 use Rattle.std.proofs.Common.{◌≡◌, ℕ, ◌+◌, ◌*◌, ◌≤◌, inl, inr, false, List, length, take, refl, sym, ap, ◌∙◌, arith}
 use Rattle.std.proofs.lemmas.Bool.{cases_Bool}
-use Rattle.bit_fields.specs.Field.{field}
-use Rattle.bit_fields.proofs.Field.{field_fits, field_drop}
+use Rattle.bfp_codec.specs.Field.{field}
+use Rattle.bfp_codec.proofs.Field.{field_fits, field_drop}
 use Rattle.bfp_codec.specs.declared.methods.Format.{Format}
 use Rattle.bfp_codec.specs.Layout.{AreBytes}
 use Rattle.uplane_sections.specs.declared.values.UHead.{UHead}

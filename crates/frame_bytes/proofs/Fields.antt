@@ -5,8 +5,8 @@ use Rattle.std.proofs.Math.Nat.{mul_comm, mod-eq_of_lt}
 use Rattle.std.proofs.lemmas.List.{get_or-take, get_or_past, length-take, length-take-le}
 use Rattle.std.proofs.lemmas.Bool.{cases_lt}
 use Rattle.std.proofs.lemmas.Bool.Decides.{nat_tests}
-use Rattle.bit_fields.specs.Field.{field, flag}
-use Rattle.bit_fields.proofs.Field.{field_split, field_fits, field_take}
+use Rattle.bfp_codec.specs.Field.{field, flag}
+use Rattle.bfp_codec.proofs.Field.{field_split, field_fits, field_take}
 use Rattle.bfp_codec.specs.Layout.{AreBytes, be_bytes}
 use Rattle.bfp_codec.proofs.Spelled.{bytes_are, field_be_bytes, length-be_bytes, be_bytes_small}
 use Rattle.frame_bytes.specs.Spelled.{Field, width_of, spelled_behind, in_bytes}

@@ -1,8 +1,8 @@
 -- A sent frame is one whole PDU, and is read back.
 use Rattle.std.proofs.Common.{◌≡◌, ℕ, ◌+◌, ◌≤◌, false, eqb, List, [], ◌++◌, length, take, drop, refl, sym, ap, ◌∙◌, arith, append_assoc, append-nil, length-append, length-drop}
 use Rattle.std.proofs.lemmas.List.{length-take-le, take-append-drop, drop_at}
-use Rattle.bit_fields.specs.Field.{field}
-use Rattle.bit_fields.proofs.Field.{field_take, field_drop}
+use Rattle.bfp_codec.specs.Field.{field}
+use Rattle.bfp_codec.proofs.Field.{field_take, field_drop}
 use Rattle.ecpri_frames.specs.Headers.{head_of}
 use Rattle.ecpri_fragments.specs.declared.sequence.SeqField.{SeqField}
 use Rattle.frame_bytes.specs.Spelled.{in_bytes}

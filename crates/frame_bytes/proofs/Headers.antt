@@ -1,7 +1,7 @@
 -- The transport header, as the bytes that its fields spell.
 use Rattle.std.proofs.Common.{◌≡◌, ℕ, zero, suc, ◌+◌, ◌/◌, ◌%◌, ◌^◌, ◌<◌, ◌≤◌, false, List, [], ◌∷◌, drop, get_or, refl, sym, ap, ◌∙◌, arith}
-use Rattle.bit_fields.specs.Field.{field}
-use Rattle.bit_fields.proofs.Field.{field_fits, field_same, field_half, field_drop}
+use Rattle.bfp_codec.specs.Field.{field}
+use Rattle.bfp_codec.proofs.Field.{field_fits, field_same, field_half, field_drop}
 use Rattle.bfp_codec.specs.Layout.{AreBytes}
 use Rattle.ecpri_frames.specs.declared.heads.Head.{Head}
 use Rattle.ecpri_frames.specs.Headers.{WritesHead}

@@ -5,8 +5,8 @@ use Rattle.std.proofs.lemmas.Bool.{cases_Bool, le-ltb}
 use Rattle.std.proofs.lemmas.List.{take_all, drop_at, get_or-drop}
 use Rattle.std.proofs.lemmas.List.Elements.{All-head, All-tail}
 use Rattle.std.proofs.Math.Seq.{take-append_seam}
-use Rattle.bit_fields.specs.Field.{field}
-use Rattle.bit_fields.proofs.Field.{field_byte}
+use Rattle.bfp_codec.specs.Field.{field}
+use Rattle.bfp_codec.proofs.Field.{field_byte}
 use Rattle.fh_time.specs.declared.values.Shape.{Shape}
 use Rattle.fh_time.specs.Carrier.{first_of, count_of}
 use Rattle.bfp_codec.specs.declared.samples.Iq.{Iq}

@@ -1,6 +1,6 @@
 -- The definitions at values worked out by hand, each by computing.
 use Rattle.std.proofs.Common.{◌≡◌, ℕ, zero, suc, pos, negsuc, true, false, List, [], ◌∷◌, refl}
-use Rattle.bit_fields.specs.Field.{digits}
+use Rattle.bfp_codec.specs.Field.{digits}
 use Rattle.bfp_codec.specs.declared.samples.Iq.{Iq}
 use Rattle.bfp_codec.specs.declared.methods.Method.TheVariants.{Plain}
 use Rattle.bfp_codec.specs.Layout.{be_bytes, number_bytes, packed_of}

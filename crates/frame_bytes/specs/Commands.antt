@@ -13,7 +13,7 @@ use Rattle.cplane_sections.specs.Writes.{IsReadAs}
 use Rattle.fh_time.specs.declared.values.Shape.{Shape}
 use Rattle.frame_bytes.specs.Spelled.{Field, in_bytes}
 use Rattle.frame_bytes.specs.Transport.{frame_of}
-use Rattle.bit_fields.specs.Field.{flag}
+use Rattle.bfp_codec.specs.Field.{flag}
 
 -- timeOffset, frameStructure, cpLength and 8 reserved bits in type 0; udCompHdr and 8 reserved bits in type 1; in type 3
 -- udCompHdr stands in the place of the reserved bits

@@ -11,7 +11,7 @@ use Rattle.uplane_sections.specs.Writes.{HeadFits, udCompHdr}
 use Rattle.frame_bytes.specs.declared.messages.DataSection.{DataSection}
 use Rattle.frame_bytes.specs.declared.messages.Carrier.{Carrier}
 use Rattle.frame_bytes.specs.Spelled.{Field, in_bytes}
-use Rattle.bit_fields.specs.Field.{flag}
+use Rattle.bfp_codec.specs.Field.{flag}
 use Rattle.ecpri_fragments.specs.declared.place.TheConstants.{MESSAGE_BYTES}
 
 -- dataDirection, payloadVersion 1, filterIndex, frameId, subframeId, slotId, symbolId

@@ -1,6 +1,6 @@
 -- A sent frame: one eCPRI message with its transport header (eCPRI 2.0, sections 3.1.3 and 3.2.4; O-RAN.WG4.CUS, eCPRI transport header).
 use Rattle.std.specs.Prelude.{◌≡◌, ℕ, ◌+◌, ◌<◌, ◌^◌, List, [], ◌∷◌, ◌++◌, length, take, drop, false}
-use Rattle.bit_fields.specs.Field.{field, flag}
+use Rattle.bfp_codec.specs.Field.{field, flag}
 use Rattle.ecpri_frames.specs.Spelling.{Spells}
 use Rattle.ecpri_fragments.specs.declared.sequence.SeqField.{SeqField}
 use Rattle.ecpri_fragments.specs.Sequence.{seq_field_of}

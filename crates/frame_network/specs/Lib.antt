@@ -4,3 +4,8 @@ pub mod Held
 pub mod Pool
 pub mod Queues
 pub mod Spare
+pub mod SendQueues
+pub mod QueueLaws
+pub mod Outboxes
+pub mod Lending
+pub mod Waiting

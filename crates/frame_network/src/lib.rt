@@ -8,18 +8,31 @@
 //! list, and looks at each time once. A [`LandingQueue`] sorts them once, when it is made, and then only moves on.
 //!
 //! The memory of a frame that landed goes to a [`FramePool`], from which the next ones take it.
+//!
+//! The frames that a unit handed over and that wait for the times at which they leave.
+//!
+//! A unit hands its frames to an [`Outbox`], in the order in which it makes them. A [`SendQueue`] takes them from there and gives them
+//! back in the order in which they are sent: by time, at one time by endpoint, and those of an endpoint as they were handed over
+//! (`uplink_model`, `in_sent_order`).
 #![tactic(auto)]
 
 mod arrivals;
 mod in_flight;
 mod landings;
+mod laws;
+mod outbox;
 mod places;
 mod pool;
 mod queue;
+mod send_queue;
 mod sorting;
+mod turns;
 
 pub use arrivals::{Arrival, ArrivalKey};
 pub use in_flight::Network;
 pub use landings::Landing;
+pub use laws::queue_goes_on;
+pub use outbox::Outbox;
 pub use pool::FramePool;
 pub use queue::LandingQueue;
+pub use send_queue::SendQueue;

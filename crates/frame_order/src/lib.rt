@@ -3,12 +3,21 @@
 //! A [`Queue`] holds one [`Run`] for each message that has frames left, in a heap that is made with
 //! its room. [`Queue::next`] gives the first frame of all and puts its message back at the next one,
 //! so it takes no memory and cannot fail.
+//!
+//! The frames of a plan in the order of a queue.
+//!
+//! [`sent_is_in_order`] says that the frames that `plan_model` lists tick by tick are all frames of all messages, in the order in which
+//! a queue of these messages gives them. [`queue_of`] makes the queue.
 #![tactic(auto)]
 
+mod filling_laws;
 mod laws;
 mod queue;
+mod queues;
 mod turns;
 
+pub use filling_laws::{messages_are_runs, sent_is_in_order};
 pub use laws::frames_leave_in_time;
 pub use queue::Queue;
+pub use queues::queue_of;
 pub use turns::{Run, Turn};

@@ -15,7 +15,7 @@ use Rattle.du_scheduler.specs.declared.plans.Sent.{Sent}
 use Rattle.fragment_laws.specs.Apart.{IsIn}
 use Rattle.frame_order.specs.Queues.{first_time}
 use Rattle.plan_model.specs.Sent.{SentFrame}
-use Rattle.sent_order.specs.Runs.{turn_of}
+use Rattle.frame_order.specs.Runs.{turn_of}
 use Rattle.fh_time.specs.declared.values.Ticks.{Ticks}
 use Rattle.frame_deliveries.specs.Leaving.{Leaving}
 use Rattle.fh_document.specs.declared.delivered.TrafficClass.{TrafficClass}

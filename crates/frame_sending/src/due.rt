@@ -6,7 +6,7 @@ ghost use Rattle.bfp_codec.specs.declared.samples.Wide.{Wide as SpecWide};
 ghost use Rattle.du_scheduler.specs.Plans.{HasToSend, IsPlan};
 ghost use Rattle.frame_order.specs.Queues.{first_time};
 ghost use Rattle.plan_model.specs.Sent.{SentFrame};
-ghost use Rattle.sent_order.specs.Runs.{turn_of};
+ghost use Rattle.frame_order.specs.Runs.{turn_of};
 ghost use Rattle.fh_document.specs.Proper.{IsDocument};
 ghost use Rattle.frame_ways.specs.Ways.{OnWay, StandsFor, document_of, having_sent};
 ghost use Rattle.window_config.specs.declared.config.Config.{Config};

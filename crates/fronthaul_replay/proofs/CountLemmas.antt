@@ -17,20 +17,20 @@ use Rattle.fault_counters.specs.Counts.{capped, count_of, times}
 use Rattle.fault_counters.specs.Names.{all_counters}
 use Rattle.fault_counters.specs.declared.kinds.Counter.{Counter}
 use Rattle.fh_document.specs.declared.document.Document.{Document}
-use Rattle.replay_turns.specs.IntakeTurns.{AtIntakeTurn, planned_for}
-use Rattle.replay_turns.proofs.NextLemmas.{intake_over}
+use Rattle.fronthaul_replay.specs.IntakeTurns.{AtIntakeTurn, planned_for}
+use Rattle.fronthaul_replay.proofs.BoxNext.{intake_over}
 use Rattle.measured_traffic.specs.Replayed.{doings_at, landings_for, traffic_of}
 use Rattle.measured_traffic.specs.Doings.{Doings}
 use Rattle.document_traffic.specs.Landing.{jobs_for}
 use Rattle.document_traffic.specs.Laws.{IsReplayable}
 use Rattle.measured_traffic.proofs.OverLemmas.{documents_are_over}
 use Rattle.measured_traffic.proofs.SentLemmas.{messages_are_owed}
-use Rattle.replay_turns.specs.Turns.{AtRadioTurn, events_before}
-use Rattle.replay_events.specs.Events.{all_counted, count_event, count_events, is_measured, number_of}
-use Rattle.replay_events.specs.Heard.{arrivals_heard, cells_heard}
-use Rattle.replay_events.specs.Moments.{all_arrivals, end_of_time}
-use Rattle.replay_events.specs.Traffic.{landings_at, reported_at}
-use Rattle.replay_events.proofs.HeardLemmas.{arrivals-append, cells-append}
+use Rattle.fronthaul_replay.specs.BoxTurns.{AtRadioTurn, events_before}
+use Rattle.replay_laws.specs.Events.{all_counted, count_event, count_events, is_measured, number_of}
+use Rattle.replay_laws.specs.Heard.{arrivals_heard, cells_heard}
+use Rattle.replay_laws.specs.Moments.{all_arrivals, end_of_time}
+use Rattle.replay_laws.specs.Traffic.{landings_at, reported_at}
+use Rattle.replay_laws.proofs.HeardLemmas.{arrivals-append, cells-append}
 use Rattle.ru_buffers.specs.Calls.{IsQuietTo}
 use Rattle.ru_buffers.specs.declared.unit.Ru.{Ru}
 use Rattle.unit_model.specs.Counts.{StandAt, cells_counted}
@@ -38,12 +38,12 @@ use Rattle.unit_model.specs.Meetings.{Arrival as Landing}
 use Rattle.unit_model.specs.Reports.{accepted_of, arrivals_counted, du_known, du_reported, ru_known, ru_reported}
 use Rattle.unit_model.specs.Standing.{History, due, still_given}
 use Rattle.unit_model.specs.declared.jobs.UplinkJob.{UplinkJob}
-use Rattle.history_laws.proofs.TickLemmas.{last_of_next}
-use Rattle.uplink_turns.specs.Turns.{jobs_until}
+use Rattle.unit_laws.proofs.HistoryTicks.{last_of_next}
+use Rattle.uplink_laws.specs.Turns.{jobs_until}
 use Rattle.fronthaul_replay.specs.Counting.{told_counts, told_number}
 use Rattle.fronthaul_replay.specs.Replaying.{IsDone, IsInStep, IsIntakeDone, IsRadioDone, StopsInStep, events_of}
 use Rattle.fronthaul_replay.specs.Turns.{AtTurn}
-use Rattle.sum_air.proofs.Whole.{IsCount}
+use Rattle.report_airs.proofs.Whole.{IsCount}
 use Rattle.fronthaul_replay.proofs.Counted.{one_count}
 use Rattle.fronthaul_replay.proofs.StepLemmas.{turn_in_step}
 use Rattle.fronthaul_replay.proofs.StopLemmas.{all_events}

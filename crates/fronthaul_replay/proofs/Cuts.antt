@@ -9,20 +9,20 @@ use Rattle.air_source.specs.declared.airs.AirFault.TheVariants.{Failed, NoMemory
 use Rattle.air_source.specs.declared.events.Event.{Event}
 use Rattle.fh_document.specs.declared.document.Document.{Document}
 use Rattle.fronthaul_replay.specs.Replaying.{events_of}
-use Rattle.owed_bytes.specs.Owed.{Carried}
-use Rattle.owed_bytes.proofs.Parts.{front_part, part_behind}
-use Rattle.air_sinks.specs.Stopping.{Halted}
-use Rattle.air_sinks.proofs.Fronts.{front_of, stops_front, cut_front}
+use Rattle.fh_base.specs.Owed.{Carried}
+use Rattle.fh_base.proofs.Parts.{front_part, part_behind}
+use Rattle.air_source.specs.Stopping.{Halted}
+use Rattle.air_source.proofs.Fronts.{front_of, stops_front, cut_front}
 use Rattle.capture_records.specs.declared.layout.TheConstants.{MAGIC}
-use Rattle.capture_air.specs.Capture.{whole_capture, event_record, events_records}
-use Rattle.capture_air.specs.Recorded.{Recorded}
-use Rattle.capture_air.proofs.Captured as captured
-use Rattle.sum_air.specs.SumStates.{SumState}
-use Rattle.sum_air.specs.States.{closing_text, sum_start, sum_next, sum_gives, sum_ends}
-use Rattle.sum_air.specs.Summary.{end_text, whole_summary}
-use Rattle.sum_air.specs.Laws.{Heard}
-use Rattle.sum_air.proofs.Whole.{summary_is}
-use Rattle.sum_air.proofs.Written as summed
+use Rattle.report_airs.specs.Capture.{whole_capture, event_record, events_records}
+use Rattle.report_airs.specs.Recorded.{Recorded}
+use Rattle.report_airs.proofs.Captured as captured
+use Rattle.report_airs.specs.SumStates.{SumState}
+use Rattle.report_airs.specs.States.{closing_text, sum_start, sum_next, sum_gives, sum_ends}
+use Rattle.report_airs.specs.Summary.{end_text, whole_summary}
+use Rattle.report_airs.specs.SumLaws.{Heard}
+use Rattle.report_airs.proofs.Whole.{summary_is}
+use Rattle.report_airs.proofs.Written as summed
 use Rattle.fronthaul_replay.specs.declared.report.TextFault.{TextFault}
 use Rattle.fronthaul_replay.specs.declared.report.TextFault.TheVariants.{WriteFault, NoMemory}
 use Rattle.fronthaul_replay.specs.Cut.{CutBy}

@@ -8,15 +8,15 @@ use Rattle.du_intake.specs.Planned.{IsPlanOf}
 use Rattle.du_intake.proofs.PlanLemmas.{plan_clear}
 use Rattle.fh_document.specs.declared.document.Document.{Document}
 use Rattle.fragment_laws.specs.Apart.{IsIn}
-use Rattle.replay_turns.specs.IntakeTurns.{planned_for}
+use Rattle.fronthaul_replay.specs.IntakeTurns.{planned_for}
 use Rattle.measured_traffic.specs.Replayed.{traffic_of}
 use Rattle.measured_traffic.proofs.CountedLemmas.{counters_have_counted}
 use Rattle.measured_traffic.proofs.DelayLemmas.{events_are_exact, events_are_measured}
 use Rattle.measured_traffic.proofs.ExchangedLemmas.{delay_events_are_known}
 use Rattle.measured_traffic.proofs.OnceLemmas.{schedule_radiates, uplink_is_taken_in}
 use Rattle.plan_model.specs.Validity.{share_bit, share_cell}
-use Rattle.replay_events.specs.Moments.{all_arrivals}
-use Rattle.replay_events.specs.Traffic.{landings_at}
+use Rattle.replay_laws.specs.Moments.{all_arrivals}
+use Rattle.replay_laws.specs.Traffic.{landings_at}
 use Rattle.replay_laws.specs.Shown.{HaveOneId}
 use Rattle.replay_laws.proofs.DelayLemmas.{delays_are_results, delays_follow_frames, frames_are_told}
 use Rattle.replay_laws.proofs.GatheredLemmas.{shown_are_gathered}
@@ -32,7 +32,7 @@ use Rattle.unit_model.specs.declared.allocations.Allocation.{Allocation}
 use Rattle.unit_model.specs.declared.cells.Cell.{Cell}
 use Rattle.unit_model.specs.declared.cells.Claim.{Claim}
 use Rattle.plan_model.proofs.ClashLemmas.{both_cover, claimed}
-use Rattle.replay_turns.proofs.TurnLemmas.{lands_in_time}
+use Rattle.fronthaul_replay.proofs.TurnLemmas.{lands_in_time}
 use Rattle.fronthaul_replay.specs.Laws.{IsSound, TellsResults}
 use Rattle.fronthaul_replay.specs.Replaying.{IsReplayable}
 

@@ -17,33 +17,33 @@ use Rattle.du_intake.specs.declared.unit.Intake.{Intake}
 use Rattle.fh_document.specs.declared.document.Document.{Document}
 use Rattle.fh_time.specs.declared.values.Ticks.{Ticks}
 use Rattle.frame_ways.proofs.TimeLemmas.{earlier_of_both}
-use Rattle.replay_turns.specs.Up.{NoneComesUp}
-use Rattle.replay_turns.specs.IntakeTurns.{planned_for}
-use Rattle.replay_turns.proofs.NextLemmas.{IsStill as AreBothStill, down_idle, intake_idle, none_due_before, silent_before, still_at_intake, still_between, waits_idle}
-use Rattle.replay_turns.specs.Measuring.{MeasuresWait, begins_for}
+use Rattle.fronthaul_replay.specs.Up.{NoneComesUp}
+use Rattle.fronthaul_replay.specs.IntakeTurns.{planned_for}
+use Rattle.fronthaul_replay.proofs.BoxNext.{IsStill as AreBothStill, down_idle, intake_idle, none_due_before, silent_before, still_at_intake, still_between, waits_idle}
+use Rattle.fronthaul_replay.specs.Measuring.{MeasuresWait, begins_for}
 use Rattle.unit_meters.specs.Begins.{NoneBeginsTo}
 use Rattle.unit_meters.specs.declared.meters.Meters.{Meters}
-use Rattle.replay_turns.proofs.MeasureLemmas.{measures_wait, none_begins}
+use Rattle.fronthaul_replay.proofs.MeasureLemmas.{measures_wait, none_begins}
 use Rattle.measured_traffic.specs.Replayed.{traffic_of}
 use Rattle.measured_traffic.specs.Turns.{IsQuietBetween}
-use Rattle.replay_turns.specs.Down.{NoneComesDown}
-use Rattle.replay_turns.specs.Turns.{events_before}
+use Rattle.fronthaul_replay.specs.Down.{NoneComesDown}
+use Rattle.fronthaul_replay.specs.BoxTurns.{events_before}
 use Rattle.frame_sending.proofs.OrderLemmas.{sent_less}
 use Rattle.plan_model.specs.Sent.{SentFrame}
 use Rattle.air_source.specs.declared.links.LinkFrame.{LinkFrame}
 use Rattle.frame_deliveries.specs.Leaving.{Leaving}
-use Rattle.replay_turns.proofs.MomentLemmas as radio
-use Rattle.replay_events.specs.Events.{events_at}
-use Rattle.replay_events.specs.Moments.{end_of_time}
-use Rattle.replay_events.specs.Passing.{IsNextMoment, IsUnitMoment}
-use Rattle.replay_events.proofs.EventLemmas.{events_go_on, events_wait}
+use Rattle.fronthaul_replay.proofs.MomentLemmas as radio
+use Rattle.replay_laws.specs.Events.{events_at}
+use Rattle.replay_laws.specs.Moments.{end_of_time}
+use Rattle.replay_laws.specs.Passing.{IsNextMoment, IsUnitMoment}
+use Rattle.replay_laws.proofs.EventLemmas.{events_go_on, events_wait}
 use Rattle.ru_buffers.specs.Calls.{IsDue, IsQuietTo}
 use Rattle.fh_time.specs.Least.{IsLeast, IsLeastOf, earlier_time}
 use Rattle.ru_buffers.specs.declared.unit.Ru.{Ru}
 use Rattle.unit_model.proofs.SweepLaws.{gap_is}
 use Rattle.unit_model.specs.Radiated.{first_clock}
 use Rattle.unit_model.specs.Standing.{History}
-use Rattle.history_laws.proofs.TickLemmas.{before_next, next_after}
+use Rattle.unit_laws.proofs.HistoryTicks.{before_next, next_after}
 use Rattle.fronthaul_replay.specs.declared.coming.Coming.{Coming}
 use Rattle.fronthaul_replay.specs.Turns.{AtMoment, HaveMeasured, IsNextTick, IsStill, within_end}
 use Rattle.fh_time.proofs.Orders.{under, not_under, next_later as next_most, before_it}

@@ -4,10 +4,10 @@ use Rattle.air_source.specs.declared.events.Event.{Event}
 use Rattle.air_source.specs.declared.events.Side.TheVariants.{Du as AtDu}
 use Rattle.du_intake.specs.declared.unit.Intake.{Intake}
 use Rattle.fh_document.specs.declared.document.Document.{Document}
-use Rattle.replay_turns.specs.IntakeTurns.{AtIntakeTurn, IsIntakeInStep}
-use Rattle.replay_turns.proofs.NextLemmas.{intake_front_stays, intake_turn_step}
-use Rattle.replay_turns.specs.Turns.{IsRadioInStep, events_before, intake_events, radio_events}
-use Rattle.replay_turns.proofs.StepLemmas.{AreEventsOf, events_front, intake_own, step_stays, turn_step}
+use Rattle.fronthaul_replay.specs.IntakeTurns.{AtIntakeTurn, IsIntakeInStep}
+use Rattle.fronthaul_replay.proofs.BoxNext.{intake_front_stays, intake_turn_step}
+use Rattle.fronthaul_replay.specs.BoxTurns.{IsRadioInStep, events_before, intake_events, radio_events}
+use Rattle.fronthaul_replay.proofs.BoxSteps.{AreEventsOf, events_front, intake_own, step_stays, turn_step}
 use Rattle.ru_buffers.specs.declared.unit.Ru.{Ru}
 use Rattle.fronthaul_replay.specs.Replaying.{IsInStep}
 use Rattle.fronthaul_replay.specs.Turns.{AtTurn}

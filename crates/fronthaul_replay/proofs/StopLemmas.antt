@@ -6,17 +6,17 @@ use Rattle.air_source.specs.declared.events.Side.TheVariants.{Ru as AtRu, Du as 
 use Rattle.du_intake.specs.Calls.{IntakeStandsFor}
 use Rattle.du_intake.specs.declared.unit.Intake.{Intake}
 use Rattle.fh_document.specs.declared.document.Document.{Document}
-use Rattle.replay_turns.specs.IntakeTurns.{AtIntakeTurn, IsIntakeInStep, planned_for}
+use Rattle.fronthaul_replay.specs.IntakeTurns.{AtIntakeTurn, IsIntakeInStep, planned_for}
 use Rattle.measured_traffic.specs.Replayed.{traffic_of}
 use Rattle.unit_moments.specs.Stops.{HaltsBehind, RestsBehind, StopsBehind}
-use Rattle.replay_turns.specs.Turns.{IsRadioInStep, events_before, intake_events, radio_events}
-use Rattle.replay_turns.proofs.StepLemmas.{tick_events}
+use Rattle.fronthaul_replay.specs.BoxTurns.{IsRadioInStep, events_before, intake_events, radio_events}
+use Rattle.fronthaul_replay.proofs.BoxSteps.{tick_events}
 use Rattle.unit_moments.proofs.StopLemmas as stop
-use Rattle.replay_events.specs.Events.{count_events, events, events_at, events_between}
-use Rattle.replay_events.specs.Moments.{end_of_time}
-use Rattle.replay_events.proofs.EventLemmas.{events_go_on}
-use Rattle.replay_events.proofs.HeardLemmas.{arrivals-none, cells-none}
-use Rattle.replay_events.proofs.TickLemmas.{ticks_append}
+use Rattle.replay_laws.specs.Events.{count_events, events, events_at, events_between}
+use Rattle.replay_laws.specs.Moments.{end_of_time}
+use Rattle.replay_laws.proofs.EventLemmas.{events_go_on}
+use Rattle.replay_laws.proofs.HeardLemmas.{arrivals-none, cells-none}
+use Rattle.replay_laws.proofs.TickLemmas.{ticks_append}
 use Rattle.ru_buffers.specs.Calls.{StandsFor}
 use Rattle.ru_buffers.specs.declared.unit.Ru.{Ru}
 use Rattle.unit_model.specs.Radiated.{first_clock}

@@ -8,12 +8,12 @@ use Rattle.air_source.specs.declared.airs.AirFault.{AirFault}
 use Rattle.air_source.specs.declared.airs.AirFault.TheVariants.{Failed, NoMemory as WantsMemory}
 use Rattle.air_source.specs.declared.events.Event.{Event}
 use Rattle.fh_document.specs.declared.document.Document.{Document}
-use Rattle.owed_bytes.specs.Owed.{Carried}
-use Rattle.owed_bytes.proofs.Parts.{front_part, part_behind}
-use Rattle.air_sinks.specs.Stopping.{Halted}
-use Rattle.text_air.specs.Counts.{counter_text}
-use Rattle.text_air.specs.Text.{end_text, event_text}
-use Rattle.text_air.proofs.Texts.{cut_front, finish_front, finished, front_of_whole, stops_front}
+use Rattle.fh_base.specs.Owed.{Carried}
+use Rattle.fh_base.proofs.Parts.{front_part, part_behind}
+use Rattle.air_source.specs.Stopping.{Halted}
+use Rattle.report_airs.specs.Counts.{counter_text}
+use Rattle.report_airs.specs.Text.{end_text, event_text}
+use Rattle.report_airs.proofs.Texts.{cut_front, finish_front, finished, front_of_whole, stops_front}
 use Rattle.fronthaul_replay.specs.declared.report.TextFault.{TextFault}
 use Rattle.fronthaul_replay.specs.declared.report.TextFault.TheVariants.{WriteFault, NoMemory}
 use Rattle.fronthaul_replay.specs.Cut.{CutBy}

@@ -6,7 +6,7 @@ use Rattle.air_source.specs.declared.events.Side.{Side}
 use Rattle.fault_counters.specs.Counts.{capped, count_of, times}
 use Rattle.fault_counters.specs.Names.{all_counters}
 use Rattle.fault_counters.specs.declared.kinds.Counter.{Counter}
-use Rattle.replay_events.specs.Events.{count_event, is_measured}
+use Rattle.replay_laws.specs.Events.{count_event, is_measured}
 
 -- of a counter of delay measurement by what the meter counted, of any other by the unit's counters
 abbrev pub told_number : List ℕ → List Counter → Counter → ℕ

@@ -6,3 +6,10 @@ pub mod Cut
 pub mod Faults
 pub mod Reports
 pub mod Replay
+pub mod Waiting
+pub mod BoxTurns
+pub mod IntakeTurns
+pub mod Down
+pub mod Up
+pub mod Answering
+pub mod Measuring

@@ -8,10 +8,10 @@ use Rattle.du_intake.specs.Calls.{IntakeStandsFor}
 use Rattle.du_intake.specs.Units.{intake_due_of as intake_due}
 use Rattle.du_intake.specs.declared.unit.Intake.{Intake}
 use Rattle.fh_document.specs.declared.document.Document.{Document}
-use Rattle.replay_turns.specs.IntakeTurns.{IsIntakeInStep, planned_for}
-use Rattle.replay_turns.specs.Turns.{IsRadioInStep}
-use Rattle.replay_events.specs.Events.{events}
-use Rattle.replay_events.specs.Moments.{all_arrivals, end_of_time}
+use Rattle.fronthaul_replay.specs.IntakeTurns.{IsIntakeInStep, planned_for}
+use Rattle.fronthaul_replay.specs.BoxTurns.{IsRadioInStep}
+use Rattle.replay_laws.specs.Events.{events}
+use Rattle.replay_laws.specs.Moments.{all_arrivals, end_of_time}
 use Rattle.ru_buffers.specs.Calls.{IsQuietTo, StandsFor}
 use Rattle.ru_buffers.specs.declared.unit.Ru.{Ru}
 use Rattle.unit_model.specs.Reports.{du_reported, ru_reported}

@@ -2,10 +2,10 @@
 use Rattle.std.specs.Prelude.{ℕ, List}
 use Rattle.fh_document.specs.declared.document.Document.{Document}
 use Rattle.fronthaul_replay.specs.Replaying.{events_of}
-use Rattle.capture_air.specs.Capture.{whole_capture}
-use Rattle.sum_air.specs.Summary.{whole_summary}
-use Rattle.text_air.specs.Counts.{whole_counts}
-use Rattle.text_air.specs.Text.{whole_text}
+use Rattle.report_airs.specs.Capture.{whole_capture}
+use Rattle.report_airs.specs.Summary.{whole_summary}
+use Rattle.report_airs.specs.Counts.{whole_counts}
+use Rattle.report_airs.specs.Text.{whole_text}
 
 -- the report of a document: the lines of its events, and `end`
 unfoldable pub document_report : Document → List ℕ

@@ -13,16 +13,16 @@ use Rattle.fh_document.specs.declared.document.Document.{Document}
 use Rattle.frame_deliveries.specs.Leaving.{Leaving}
 use Rattle.document_delays.specs.Settings.{compensation_of}
 use Rattle.fh_time.specs.declared.values.Ticks.{Ticks}
-use Rattle.replay_turns.specs.Down.{HasLandedDown, NoneComesDown, WaitsDown}
-use Rattle.replay_turns.specs.IntakeTurns.{AtIntakeTurn, planned_for}
-use Rattle.replay_turns.specs.Measuring.{HaveBegun, MeasuresWait, begins_for}
-use Rattle.replay_turns.specs.Turns.{AtRadioTurn}
-use Rattle.replay_turns.specs.Up.{HasLandedUp, NoneComesUp, WaitsUp}
+use Rattle.fronthaul_replay.specs.Down.{HasLandedDown, NoneComesDown, WaitsDown}
+use Rattle.fronthaul_replay.specs.IntakeTurns.{AtIntakeTurn, planned_for}
+use Rattle.fronthaul_replay.specs.Measuring.{HaveBegun, MeasuresWait, begins_for}
+use Rattle.fronthaul_replay.specs.BoxTurns.{AtRadioTurn}
+use Rattle.fronthaul_replay.specs.Up.{HasLandedUp, NoneComesUp, WaitsUp}
 use Rattle.unit_meters.specs.Begins.{Awaits, NoneBeginsTo}
 use Rattle.unit_meters.specs.declared.meters.Meters.{Meters}
 use Rattle.delay_exchange.specs.Meters.{HasDoings}
 use Rattle.measured_traffic.specs.Replayed.{doings_at, made_at}
-use Rattle.replay_events.specs.Moments.{end_of_time}
+use Rattle.replay_laws.specs.Moments.{end_of_time}
 use Rattle.ru_buffers.specs.Calls.{IsQuietTo}
 use Rattle.ru_buffers.specs.declared.unit.Ru.{Ru as Unit}
 use Rattle.unit_model.specs.Standing.{History}

@@ -6,15 +6,15 @@ ghost use Rattle.fh_time.specs.Least.{IsLeastOf};
 ghost use Rattle.document_traffic.specs.Landing.{antenna_for};
 ghost use Rattle.document_traffic.specs.Laws.{IsReplayable};
 ghost use Rattle.unit_model.specs.Radiated.{first_clock};
-ghost use Rattle.replay_turns.specs.Up.{NoneComesUp, WaitsUp};
+ghost use Rattle.fronthaul_replay.specs.Up.{NoneComesUp, WaitsUp};
 
 use air_source::{RePlace, Samples, Side};
 use bfp_codec::Wide;
 use fh_base::NoMemory;
 use fh_document::Document;
 use fh_time::Ticks;
+use frame_network::{Outbox, SendQueue};
 use frame_ways::{Way, earlier_of};
-use send_queue::{Outbox, SendQueue};
 use std::alloc::Global;
 use uplink_path::Uplink;
 

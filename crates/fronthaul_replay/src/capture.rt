@@ -11,10 +11,10 @@ ghost use Rattle.fronthaul_replay.specs.Reports.{capture_of};
 
 use crate::replaying::replay_to;
 use crate::report::TextFault;
-use capture_air::CaptureAir;
 use du_scheduler::Plan;
 use fh_base::Sink;
 use fh_document::Document;
+use report_airs::CaptureAir;
 use std::alloc::Global;
 
 /// Writes the capture of a document: the magic and a record for each frame that arrives.

@@ -5,7 +5,7 @@ ghost use Rattle.air_source.specs.Stops.{StopsIn};
 ghost use Rattle.delay_exchange.specs.Units.{Has};
 ghost use Rattle.delay_laws.specs.Nodes.{Compensation};
 ghost use Rattle.measured_traffic.specs.Doings.{Doings};
-ghost use Rattle.replay_events.specs.Events.{count_event};
+ghost use Rattle.replay_laws.specs.Events.{count_event};
 ghost use Rattle.fronthaul_replay.specs.Counting.{told_counts, told_number};
 
 use air_source::{Air, AirFault, Side};

@@ -5,7 +5,7 @@ ghost use Rattle.fh_time.specs.Least.{IsLeastOf};
 ghost use Rattle.document_traffic.specs.Laws.{IsReplayable};
 ghost use Rattle.document_traffic.specs.Sending.{sent_for};
 ghost use Rattle.unit_model.specs.Radiated.{first_clock};
-ghost use Rattle.replay_turns.specs.Down.{NoneComesDown, WaitsDown};
+ghost use Rattle.fronthaul_replay.specs.Down.{NoneComesDown, WaitsDown};
 
 use air_source::Side;
 use du_scheduler::Plan;

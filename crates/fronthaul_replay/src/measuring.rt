@@ -4,7 +4,7 @@ ghost use Rattle.air_source.specs.declared.events.Side.TheVariants.{Du as AtDu, 
 ghost use Rattle.document_delays.specs.Settings.{compensation_of};
 ghost use Rattle.fh_document.specs.Proper.{IsDocument};
 ghost use Rattle.unit_model.specs.Radiated.{first_clock};
-ghost use Rattle.replay_turns.specs.Measuring.{MeasuresWait};
+ghost use Rattle.fronthaul_replay.specs.Measuring.{MeasuresWait};
 ghost use Rattle.delay_measure.specs.Kept.{IsCompensation};
 ghost use Rattle.unit_meters.specs.Begins.{AnswersAs};
 

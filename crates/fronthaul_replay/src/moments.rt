@@ -7,13 +7,13 @@ ghost use Rattle.air_source.specs.declared.airs.AirFault.TheVariants.{Failed, No
 ghost use Rattle.document_traffic.specs.Laws.{IsReplayable};
 ghost use Rattle.du_scheduler.specs.Plans.{IsPlan};
 ghost use Rattle.fh_document.specs.declared.document.Document.{Document as SpecDocument};
-ghost use Rattle.replay_turns.specs.Measuring.{MeasuresWait};
+ghost use Rattle.fronthaul_replay.specs.Measuring.{MeasuresWait};
 ghost use Rattle.measured_traffic.specs.Replayed.{traffic_of};
 ghost use Rattle.unit_moments.specs.Stops.{HaltsBehind, StopsBehind};
-ghost use Rattle.replay_turns.specs.Turns.{events_before};
-ghost use Rattle.replay_events.specs.Events.{events_at};
-ghost use Rattle.replay_events.specs.Moments.{end_of_time};
-ghost use Rattle.tone_source.specs.Tones.{tone_of};
+ghost use Rattle.fronthaul_replay.specs.BoxTurns.{events_before};
+ghost use Rattle.replay_laws.specs.Events.{events_at};
+ghost use Rattle.replay_laws.specs.Moments.{end_of_time};
+ghost use Rattle.air_source.specs.Tones.{tone_of};
 ghost use Rattle.unit_model.specs.Radiated.{first_clock};
 ghost use Rattle.fronthaul_replay.specs.Replaying.{IsInStep};
 ghost use Rattle.fronthaul_replay.specs.Turns.{AtMoment, AtTurn, TurnHasBegun, TurnHasLanded, HaveMeasured, IsNextTick, WaitsInTurn};

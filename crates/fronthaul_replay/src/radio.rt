@@ -10,12 +10,12 @@ ghost use Rattle.frame_deliveries.specs.Leaving.{Leaving};
 ghost use Rattle.measured_traffic.specs.Replayed.{landings_for, made_at};
 ghost use Rattle.document_delays.specs.Settings.{compensation_of};
 ghost use Rattle.document_traffic.specs.Laws.{IsReplayable};
-ghost use Rattle.replay_events.specs.Moments.{end_of_time};
-ghost use Rattle.tone_source.specs.Tones.{tone_of};
+ghost use Rattle.replay_laws.specs.Moments.{end_of_time};
+ghost use Rattle.air_source.specs.Tones.{tone_of};
 ghost use Rattle.unit_model.specs.Meetings.{Arrival};
-ghost use Rattle.replay_turns.specs.Down.{HasLandedDown, WaitsDown};
-ghost use Rattle.replay_turns.specs.Turns.{AtRadioTurn, HasRadioLanded, IsRadioInStep, events_before, radio_events};
-ghost use Rattle.replay_turns.specs.Waiting.{LandsAfter, Waits, begun_at};
+ghost use Rattle.fronthaul_replay.specs.Down.{HasLandedDown, WaitsDown};
+ghost use Rattle.fronthaul_replay.specs.BoxTurns.{AtRadioTurn, HasRadioLanded, IsRadioInStep, events_before, radio_events};
+ghost use Rattle.fronthaul_replay.specs.Waiting.{LandsAfter, Waits, begun_at};
 ghost use Rattle.unit_moments.specs.Stops.{HaltsBehind, StopsBehind};
 ghost use Rattle.delay_exchange.specs.Meters.{HasDoings};
 

@@ -3,7 +3,7 @@ ghost use Rattle.std.specs.Prelude.{◌≡◌, ◌<◌, OnOk, IfErr, IfOk};
 ghost use Rattle.air_source.specs.Answers.{Fits16};
 ghost use Rattle.document_traffic.specs.Sending.{sent_for};
 ghost use Rattle.du_scheduler.specs.Plans.{HasToSend};
-ghost use Rattle.tone_source.specs.Tones.{tone_of};
+ghost use Rattle.air_source.specs.Tones.{tone_of};
 ghost use Rattle.fh_document.specs.Proper.{IsDocument};
 ghost use Rattle.fronthaul_replay.specs.Laws.{IsSound};
 ghost use Rattle.fronthaul_replay.specs.Replay.{HasWriteCause};
@@ -11,12 +11,12 @@ ghost use Rattle.fronthaul_replay.specs.Replaying.{events_of};
 ghost use Rattle.fronthaul_replay.specs.Cut.{CutBy};
 ghost use Rattle.fronthaul_replay.specs.Replaying.{IsReplayable};
 ghost use Rattle.du_intake.specs.Calls.{IntakeStandsFor};
-ghost use Rattle.replay_turns.specs.IntakeTurns.{planned_for};
+ghost use Rattle.fronthaul_replay.specs.IntakeTurns.{planned_for};
 ghost use Rattle.unit_model.specs.Standing.{nothing_yet};
 
 use crate::replays::replay;
 use crate::report::TextFault;
-use air_source::{Air, RePlace, Samples};
+use air_source::{Air, RePlace, Samples, ToneSteps};
 use bfp_codec::Wide;
 use du_intake::Intake;
 use du_scheduler::{Plan, planned_lines};
@@ -24,7 +24,6 @@ use fh_base::NoMemory;
 use fh_document::Document;
 use ru_buffers::Ru;
 use std::alloc::Global;
-use tone_source::ToneSteps;
 
 /// Makes both units of a document and tells an air the document's events; the samples that are sent are those of its `source`, those
 /// that the radio unit takes in those of its `antenna`.

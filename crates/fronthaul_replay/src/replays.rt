@@ -7,13 +7,13 @@ ghost use Rattle.air_source.specs.declared.airs.AirFault.TheVariants.{Failed, No
 ghost use Rattle.document_traffic.specs.Landing.{antenna_for};
 ghost use Rattle.document_traffic.specs.Sending.{sent_for};
 ghost use Rattle.delay_measure.specs.Kept.{answer_at};
-ghost use Rattle.replay_turns.specs.Measuring.{MeasuresWait};
+ghost use Rattle.fronthaul_replay.specs.Measuring.{MeasuresWait};
 ghost use Rattle.du_intake.specs.Calls.{IntakeStandsFor};
 ghost use Rattle.du_scheduler.specs.Plans.{HasToSend};
 ghost use Rattle.fh_document.specs.Proper.{IsDocument};
-ghost use Rattle.replay_turns.specs.IntakeTurns.{planned_for};
+ghost use Rattle.fronthaul_replay.specs.IntakeTurns.{planned_for};
 ghost use Rattle.ru_buffers.specs.Calls.{StandsFor};
-ghost use Rattle.tone_source.specs.Tones.{tone_of};
+ghost use Rattle.air_source.specs.Tones.{tone_of};
 ghost use Rattle.unit_model.specs.Radiated.{first_clock};
 ghost use Rattle.unit_model.specs.Standing.{nothing_yet};
 ghost use Rattle.fronthaul_replay.specs.Faults.{replay_fault};

@@ -17,8 +17,8 @@ use air_source::AirFault;
 use du_scheduler::Plan;
 use fh_base::{NoMemory, Sink};
 use fh_document::Document;
+use report_airs::{CountAir, TextAir};
 use std::alloc::Global;
-use text_air::{CountAir, TextAir};
 use thiserror::Error;
 
 /// Why the text of a document was not written whole.

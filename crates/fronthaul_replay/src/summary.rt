@@ -5,8 +5,8 @@ ghost use Rattle.fh_base.specs.Told.{WritesFront, WritesPart};
 ghost use Rattle.document_traffic.specs.Sending.{sent_for};
 ghost use Rattle.du_scheduler.specs.Plans.{HasToSend};
 ghost use Rattle.fh_document.specs.Proper.{IsDocument};
-ghost use Rattle.sum_air.specs.Airs.{sink_name, sink_of, owed_of, sums_of};
-ghost use Rattle.sum_air.specs.States.{sum_start};
+ghost use Rattle.report_airs.specs.SumAirs.{sink_name, sink_of, owed_of, sums_of};
+ghost use Rattle.report_airs.specs.States.{sum_start};
 ghost use Rattle.fronthaul_replay.specs.Laws.{IsSound};
 ghost use Rattle.fronthaul_replay.specs.Replay.{HasWriteCause};
 ghost use Rattle.fronthaul_replay.specs.Reports.{summary_of};
@@ -16,8 +16,8 @@ use crate::report::TextFault;
 use du_scheduler::Plan;
 use fh_base::Sink;
 use fh_document::Document;
+use report_airs::{SumAir, Sums};
 use std::alloc::Global;
-use sum_air::{SumAir, Sums};
 
 /// Writes the summary of a document: a line for each run of cells in place of the cells' lines, then those of the delays and of the
 /// counters that are not at 0, and `end`.

@@ -1,6 +1,6 @@
 // Times in the order of a replay.
 ghost use Rattle.std.specs.Prelude.{◌≡◌, pos, ◌+ℤ◌, ◌≤ℤ◌, int_le};
-ghost use Rattle.replay_events.specs.Moments.{end_of_time};
+ghost use Rattle.replay_laws.specs.Moments.{end_of_time};
 ghost use Rattle.fronthaul_replay.specs.Turns.{within_end};
 
 use fh_time::{END_OF_TIME, Ticks};

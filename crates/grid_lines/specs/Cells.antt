@@ -4,7 +4,7 @@ use Rattle.std.specs.Prelude.{◌≡◌, ℕ, ℤ, ◌+◌, ◌-◌, ◌≤◌, 
 use Rattle.std.specs.Option.{is_some}
 use Rattle.std.specs.Str.{bytes_eq}
 use Rattle.fh_time.specs.Numbering.{slots_of, symbols_of}
-use Rattle.text_lines.specs.Numbers.{word_at}
+use Rattle.fh_base.specs.Numbers.{word_at}
 use Rattle.picture_lines.specs.Numbers.{taking, numeral, keyed, integer, digit, is_mask, is_free, most}
 use Rattle.grid_lines.specs.declared.cells.Cell.{Cell}
 use Rattle.grid_lines.specs.declared.cells.Look.{Look}

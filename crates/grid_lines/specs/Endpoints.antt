@@ -7,7 +7,7 @@ use Rattle.std.specs.Str.{bytes_eq}
 use Rattle.fh_time.specs.Numbering.{ordinary_of, offset_of, extended_of}
 use Rattle.fh_time.specs.declared.carrier.TheConstants.{CARRIER_PRBS}
 use Rattle.fh_time.specs.declared.numerology.Numerology.{Numerology}
-use Rattle.text_lines.specs.Numbers.{word_at, number_in}
+use Rattle.fh_base.specs.Numbers.{word_at, number_in}
 use Rattle.picture_lines.specs.Numbers.{taking, numeral, after, is_id}
 use Rattle.grid_lines.specs.declared.endpoints.Endpoint.{Endpoint}
 

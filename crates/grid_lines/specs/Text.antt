@@ -3,7 +3,7 @@ use Rattle.std.specs.Prelude.{◌≡◌, ℕ, ◌+◌, List, [], ◌∷◌, ◌+
 use Rattle.std.specs.List.{slice_split}
 use Rattle.std.specs.Option.{is_some}
 use Rattle.std.specs.Str.{bytes_eq}
-use Rattle.text_lines.specs.Numbers.{word_at}
+use Rattle.fh_base.specs.Numbers.{word_at}
 use Rattle.line_words.specs.Words.{words_of, is_text, without_last_feed}
 use Rattle.picture_lines.specs.Refusals.{head_line, is_end, or_line, going_on}
 use Rattle.picture_lines.specs.declared.faults.TextWhy.{TextWhy}

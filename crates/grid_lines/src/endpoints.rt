@@ -2,10 +2,10 @@
 ghost use Rattle.std.specs.Prelude.{◌≡◌};
 ghost use Rattle.grid_lines.specs.Endpoints.{spacing_of, offset_spacing_of, is_mode, is_method, ordinary_numerology, offset_numerology, extended_numerology, numerology_in, id_of, endpoint_in};
 
+use fh_base::number_in;
 use fh_time::{CARRIER_PRBS, Numerology};
 use line_words::Words;
 use picture_lines::{after, is_id, numeral};
-use text_lines::number_in;
 
 /// An endpoint, as its line says.
 #[derive(Clone, Copy)]

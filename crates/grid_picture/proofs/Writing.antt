@@ -5,11 +5,11 @@ use Rattle.std.specs.List.{flat_map}
 use Rattle.std.specs.Str.{bytes_eq}
 use Rattle.fh_base.specs.Told.{WritesFront, WritesPart}
 use Rattle.fh_base.proofs.Progress.{front_first, front_none}
-use Rattle.owed_bytes.specs.Owed.{Carried}
-use Rattle.owed_bytes.specs.CarriedLaws.{carried_more, carried_none}
-use Rattle.owed_bytes.proofs.Parts.{front_part, part_behind, part_first}
-use Rattle.owed_bytes.proofs.Carrying.{front_behind}
-use Rattle.text_lines.specs.Numbers.{word_at}
+use Rattle.fh_base.specs.Owed.{Carried}
+use Rattle.fh_base.specs.CarriedLaws.{carried_more, carried_none}
+use Rattle.fh_base.proofs.Parts.{front_part, part_behind, part_first}
+use Rattle.fh_base.proofs.Carrying.{front_behind}
+use Rattle.fh_base.specs.Numbers.{word_at}
 use Rattle.line_words.specs.Words.{words_of}
 use Rattle.picture_lines.specs.Numbers.{taking}
 use Rattle.grid_lines.specs.Cells.{cell_at, cell_of, look_of_cell, look_of_why, names_cells}

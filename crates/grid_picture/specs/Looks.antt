@@ -1,7 +1,7 @@
 -- What the lines of a text draw.
 use Rattle.std.specs.Prelude.{ℕ, List, [], ◌∷◌, ◌++◌, drop, Bool, Option, Some, None, if◌then◌else◌, codes}
 use Rattle.std.specs.List.{flat_map}
-use Rattle.text_lines.specs.Numbers.{word_at}
+use Rattle.fh_base.specs.Numbers.{word_at}
 use Rattle.line_words.specs.Words.{words_of}
 use Rattle.grid_lines.specs.Cells.{cell_of}
 use Rattle.grid_lines.specs.Classes.{class_name}

@@ -7,12 +7,11 @@ ghost use Rattle.grid_picture.specs.Spans.{IsSpan};
 use crate::frames::slot_begin;
 use crate::sizes::{block_of, height_of, legend_of, step_of};
 use crate::spans::{Span, begin_of, x_after};
-use fh_base::{Bytes, NoMemory};
+use fh_base::{Bytes, Line, NoMemory};
 use fh_time::{NANOSECOND, SUBFRAME, code, shape};
 use grid_lines::Endpoint;
 use std::alloc::Global;
 use svg_elements::{Anchor, Area, put_closing, put_down, put_opening, put_rect, put_text};
-use text_lines::Line;
 
 /// The spacing of subcarriers in kHz.
 fn scs_name(e: &Endpoint) -> &'static [u8]

@@ -12,8 +12,8 @@ use Rattle.explain_reasons.specs.Reasons.{Kept}
 use Rattle.explain_reasons.specs.Records.{command_in, data_in, data_record, header_in}
 use Rattle.explain_records.specs.OfLines.{command_of_line, data_of_line, header_of_line, listed}
 use Rattle.explain_records.proofs.LineLemmas.{tell}
-use Rattle.heard_lines.proofs.KeptLemmas.{whole_is}
-use Rattle.heard_lines.specs.Built.{control_with, data_with}
+use Rattle.explain_heard.proofs.KeptLemmas.{whole_is}
+use Rattle.explain_heard.specs.Built.{control_with, data_with}
 use Rattle.heard_records.specs.Steps.{kept_next}
 use Rattle.reason_records.specs.declared.data.DataRecord.{DataRecord}
 use Rattle.reason_records.specs.declared.headers.HeaderRecord.{HeaderRecord}

@@ -10,7 +10,7 @@ use Rattle.explain_reasons.specs.Reasons.{Kept}
 use Rattle.explain_records.specs.OfLines.{command_of_line, data_of_line, header_of_line, listed}
 use Rattle.fragment_records.specs.Units.{AreRecordsOf, Comes}
 use Rattle.fragment_records.specs.declared.records.FragmentRecords.{FragmentRecords}
-use Rattle.heard_lines.specs.Built.{control_with, data_with, whole_line}
+use Rattle.explain_heard.specs.Built.{control_with, data_with, whole_line}
 use Rattle.window_config.specs.declared.delays.Delays.{Delays}
 
 -- the records of sections and of messages that were not decoded

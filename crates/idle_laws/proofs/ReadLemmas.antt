@@ -9,7 +9,7 @@ use Rattle.window_config.specs.declared.endpoints.EndpointConfig.{EndpointConfig
 use Rattle.window_config.specs.declared.plan.PlanLine.{PlanLine}
 use Rattle.window_config.specs.declared.plan.TheConstants.{LAST_FRAME}
 use Rattle.fh_document.specs.Proper.{IsPlanLine}
-use Rattle.line_laws.proofs.PlanLemmas.{plan_read}
+use Rattle.fh_document.proofs.PlanLemmas.{plan_read}
 use Rattle.schedule_laws.proofs.ListLemmas.{in_all}
 use Rattle.idle_spans.specs.Symbols.{frame_symbols}
 use Rattle.idle_spans.specs.Tables.{AreFrames}

@@ -10,8 +10,8 @@ use Rattle.plan_model.specs.Valid.{IsValid}
 use Rattle.fh_document.specs.Lines.{line_of, reached}
 use Rattle.fh_document.specs.PlanLines.{planned}
 use Rattle.fh_document.specs.Steps.{Said}
-use Rattle.line_laws.specs.Joined.{spaced}
-use Rattle.line_laws.specs.Words.{plan_words}
+use Rattle.fh_document.specs.Joined.{spaced}
+use Rattle.fh_document.specs.LineWords.{plan_words}
 use Rattle.idle_spans.specs.Tables.{AreFrames}
 use Rattle.idle_text.specs.Proposed.{proposed}
 

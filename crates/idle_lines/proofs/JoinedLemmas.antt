@@ -1,6 +1,6 @@
 -- Words that are appended one after the other.
 use Rattle.std.proofs.Common.{◌≡◌, ℕ, List, [], ◌∷◌, ◌++◌, sym, ap, ◌∙◌, append_assoc, append-nil}
-use Rattle.line_laws.specs.Joined.{spaced}
+use Rattle.fh_document.specs.Joined.{spaced}
 
 -- each word after a space
 abbrev pub behind_spaces : List (List ℕ) → List ℕ

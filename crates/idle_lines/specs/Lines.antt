@@ -3,12 +3,12 @@
 use Rattle.std.specs.Prelude.{ℕ, List, ◌++◌, codes}
 use Rattle.fh_time.specs.Numbering.{symbols_of}
 use Rattle.fh_time.specs.declared.values.Slot.{Slot}
-use Rattle.text_lines.specs.Words.{hex4_text, spaced_text, spaced_signed_text}
+use Rattle.fh_base.specs.Words.{hex4_text, spaced_text, spaced_signed_text}
 use Rattle.window_config.specs.declared.endpoints.EndpointConfig.{EndpointConfig}
 use Rattle.window_config.specs.declared.plan.PlanKind.TheVariants.{Idle}
 use Rattle.window_config.specs.declared.plan.PlanLine.{PlanLine}
-use Rattle.line_laws.specs.Joined.{spaced}
-use Rattle.line_laws.specs.Words.{plan_words}
+use Rattle.fh_document.specs.Joined.{spaced}
+use Rattle.fh_document.specs.LineWords.{plan_words}
 use Rattle.idle_spans.specs.declared.places.Place.{Place}
 use Rattle.idle_spans.specs.declared.places.Span.{Span}
 

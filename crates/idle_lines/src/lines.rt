@@ -2,12 +2,12 @@
 ghost use Rattle.std.specs.Prelude.{◌≡◌, ◌+◌, ◌≤◌, [], ◌∷◌, ◌++◌, length};
 ghost use Rattle.std.specs.Fmt.{signed_decimal};
 ghost use Rattle.idle_lines.specs.Lines.{idle_line, place_text, plan_line_text, span_line_text};
-ghost use Rattle.line_laws.specs.Words.{plan_kind_word};
-ghost use Rattle.text_lines.specs.Words.{hex3_text, hex4_text};
+ghost use Rattle.fh_document.specs.LineWords.{plan_kind_word};
+ghost use Rattle.fh_base.specs.Words.{hex3_text, hex4_text};
 
+use fh_base::Line;
 use fh_time::{Slot, shape};
 use idle_spans::{Place, Span};
-use text_lines::Line;
 use window_config::{EndpointConfig, PlanKind, PlanLine};
 
 /// Appends a symbol: frame, subframe, slot and symbol, each after a space.

@@ -28,7 +28,7 @@ use Rattle.plan_model.specs.declared.refusals.PlanWhy.TheVariants.{Overlap, Rang
 use Rattle.plan_model.specs.declared.streams.Stream.{Stream}
 use Rattle.plan_model.specs.declared.streams.Stream.TheVariants.{DownCommands, UpCommands, DownData, UpData}
 use Rattle.plan_model.proofs.ListLemmas.{all_map, filter_none}
-use Rattle.generated_plans.proofs.Lines.{none_any}
+use Rattle.generated_laws.proofs.Lines.{none_any}
 use Rattle.idle_plans.specs.Enlarged.{AreFree, IdleLinesAreValid, with_lines}
 
 -- ---- none is refused

@@ -6,7 +6,7 @@ use Rattle.fh_base.specs.Told.{WritesPart}
 use Rattle.fh_base.specs.declared.fault.SinkFault.{SinkFault}
 use Rattle.fh_base.specs.declared.fault.SinkFault.TheVariants as sink
 use Rattle.fh_base.proofs.Progress.{front_none}
-use Rattle.owed_bytes.proofs.Parts.{front_part}
+use Rattle.fh_base.proofs.Parts.{front_part}
 use Rattle.window_config.specs.declared.endpoints.EndpointConfig.{EndpointConfig}
 use Rattle.window_config.specs.declared.plan.PlanLine.{PlanLine}
 use Rattle.air_source.specs.declared.events.AirCell.{AirCell}

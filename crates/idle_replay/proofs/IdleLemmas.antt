@@ -6,7 +6,7 @@ use Rattle.plan_model.specs.Lines.{planned}
 use Rattle.plan_model.specs.Valid.{IsValid}
 use Rattle.plan_model.specs.declared.lines.PlannedLine.{PlannedLine}
 use Rattle.schedule_laws.specs.Cells.{planned_air}
-use Rattle.replay_events.specs.Moments.{end_of_time}
+use Rattle.replay_laws.specs.Moments.{end_of_time}
 use Rattle.fh_document.specs.Proper.{IsDocument}
 use Rattle.fh_document.specs.declared.document.Document.{Document}
 use Rattle.document_traffic.specs.Sending.{lines_of}

@@ -7,14 +7,14 @@ use Rattle.window_config.specs.declared.plan.PlanLine.{PlanLine}
 use Rattle.fragment_laws.specs.Apart.{IsIn}
 use Rattle.plan_model.specs.Valid.{IsValid}
 use Rattle.schedule_laws.specs.Cells.{planned_air}
-use Rattle.replay_events.specs.Moments.{end_of_time}
+use Rattle.replay_laws.specs.Moments.{end_of_time}
 use Rattle.fh_document.specs.Lines.{line_of, reached}
 use Rattle.fh_document.specs.PlanLines.{planned}
 use Rattle.fh_document.specs.Proper.{IsDocument}
 use Rattle.fh_document.specs.Steps.{Said}
 use Rattle.fh_document.specs.declared.document.Document.{Document}
-use Rattle.line_laws.specs.Joined.{spaced}
-use Rattle.line_laws.specs.Words.{plan_words}
+use Rattle.fh_document.specs.Joined.{spaced}
+use Rattle.fh_document.specs.LineWords.{plan_words}
 use Rattle.document_traffic.specs.Sending.{lines_of}
 use Rattle.document_traffic.specs.Undisturbed.{IsUndisturbed, blocks_for, told_for}
 use Rattle.measured_traffic.specs.Replayed.{traffic_of}

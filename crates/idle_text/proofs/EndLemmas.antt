@@ -2,9 +2,9 @@
 use Rattle.std.proofs.Common.{◌≡◌, ◌≢◌, ℕ, List, [], ◌∷◌, ◌++◌, codes, Option, subst}
 use Rattle.std.specs.List.{flat_map}
 use Rattle.fh_base.specs.Told.{WritesFront, WritesPart}
-use Rattle.owed_bytes.specs.Owed.{Carried}
-use Rattle.owed_bytes.specs.CarriedLaws.{carried_more}
-use Rattle.owed_bytes.proofs.Parts.{front_part, part_behind}
+use Rattle.fh_base.specs.Owed.{Carried}
+use Rattle.fh_base.specs.CarriedLaws.{carried_more}
+use Rattle.fh_base.proofs.Parts.{front_part, part_behind}
 use Rattle.window_config.specs.declared.endpoints.EndpointConfig.{EndpointConfig}
 use Rattle.window_config.specs.declared.plan.PlanLine.{PlanLine}
 use Rattle.air_source.specs.declared.events.AirCell.{AirCell}

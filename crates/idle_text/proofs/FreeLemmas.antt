@@ -9,10 +9,10 @@ use Rattle.fh_time.proofs.Order.{symbols_few}
 use Rattle.fh_time.specs.Numbering.{slots_of, symbols_of}
 use Rattle.fh_time.specs.declared.numerology.Numerology.{Numerology}
 use Rattle.fh_time.specs.declared.values.Slot.{Slot}
-use Rattle.owed_bytes.specs.Owed.{Carried}
-use Rattle.owed_bytes.specs.CarriedLaws.{carried_more, carried_none}
-use Rattle.owed_bytes.proofs.Carrying.{front_behind}
-use Rattle.owed_bytes.proofs.Telling.{front_before}
+use Rattle.fh_base.specs.Owed.{Carried}
+use Rattle.fh_base.specs.CarriedLaws.{carried_more, carried_none}
+use Rattle.fh_base.proofs.Carrying.{front_behind}
+use Rattle.fh_base.proofs.OwedTelling.{front_before}
 use Rattle.window_config.specs.declared.endpoints.EndpointConfig.{EndpointConfig}
 use Rattle.window_config.specs.declared.plan.PlanLine.{PlanLine}
 use Rattle.air_source.specs.declared.events.AirCell.{AirCell}

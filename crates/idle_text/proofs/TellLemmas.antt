@@ -5,10 +5,10 @@ use Rattle.std.proofs.lemmas.Grind.{flat_map-append}
 use Rattle.std.proofs.lemmas.List.{length-map, map-append}
 use Rattle.std.proofs.lemmas.List.Folds.{list_any-append}
 use Rattle.fh_base.specs.Told.{WritesFront}
-use Rattle.owed_bytes.specs.Owed.{Carried}
-use Rattle.owed_bytes.specs.CarriedLaws.{carried_more, carried_none}
-use Rattle.owed_bytes.proofs.Carrying.{front_behind}
-use Rattle.owed_bytes.proofs.Telling.{front_before}
+use Rattle.fh_base.specs.Owed.{Carried}
+use Rattle.fh_base.specs.CarriedLaws.{carried_more, carried_none}
+use Rattle.fh_base.proofs.Carrying.{front_behind}
+use Rattle.fh_base.proofs.OwedTelling.{front_before}
 use Rattle.window_config.specs.Endpoints.{no_endpoint}
 use Rattle.window_config.specs.declared.endpoints.EndpointConfig.{EndpointConfig}
 use Rattle.air_source.specs.declared.events.AirCell.{AirCell}

@@ -5,7 +5,7 @@ ghost use Rattle.std.specs.Io.KnownBytes.{append_known};
 ghost use Rattle.fh_base.specs.Causes.{Counts, HasSinkCause, has_failed};
 ghost use Rattle.fh_base.specs.Told.{WritesFront, WritesPart};
 ghost use Rattle.fh_time.specs.Numbering.{symbols_of};
-ghost use Rattle.owed_bytes.specs.Owed.{Carried};
+ghost use Rattle.fh_base.specs.Owed.{Carried};
 ghost use Rattle.window_config.specs.declared.config.Config.{Config};
 ghost use Rattle.air_source.specs.declared.events.AirCell.{AirCell};
 ghost use Rattle.idle_spans.specs.Tables.{Stands, endpoints_of, symbols_in};
@@ -14,12 +14,11 @@ ghost use Rattle.idle_text.specs.Text.{endpoint_text, idle_text};
 ghost use Rattle.idle_text.specs.Standing.{StandsFor};
 
 use crate::telling::{tell_free, tell_spans};
-use fh_base::{List as LineList, Sink, SinkFault};
+use fh_base::{List as LineList, OwedBytes, Sink, SinkFault};
 use fh_document::Document;
 use fh_time::shape;
 use idle_slots::{clear_touched, no_flags};
 use idle_spans::Spans;
-use owed_bytes::OwedBytes;
 use std::alloc::Global;
 use window_config::{EndpointConfig, PlanLine};
 

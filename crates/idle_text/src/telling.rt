@@ -4,7 +4,7 @@ ghost use Rattle.std.specs.List.{flat_map, list_any};
 ghost use Rattle.fh_base.specs.Causes.{HasSinkCause};
 ghost use Rattle.fh_base.specs.Told.{WritesFront};
 ghost use Rattle.fh_time.specs.Numbering.{symbols_of};
-ghost use Rattle.owed_bytes.specs.Owed.{Carried};
+ghost use Rattle.fh_base.specs.Owed.{Carried};
 ghost use Rattle.air_source.specs.declared.events.AirCell.{AirCell};
 ghost use Rattle.unit_model.specs.Lists.{each};
 ghost use Rattle.idle_spans.specs.Tables.{endpoints_of, symbols_in};
@@ -14,13 +14,11 @@ ghost use Rattle.idle_slots.specs.Listed.{listed_runs};
 ghost use Rattle.idle_slots.specs.Tables.{IsTableOf, StandsAt};
 ghost use Rattle.idle_text.specs.Text.{flagged_slot, flagged_text, lines_text, spans_text};
 
-use fh_base::{Sink, SinkFault};
+use fh_base::{Line, OwedBytes, Sink, SinkFault};
 use fh_time::shape;
 use idle_lines::{idle_line, put_plan_line, put_span_line};
 use idle_slots::{number_of, set_slots};
 use idle_spans::{Span, Spans};
-use owed_bytes::OwedBytes;
-use text_lines::Line;
 use window_config::{EndpointConfig, PlanLine};
 
 /// Tells the line of a span.

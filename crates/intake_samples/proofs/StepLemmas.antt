@@ -5,7 +5,7 @@ use Rattle.fh_time.specs.declared.values.Ticks.{Ticks}
 use Rattle.window_config.specs.declared.config.Config.{Config}
 use Rattle.unit_model.specs.Standing.{History}
 use Rattle.unit_model.specs.declared.allocations.Allocation.{Allocation}
-use Rattle.history_laws.proofs.TickLemmas.{one_before}
+use Rattle.unit_laws.proofs.HistoryTicks.{one_before}
 use Rattle.du_intake.specs.Calls.{IsIntakeDue}
 use Rattle.du_intake.specs.Units.{intake_due_of}
 

@@ -2,7 +2,7 @@
 use Rattle.std.proofs.Common.{◌≡◌, ℕ, ℤ, zero, suc, ◌+◌, ◌-◌, ◌<◌, ◌^◌, Bool, true, false, List, [], ◌∷◌, ◌++◌, drop, length, map, take, Option, Some, None, refl}
 use Rattle.std.specs.Prelude.{◌==◌, ◌&&◌, ◌||◌, not, nat_le, nat_lt, if◌then◌else◌, Result, Ok, Err}
 use Rattle.std.specs.List.{AllByRecursion}
-use Rattle.bit_fields.proofs.Field.{field_fits}
+use Rattle.bfp_codec.proofs.Field.{field_fits}
 use Rattle.fh_time.specs.Carrier.{count_of, first_of, is_outside}
 use Rattle.fh_time.specs.Numbering.{shape_of}
 use Rattle.fh_time.specs.declared.values.Shape.{Shape}

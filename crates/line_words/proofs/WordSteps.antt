@@ -4,7 +4,7 @@ use Rattle.std.specs.Prelude.{Result, Ok, Err, IsOk, OnOk, OnErr}
 use Rattle.std.proofs.lemmas.Bool.{cases_lt}
 use Rattle.std.proofs.lemmas.List.{get_or-map, get_or-take, get_or_past, length-map, length-take, map-append, take-append-le, take_all, length_push, append-nil}
 use Rattle.line_words.specs.declared.words.TheConstants.{KEPT}
-use Rattle.text_lines.specs.Numbers.{word_at}
+use Rattle.fh_base.specs.Numbers.{word_at}
 
 few_kept : {A : Type 0} (v : A → List ℕ) (xs : List A) (ws : List (List ℕ)) → map v xs ≡ take KEPT ws → length xs ≡ min KEPT (length ws)
 few_kept v xs ws is = sym (length-map xs v) ∙ ap length is ∙ length-take KEPT ws

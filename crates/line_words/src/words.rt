@@ -1,7 +1,7 @@
 // The words of a line.
 ghost use Rattle.std.specs.Prelude.{◌≡◌, ℕ, ◌<◌, length, map, take, List};
 ghost use Rattle.line_words.specs.Words.{words_of};
-ghost use Rattle.text_lines.specs.Numbers.{word_at};
+ghost use Rattle.fh_base.specs.Numbers.{word_at};
 
 use crate::parts::cut_near;
 use arrayvec::ArrayVec;

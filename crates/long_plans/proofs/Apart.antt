@@ -19,10 +19,10 @@ use Rattle.plan_model.specs.declared.lines.PlannedLine.{PlannedLine}
 use Rattle.plan_model.specs.declared.refusals.PlanWhy.{PlanWhy}
 use Rattle.plan_model.specs.declared.streams.Stream.{Stream}
 use Rattle.plan_model.specs.declared.streams.Stream.TheVariants.{DownData, UpData}
-use Rattle.generated_plans.specs.Sparse.{AreAlone, HasRoom, IsSpaced, IsSparse}
-use Rattle.generated_plans.proofs.Lines.{NotBoth, not_both}
-use Rattle.generated_plans.proofs.Spaced.{khz30_spaced}
-use Rattle.generated_plans.proofs.Sparse.{each_alone, not_dense as sparse_not_dense}
+use Rattle.generated_laws.specs.Sparse.{AreAlone, HasRoom, IsSpaced, IsSparse}
+use Rattle.generated_laws.proofs.Lines.{NotBoth, not_both}
+use Rattle.generated_laws.proofs.Spaced.{khz30_spaced}
+use Rattle.generated_laws.proofs.Sparse.{each_alone, not_dense as sparse_not_dense}
 use Rattle.long_plans.specs.Lines.{frame_lines, long_config, LongPlansAreLong, LongPlansAreValid}
 use Rattle.long_plans.proofs.Lines.{line_at, lines_from, none_refused, planned_is}
 use Rattle.long_plans.proofs.Ticks.{parts_are, parts_from}

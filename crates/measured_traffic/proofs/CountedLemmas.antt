@@ -18,9 +18,9 @@ use Rattle.ecpri_frames.specs.Messages.{Message}
 use Rattle.fault_counters.specs.Counts.{capped, once, times}
 use Rattle.fault_counters.specs.declared.kinds.Counter.{Counter}
 use Rattle.fault_counters.specs.declared.kinds.Counter.TheVariants.{DelayShort}
-use Rattle.replay_events.proofs.CameLemmas.{next_first, none_first}
-use Rattle.replay_events.specs.Events.{all_counted, is_measured, number_of}
-use Rattle.replay_events.specs.Moments.{all_arrivals, arrivals_in, landing_at}
+use Rattle.replay_laws.proofs.CameLemmas.{next_first, none_first}
+use Rattle.replay_laws.specs.Events.{all_counted, is_measured, number_of}
+use Rattle.replay_laws.specs.Moments.{all_arrivals, arrivals_in, landing_at}
 use Rattle.unit_model.proofs.CountLemmas.{times-append}
 use Rattle.unit_model.specs.Lists.{onto}
 use Rattle.unit_model.specs.Meetings.{Arrival}

@@ -22,16 +22,16 @@ use Rattle.document_delays.proofs.Documents.{document_delays, document_exact}
 use Rattle.document_delays.specs.Settings.{no_others, setting_of}
 use Rattle.document_traffic.specs.Laws.{IsReplayable}
 use Rattle.fh_document.specs.declared.document.Document.{Document}
-use Rattle.replay_events.proofs.EndLemmas.{lands_by_end}
-use Rattle.replay_events.specs.Events.{events}
-use Rattle.replay_events.specs.Moments.{end_of_time, landing_at}
-use Rattle.replay_events.specs.declared.results.DelayResult.{DelayResult}
+use Rattle.replay_laws.proofs.EndLemmas.{lands_by_end}
+use Rattle.replay_laws.specs.Events.{events}
+use Rattle.replay_laws.specs.Moments.{end_of_time, landing_at}
+use Rattle.replay_laws.specs.declared.results.DelayResult.{DelayResult}
 use Rattle.replay_laws.proofs.DelayLemmas.{delays_are_results}
 use Rattle.replay_laws.specs.Delays.{IsAmong, IsResult}
 use Rattle.unit_model.proofs.SweepLaws.{gap_is, gap_parts}
 use Rattle.unit_model.specs.Meetings.{Arrival}
 use Rattle.unit_model.specs.Radiated.{first_clock}
-use Rattle.history_laws.proofs.AddedLemmas.{in_front}
+use Rattle.unit_laws.proofs.AddedLemmas.{in_front}
 use Rattle.measured_traffic.proofs.QuietLemmas as quiet
 use Rattle.measured_traffic.proofs.ReplayedLemmas.{landings_are_replayed}
 use Rattle.measured_traffic.proofs.SideLemmas.{all_told, begins_told, messages_of, others_pass, results_known, frames_told}

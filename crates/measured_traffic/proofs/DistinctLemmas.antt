@@ -7,7 +7,7 @@ use Rattle.std.proofs.lemmas.Int.{ints}
 use Rattle.std.proofs.lemmas.List.Elements.{All-append, All-cons, All-map, All-nil}
 use Rattle.air_source.specs.declared.events.Side.{Side}
 use Rattle.air_source.specs.declared.events.Side.TheVariants.{Ru, Du}
-use Rattle.bit_fields.proofs.Field.{field_fits}
+use Rattle.bfp_codec.proofs.Field.{field_fits}
 use Rattle.delay_laws.proofs.Keeping.{all_kept}
 use Rattle.delay_laws.specs.Ticks.{Begin, Setting}
 use Rattle.delay_measure.specs.Payload.{message_of}
@@ -19,12 +19,12 @@ use Rattle.ecpri_frames.specs.Gathering.{whole_messages}
 use Rattle.ecpri_frames.specs.Messages.{Message}
 use Rattle.fh_document.specs.Proper.{AreComps}
 use Rattle.fh_document.specs.declared.document.Document.{Document}
-use Rattle.replay_events.specs.Moments.{landing_at}
+use Rattle.replay_laws.specs.Moments.{landing_at}
 use Rattle.unit_model.proofs.SweepLaws.{gap_is}
 use Rattle.unit_model.specs.Meetings.{Arrival}
 use Rattle.unit_model.specs.Radiated.{first_clock}
 use Rattle.unit_model.specs.Times.{end_of_time, tick_count}
-use Rattle.history_laws.proofs.TickLemmas.{clock_begins}
+use Rattle.unit_laws.proofs.HistoryTicks.{clock_begins}
 use Rattle.measured_traffic.proofs.MadeLemmas.{IsIdHeard, IsIdSent, ids_kept, sent_fits}
 use Rattle.measured_traffic.proofs.PlainLemmas.{delayed_plain}
 use Rattle.measured_traffic.proofs.StampLemmas.{AreStamps, receiving_fits, sending_fits}

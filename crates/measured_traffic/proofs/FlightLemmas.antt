@@ -23,12 +23,12 @@ use Rattle.fh_document.specs.declared.document.Measure.{Measure}
 use Rattle.fragment_laws.specs.Apart.{IsIn}
 use Rattle.frame_deliveries.proofs.Within.{copies_within}
 use Rattle.frame_deliveries.specs.Copies.{copies_of}
-use Rattle.replay_events.specs.Moments.{landing_at}
+use Rattle.replay_laws.specs.Moments.{landing_at}
 use Rattle.schedule_laws.proofs.ListLemmas.{in_all}
 use Rattle.unit_model.specs.Meetings.{Arrival}
 use Rattle.unit_model.specs.Radiated.{first_clock}
 use Rattle.window_config.specs.Windows.{ticks_of_ns}
-use Rattle.history_laws.proofs.ListLemmas.{front_empty, back_empty}
+use Rattle.unit_laws.proofs.HistoryLists.{front_empty, back_empty}
 use Rattle.measured_traffic.specs.Measured.{delay_messages, exchanges, others_of}
 use Rattle.fh_time.specs.declared.nanoseconds.TheConstants.{LAST_TIME, NANOSECOND}
 use Rattle.fh_document.specs.declared.config_lines.TheConstants.{MOST_TRANSIT}

@@ -4,7 +4,7 @@ use Rattle.std.specs.List.{flat_map}
 use Rattle.std.proofs.lemmas.Bool.{le-ltb}
 use Rattle.air_source.specs.declared.events.Side.{Side}
 use Rattle.bfp_codec.proofs.Twos.{signed_twos, twos_fits}
-use Rattle.bit_fields.specs.Field.{field, signed}
+use Rattle.bfp_codec.specs.Field.{field, signed}
 use Rattle.delay_measure.specs.declared.message.DelayMessage.{DelayMessage}
 use Rattle.delay_measure.specs.Payload.{message_of}
 use Rattle.delay_model.proofs.FrameLemmas.{one_message, payload_long, payload_of, told_as}

@@ -24,7 +24,7 @@ use Rattle.frame_bytes.proofs.Fields.{length-in_bytes}
 use Rattle.frame_bytes.specs.Spelled.{in_bytes}
 use Rattle.frame_deliveries.proofs.Within.{copies_within}
 use Rattle.frame_deliveries.specs.Copies.{copies_of}
-use Rattle.replay_events.proofs.TickLemmas.{no_ticks, ticks_append}
+use Rattle.replay_laws.proofs.TickLemmas.{no_ticks, ticks_append}
 use Rattle.schedule_laws.proofs.ListLemmas.{in_all, of_map, of_tick}
 use Rattle.unit_model.proofs.SweepLaws.{gap_is}
 use Rattle.unit_model.specs.Lists.{each_tick}
@@ -33,7 +33,7 @@ use Rattle.unit_model.specs.Times.{end_of_time, tick_count}
 use Rattle.unit_model.specs.declared.jobs.UplinkJob.{UplinkJob}
 use Rattle.uplink_laws.specs.Premise.{frames_of}
 use Rattle.uplink_model.specs.Sent.{in_sent_order}
-use Rattle.uplink_turns.proofs.LeavingLemmas.{left_is_all}
+use Rattle.uplink_laws.proofs.LeavingLemmas.{left_is_all}
 use Rattle.window_config.specs.Windows.{ticks_of_ns}
 use Rattle.plan_model.proofs.ListLemmas.{in_either, of_filter, all_of}
 use Rattle.delay_model.proofs.FrameLemmas.{payload_long, payload_of}

@@ -10,7 +10,7 @@ use Rattle.delay_measure.specs.declared.message.DelayMessage.{DelayMessage}
 use Rattle.document_delays.specs.Settings.{setting_of}
 use Rattle.document_traffic.specs.Landing.{all_delayed, copies_among, copies_in, copy_at, injected_to}
 use Rattle.document_traffic.specs.Sending.{Delayed}
-use Rattle.replay_events.specs.Moments.{landing_at}
+use Rattle.replay_laws.specs.Moments.{landing_at}
 use Rattle.unit_model.specs.Lists.{each_tick}
 use Rattle.unit_model.specs.Meetings.{Arrival}
 use Rattle.unit_model.specs.Radiated.{first_clock}

@@ -18,8 +18,8 @@ use Rattle.fragment_laws.specs.Flow.{numbers_of, sent_at}
 use Rattle.fragment_laws.specs.Once.{AreTheSent, IsOnceWhole, answers, wholes}
 use Rattle.plan_model.specs.Streams.{part_in}
 use Rattle.plan_model.specs.declared.lines.PlannedLine.{PlannedLine}
-use Rattle.replay_events.specs.Moments.{all_arrivals, end_of_time}
-use Rattle.replay_events.specs.Traffic.{landings_at}
+use Rattle.replay_laws.specs.Moments.{all_arrivals, end_of_time}
+use Rattle.replay_laws.specs.Traffic.{landings_at}
 use Rattle.replay_laws.proofs.OnceLemmas.{cells_are_reported}
 use Rattle.schedule_laws.specs.Commands.{AreCommandedOnce, IsCommanded}
 use Rattle.schedule_laws.specs.Data.{AreDecodedOnce, Blocks, IsDataSent}

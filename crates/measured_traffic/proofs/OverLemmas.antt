@@ -8,9 +8,9 @@ use Rattle.document_traffic.specs.Laws.{IsReplayable}
 use Rattle.document_traffic.specs.Sending.{lines_of}
 use Rattle.plan_model.proofs.ListLemmas.{all_of, of_filter}
 use Rattle.plan_model.specs.Lines.{is_up_line, line_allocation}
-use Rattle.replay_events.proofs.EndLemmas.{no_cell_is_left, no_message_is_left}
-use Rattle.replay_events.specs.Ending.{AreInPlan}
-use Rattle.replay_events.specs.Moments.{all_arrivals}
+use Rattle.replay_laws.proofs.EndLemmas.{no_cell_is_left, no_message_is_left}
+use Rattle.replay_laws.specs.Ending.{AreInPlan}
+use Rattle.replay_laws.specs.Moments.{all_arrivals}
 use Rattle.schedule_laws.proofs.LineLemmas.{line_good}
 use Rattle.schedule_laws.proofs.ListLemmas.{of_map}
 use Rattle.unit_model.specs.Reports.{accepted_of}

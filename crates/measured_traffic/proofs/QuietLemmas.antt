@@ -13,7 +13,7 @@ use Rattle.document_traffic.specs.Landing.{injected_at, injected_to, is_to}
 use Rattle.fh_document.specs.declared.document.Document.{Document}
 use Rattle.fh_document.specs.declared.document.Injection.{Injection}
 use Rattle.fh_document.specs.declared.document.Measure.{Measure}
-use Rattle.replay_events.specs.Moments.{landing_at}
+use Rattle.replay_laws.specs.Moments.{landing_at}
 use Rattle.unit_model.specs.Meetings.{Arrival}
 use Rattle.unit_model.specs.Radiated.{first_clock}
 use Rattle.measured_traffic.proofs.SentLemmas.{none_measured}

@@ -9,8 +9,8 @@ use Rattle.air_source.specs.declared.events.Side.TheVariants.{Ru, Du}
 use Rattle.ecpri_fragments.specs.Generations.{Fragment}
 use Rattle.ecpri_frames.specs.Gathering.{whole_messages}
 use Rattle.ecpri_frames.specs.Messages.{Message}
-use Rattle.replay_events.specs.Moments.{all_arrivals, arrivals_in, landing_at}
-use Rattle.replay_events.specs.Traffic.{reported_at}
+use Rattle.replay_laws.specs.Moments.{all_arrivals, arrivals_in, landing_at}
+use Rattle.replay_laws.specs.Traffic.{reported_at}
 use Rattle.unit_model.proofs.OntoLemmas.{onto_none}
 use Rattle.unit_model.specs.Blocks.{timely}
 use Rattle.unit_model.specs.Commands.{accepted}

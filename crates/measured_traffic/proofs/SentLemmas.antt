@@ -11,7 +11,7 @@ use Rattle.document_traffic.proofs.OrderLemmas.{leaving_rising}
 use Rattle.document_traffic.specs.Landing.{all_delayed, copies_among, copies_in, injected_to, leaving_to, planned_traffic}
 use Rattle.document_traffic.specs.Sending.{Delayed, Leaving, SentCounts, counted, delayed_behind, none_sent}
 use Rattle.fh_document.specs.declared.document.Document.{Document}
-use Rattle.replay_events.specs.Traffic.{landings_at}
+use Rattle.replay_laws.specs.Traffic.{landings_at}
 use Rattle.schedule_laws.proofs.OrderLemmas.{IsRising}
 use Rattle.unit_model.specs.Lists.{each_tick}
 use Rattle.unit_model.specs.Meetings.{Arrival}

@@ -16,8 +16,8 @@ use Rattle.document_delays.specs.Settings.{compensation_of, setting_of}
 use Rattle.document_traffic.specs.Laws.{IsReplayable}
 use Rattle.document_traffic.specs.Sending.{Leaving}
 use Rattle.fh_document.specs.declared.document.Document.{Document}
-use Rattle.replay_events.proofs.TickLemmas.{between, next_gap}
-use Rattle.replay_events.specs.Moments.{end_of_time, landing_at}
+use Rattle.replay_laws.proofs.TickLemmas.{between, next_gap}
+use Rattle.replay_laws.specs.Moments.{end_of_time, landing_at}
 use Rattle.unit_model.proofs.SweepLaws.{gap_is, gap_none, gap_parts}
 use Rattle.unit_model.specs.Meetings.{Arrival}
 use Rattle.unit_model.specs.Radiated.{first_clock}

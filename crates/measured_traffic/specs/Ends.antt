@@ -7,8 +7,8 @@ use Rattle.document_traffic.specs.Landing.{jobs_for}
 use Rattle.document_traffic.specs.Laws.{IsReplayable}
 use Rattle.document_traffic.specs.Sending.{lines_of}
 use Rattle.plan_model.specs.Lines.{uplink_allocations}
-use Rattle.replay_events.specs.Moments.{all_arrivals, end_of_time}
-use Rattle.replay_events.specs.Traffic.{known_at, reported_at}
+use Rattle.replay_laws.specs.Moments.{all_arrivals, end_of_time}
+use Rattle.replay_laws.specs.Traffic.{known_at, reported_at}
 use Rattle.unit_model.specs.Reports.{accepted_of}
 use Rattle.unit_model.specs.Standing.{due, still_given}
 use Rattle.unit_model.specs.declared.allocations.Allocation.{Allocation}

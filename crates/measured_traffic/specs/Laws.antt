@@ -14,9 +14,9 @@ use Rattle.ecpri_frames.specs.Headers.{WritesHead}
 use Rattle.delay_laws.specs.Ticks.{Flight, landing}
 use Rattle.fault_counters.specs.declared.kinds.Counter.TheVariants.{Delay}
 use Rattle.fh_document.specs.declared.document.Document.{Document}
-use Rattle.replay_events.specs.Moments.{all_arrivals, landing_at}
-use Rattle.replay_events.specs.Passing.{AreLandings}
-use Rattle.replay_events.specs.Traffic.{landings_at, reported_at}
+use Rattle.replay_laws.specs.Moments.{all_arrivals, landing_at}
+use Rattle.replay_laws.specs.Passing.{AreLandings}
+use Rattle.replay_laws.specs.Traffic.{landings_at, reported_at}
 use Rattle.unit_model.specs.Meetings.{Arrival, Ignored, fragments}
 use Rattle.unit_model.specs.Reports.{accepted_of, commands_of, data_of, met, timely_of}
 use Rattle.unit_model.specs.declared.allocations.Allocation.{Allocation}

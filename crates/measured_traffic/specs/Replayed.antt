@@ -11,9 +11,9 @@ use Rattle.document_traffic.specs.Landing.{landing_with, leaving_to}
 use Rattle.document_traffic.specs.Sending.{Leaving, lines_of}
 use Rattle.fh_document.specs.declared.delivered.TrafficClass.TheVariants.{M}
 use Rattle.fh_document.specs.declared.document.Document.{Document}
-use Rattle.replay_events.specs.Moments.{end_of_time, landing_at}
-use Rattle.replay_events.specs.Traffic.{Traffic}
-use Rattle.replay_events.specs.declared.results.DelayResult.{DelayResult}
+use Rattle.replay_laws.specs.Moments.{end_of_time, landing_at}
+use Rattle.replay_laws.specs.Traffic.{Traffic}
+use Rattle.replay_laws.specs.declared.results.DelayResult.{DelayResult}
 use Rattle.unit_model.specs.Lists.{each_tick}
 use Rattle.unit_model.specs.Meetings.{Arrival}
 use Rattle.unit_model.specs.Radiated.{first_clock}

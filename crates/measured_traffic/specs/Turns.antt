@@ -8,10 +8,10 @@ use Rattle.document_traffic.specs.Landing.{antenna_for, copies_in, leaving_answe
 use Rattle.document_traffic.specs.Sending.{Leaving, SentCounts, delayed}
 use Rattle.fh_document.specs.declared.delivered.TrafficClass.TheVariants.{M}
 use Rattle.fh_document.specs.declared.document.Document.{Document}
-use Rattle.replay_events.specs.Moments.{end_of_time}
-use Rattle.replay_events.specs.Passing.{IsCalm}
+use Rattle.replay_laws.specs.Moments.{end_of_time}
+use Rattle.replay_laws.specs.Passing.{IsCalm}
 use Rattle.unit_model.specs.Radiated.{first_clock}
-use Rattle.uplink_turns.specs.Turns.{left_from}
+use Rattle.uplink_laws.specs.Turns.{left_from}
 use Rattle.measured_traffic.specs.Doings.{nothing, taken}
 use Rattle.measured_traffic.specs.Measured.{exchanges, flights_then}
 use Rattle.measured_traffic.specs.Replayed.{all_leaving, begins_at, doings_at, landings_for, leaving_flight, leaving_from, leaving_made, made_at}

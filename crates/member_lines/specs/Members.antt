@@ -1,7 +1,7 @@
 -- The text of a member of a line (this project's profile): a space, a name, an equals sign, and a number or a word.
 use Rattle.std.specs.Prelude.{ℕ, ℤ, List, ◌++◌, codes, decimal}
 use Rattle.std.specs.Fmt.{signed_decimal}
-use Rattle.text_lines.specs.Words.{hex2_text, hex3_text, hex4_text}
+use Rattle.fh_base.specs.Words.{hex2_text, hex3_text, hex4_text}
 
 -- what stands before a value
 abbrev pub lead_text : List ℕ → List ℕ

@@ -2,7 +2,7 @@
 ghost use Rattle.std.specs.Prelude.{◌≡◌, ◌+◌, ◌≤◌, ◌++◌, length};
 ghost use Rattle.member_lines.specs.Members.{lead_text, member_text, named_text, named_signed_text, named_hex2_text, named_hex3_text, named_hex4_text};
 
-use text_lines::Line;
+use fh_base::Line;
 
 /// Appends a space, a name and an equals sign.
 pub fn lead(line: &mut Line, name: &[u8])

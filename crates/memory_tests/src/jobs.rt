@@ -5,10 +5,10 @@ use air_source::Side;
 use bfp_codec::Method;
 use eaxc_map::Widths;
 use fh_time::{Numerology, Ticks, shape};
-use ru_jobs::{JobCursor, next_job};
 use std::test::Fail;
 use unit_cells::UnitCells;
 use unit_model::UplinkJob;
+use unit_symbols::{JobCursor, next_job};
 
 fn job(symbol: u8, section: u16, start_prb: u16) -> UplinkJob {
     UplinkJob {

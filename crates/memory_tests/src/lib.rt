@@ -1,4 +1,4 @@
-//! Tests of the memory of units by the public calls of `unit_model`, `slot_rings`, `unit_memory` and `ru_jobs`, which are proved
+//! Tests of the memory of units by the public calls of `unit_model`, `slot_rings`, `unit_memory` and `unit_symbols`, which are proved
 //! without them.
 //!
 //! `samples` makes what the tests need, and `receiving` takes fragments and keeps what the calls require.

@@ -1,4 +1,4 @@
-//! Tests of the neighbours by the public calls of `shared_cell`, `idle_spans`, `window_plan` and `window_lines`, which are proved
+//! Tests of the neighbours by the public calls of `shared_cell`, `idle_spans`, `window_plan` and `window_plan`, which are proved
 //! without them.
 //!
 //! `made` makes configurations, and `following` adds cells up and keeps what the calls require.

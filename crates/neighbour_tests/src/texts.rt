@@ -10,7 +10,7 @@ use std::alloc::Global;
 use std::process::Abort;
 use std::test::Fail;
 use window_config::{Config, Delays};
-use window_lines::{put_fit, put_windows};
+use window_plan::{put_fit, put_windows};
 
 fn assert_windows(rt: &impl Abort, alloc: Global, config: &Config, wanted: &[u8])
     requires { IsConfig config.now }

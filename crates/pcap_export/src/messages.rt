@@ -7,8 +7,7 @@ ghost use Rattle.pcap_export.specs.Statuses.{capture_line, line_of};
 
 use crate::refusals::ExportRefusal;
 use crate::status::Status;
-use fh_base::{Sink, SinkFault, write_all_to};
-use text_lines::Line;
+use fh_base::{Line, Sink, SinkFault, write_all_to};
 
 /// Writes the status's line, nothing for `Done`.
 pub fn write_message<E: Sink>(status: Status, err: &mut E) -> Result<(), SinkFault>

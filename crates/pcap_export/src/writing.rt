@@ -3,7 +3,7 @@ ghost use Rattle.std.specs.Prelude.{◌≡◌, ◌≤◌, ◌++◌, Ok, None, le
 ghost use Rattle.std.specs.Io.KnownBytes.{append_known};
 ghost use Rattle.fh_base.specs.Causes.{HasSinkCause};
 ghost use Rattle.fh_base.specs.Told.{WritesFront, WritesPart};
-ghost use Rattle.owed_bytes.specs.Owed.{Carried};
+ghost use Rattle.fh_base.specs.Owed.{Carried};
 ghost use Rattle.capture_records.specs.Reading.{checked as capture_checked, records_of};
 ghost use Rattle.capture_records.specs.Records.{arrived_of};
 ghost use Rattle.pcap_frames.specs.declared.values.Whose.{Whose};
@@ -14,8 +14,7 @@ ghost use Rattle.pcap_export.specs.ReadBack.{AreUsual, IsReading, IsReadBack};
 use crate::packets::{ETHERNET, HEAD, ethernet_head, nanoseconds, record_head};
 use crate::ways::{Ways, is_wanted};
 use capture_records::{Record, records};
-use fh_base::{Sink, SinkFault};
-use owed_bytes::OwedBytes;
+use fh_base::{OwedBytes, Sink, SinkFault};
 
 // Tells the packet of a record.
 fn tell_packet<K: Sink>(

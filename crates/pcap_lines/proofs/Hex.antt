@@ -2,8 +2,8 @@
 use Rattle.std.proofs.Common.{arith, ◌≡◌, ℕ, suc, ◌+◌, ◌-◌, ◌*◌, ◌≤◌, List, [], ◌∷◌, ◌++◌, length, map, take, drop, refl, sym, ap, append_assoc, append-nil, ◌∙◌}
 use Rattle.std.proofs.lemmas.List.{take-append-drop, take-take, length-take-le, length-append, length-drop, take_all, drop-drop}
 use Rattle.std.proofs.Math.Seq.{take-append-add}
-use Rattle.text_lines.specs.Words.{hex2_text}
-use Rattle.line_laws.specs.Words.{hex_text}
+use Rattle.fh_base.specs.Words.{hex2_text}
+use Rattle.fh_document.specs.LineWords.{hex_text}
 use Rattle.pcap_lines.specs.Digits.{halves, digit_of}
 
 pub hex_append : (xs ys : List ℕ) → hex_text (xs ++ ys) ≡ hex_text xs ++ hex_text ys

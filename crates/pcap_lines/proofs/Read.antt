@@ -8,11 +8,11 @@ use Rattle.std.proofs.lemmas.List.Concat.{flat_map-cons}
 use Rattle.std.proofs.lemmas.List.Elements.{All-nil, All-cons, All-tail, All-take, All-drop}
 use Rattle.air_source.specs.declared.events.Side.{Side}
 use Rattle.fh_document.specs.Document.{document_of}
-use Rattle.line_laws.specs.Joined.{fed}
-use Rattle.line_laws.specs.Words.{frame_word}
-use Rattle.line_laws.specs.Lines.{inject_text, document_with}
-use Rattle.line_laws.specs.Laws.{AreBytes, IsFrame}
-use Rattle.line_laws.proofs.InjectLemmas.{document_is}
+use Rattle.fh_document.specs.Joined.{fed}
+use Rattle.fh_document.specs.LineWords.{frame_word}
+use Rattle.fh_document.specs.WrittenLines.{inject_text, document_with}
+use Rattle.fh_document.specs.Laws.{AreBytes, IsFrame}
+use Rattle.fh_document.proofs.InjectLemmas.{document_is}
 use Rattle.pcap_frames.specs.Ethernet.{stands_at, type_place, ecpri_in}
 use Rattle.pcap_frames.specs.declared.refusals.PcapRefusal.{PcapRefusal}
 use Rattle.pcap_frames.specs.declared.refusals.PcapWhy.{PcapWhy}

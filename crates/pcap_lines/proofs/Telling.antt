@@ -1,9 +1,9 @@
 -- Texts that are told in a row.
 use Rattle.std.proofs.Common.{◌≡◌, ℕ, List, [], ◌++◌, Option, sym, ap, subst, append_assoc, append-nil, ◌∙◌}
 use Rattle.fh_base.specs.Told.{WritesPart}
-use Rattle.owed_bytes.specs.Owed.{Carried}
-use Rattle.owed_bytes.specs.CarriedLaws.{carried_none, carried_more}
-use Rattle.owed_bytes.proofs.Parts.{part_first, part_before, part_behind}
+use Rattle.fh_base.specs.Owed.{Carried}
+use Rattle.fh_base.specs.CarriedLaws.{carried_none, carried_more}
+use Rattle.fh_base.proofs.Parts.{part_first, part_before, part_behind}
 
 -- of a text a front was told, and the rest is left
 pub record SoFar (w : Option (List ℕ)) (o : List ℕ) (v : Option (List ℕ)) (p all rest : List ℕ) : Type 0 where

@@ -4,7 +4,7 @@ use Rattle.std.specs.List.{flat_map}
 use Rattle.std.specs.Fmt.{signed_decimal}
 use Rattle.air_source.specs.declared.events.Side.{Side}
 use Rattle.fh_document.specs.declared.document.Injection.{Injection}
-use Rattle.line_laws.specs.Words.{frame_word}
+use Rattle.fh_document.specs.LineWords.{frame_word}
 use Rattle.capture_records.specs.Records.{Arrived}
 use Rattle.pcap_frames.specs.Frames.{Timed}
 use Rattle.air_source.specs.Units.{way_text}

@@ -3,7 +3,7 @@ ghost use Rattle.std.specs.Prelude.{◌≡◌, ◌≤◌, ◌++◌, Ok, map, pos
 ghost use Rattle.std.specs.Io.KnownBytes.{append_known};
 ghost use Rattle.fh_base.specs.Causes.{HasSinkCause};
 ghost use Rattle.fh_base.specs.Told.{WritesFront, WritesPart};
-ghost use Rattle.owed_bytes.specs.Owed.{Carried};
+ghost use Rattle.fh_base.specs.Owed.{Carried};
 ghost use Rattle.capture_records.specs.Records.{head_bytes, record_bytes, records_bytes, capture_bytes, HaveRecords};
 ghost use Rattle.pcap_frames.specs.Checked.{checked};
 ghost use Rattle.pcap_frames.specs.Frames.{timed_of, frames_of, IsShown};
@@ -12,9 +12,8 @@ ghost use Rattle.pcap_lines.specs.Texts.{arrived_as};
 ghost use Rattle.fh_time.specs.declared.nanoseconds.TheConstants.{NANOSECOND};
 
 use capture_records::{MAGIC, record_head};
-use fh_base::{Sink, SinkFault};
+use fh_base::{OwedBytes, Sink, SinkFault};
 use fh_time::of_ns;
-use owed_bytes::OwedBytes;
 use pcap_frames::{PcapFrame, PcapHead, Whose, frames};
 
 // What stands before a frame in its record.

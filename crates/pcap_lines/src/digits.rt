@@ -1,6 +1,6 @@
 // Bytes as hexadecimal digits. The loops are over arrays, so that each does many at once.
 ghost use Rattle.std.specs.Prelude.{◌≡◌, map};
-ghost use Rattle.line_laws.specs.Words.{hex_text};
+ghost use Rattle.fh_document.specs.LineWords.{hex_text};
 ghost use Rattle.pcap_lines.specs.Digits.{halves, digit_of};
 
 /// How many bytes are spelled at once.

@@ -3,9 +3,9 @@ ghost use Rattle.std.specs.Prelude.{◌≡◌, ◌++◌, Ok, codes, map, OnOk, O
 ghost use Rattle.std.specs.Io.KnownBytes.{append_known};
 ghost use Rattle.fh_base.specs.Causes.{HasSinkCause};
 ghost use Rattle.fh_base.specs.Told.{WritesFront, WritesPart};
-ghost use Rattle.owed_bytes.specs.Owed.{Carried};
+ghost use Rattle.fh_base.specs.Owed.{Carried};
 ghost use Rattle.fh_document.specs.Document.{document_of};
-ghost use Rattle.line_laws.specs.Lines.{document_with};
+ghost use Rattle.fh_document.specs.WrittenLines.{document_with};
 ghost use Rattle.pcap_frames.specs.Checked.{checked};
 ghost use Rattle.pcap_frames.specs.Frames.{timed_of, frames_of};
 ghost use Rattle.pcap_frames.specs.Heads.{IsHead};
@@ -13,10 +13,8 @@ ghost use Rattle.pcap_lines.specs.Texts.{line_text, injection_of, lines_of};
 
 use crate::pieces::TEXT;
 use crate::words::{opening, tell_frame};
-use fh_base::{Sink, SinkFault};
-use owed_bytes::OwedBytes;
+use fh_base::{Line, OwedBytes, Sink, SinkFault};
 use pcap_frames::{PcapFrame, PcapHead, Whose, frames};
-use text_lines::Line;
 
 // Tells the line of a frame, by a text that its digits are put into.
 fn tell_line<K: Sink>(

@@ -1,6 +1,6 @@
 // Pieces of a frame as hexadecimal digits.
 ghost use Rattle.std.specs.Prelude.{◌≡◌, ◌+◌, ◌*◌, ◌≤◌, ◌++◌, take, length};
-ghost use Rattle.line_laws.specs.Words.{hex_text};
+ghost use Rattle.fh_document.specs.LineWords.{hex_text};
 
 use crate::digits::{BYTES, DIGITS, spelled};
 

@@ -2,16 +2,14 @@
 ghost use Rattle.std.specs.Prelude.{◌≡◌, ◌+◌, ◌≤◌, ◌++◌, [], codes, length, OnOk, OnErr};
 ghost use Rattle.fh_base.specs.Causes.{HasSinkCause};
 ghost use Rattle.fh_base.specs.Told.{WritesPart};
-ghost use Rattle.owed_bytes.specs.Owed.{Carried};
-ghost use Rattle.line_laws.specs.Words.{hex_text, frame_word};
+ghost use Rattle.fh_base.specs.Owed.{Carried};
+ghost use Rattle.fh_document.specs.LineWords.{hex_text, frame_word};
 ghost use Rattle.pcap_lines.specs.Texts.{opening_text};
 
 use crate::pieces::{PIECE, TEXT, spell};
 use air_source::Side;
-use fh_base::{Sink, SinkFault};
-use owed_bytes::OwedBytes;
+use fh_base::{Line, OwedBytes, Sink, SinkFault};
 use pcap_frames::PcapFrame;
-use text_lines::Line;
 
 /// Appends what stands before a frame's word, to an empty line.
 pub fn opening(line: &mut Line, f: &PcapFrame<'_>)

@@ -3,7 +3,7 @@ use Rattle.std.proofs.Common.{◌≡◌, ℕ, ◌+◌, ◌-◌, ◌≤◌, List,
 use Rattle.std.specs.Prelude.{Option, Some, None, if◌then◌else◌, slice_get}
 use Rattle.std.specs.Str.Parse.{digits_value}
 use Rattle.std.proofs.lemmas.Bool.Decides.{nat_tests}
-use Rattle.text_lines.specs.Numbers.{is_decimal, number_in, word_at}
+use Rattle.fh_base.specs.Numbers.{is_decimal, number_in, word_at}
 use Rattle.picture_lines.specs.Numbers.{taking, keyed, after}
 use Rattle.grid_lines.specs.Cells.{cell_of, cell_at, endpoint_at, is_cell_word, is_why_word, look_of_cell, look_of_why, prbs_in, start_at, symbol_in}
 use Rattle.grid_lines.specs.Endpoints.{with_id}

@@ -4,7 +4,7 @@ use Rattle.std.specs.Prelude.{Option, Some, None, Result, Ok, Err, if◌then◌e
 use Rattle.std.specs.Str.{bytes_eq}
 use Rattle.fh_time.specs.declared.carrier.TheConstants.{CARRIER_PRBS}
 use Rattle.fh_time.proofs.Orders.{left_true, right_true}
-use Rattle.text_lines.specs.Numbers.{word_at}
+use Rattle.fh_base.specs.Numbers.{word_at}
 use Rattle.line_words.specs.Words.{is_text, words_of}
 use Rattle.picture_lines.specs.Numbers.{is_id, is_lower_hex, numeral, taking}
 use Rattle.picture_lines.specs.Refusals.{going_on, head_line, is_end, or_line}

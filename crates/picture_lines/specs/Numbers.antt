@@ -3,7 +3,7 @@ use Rattle.std.specs.Prelude.{ℕ, ℤ, pos, neg_ℤ, List, [], length, take, dr
 use Rattle.std.specs.Option.{option_map}
 use Rattle.std.specs.List.{list_all}
 use Rattle.std.specs.Str.{bytes_eq}
-use Rattle.text_lines.specs.Numbers.{word_at, number_in}
+use Rattle.fh_base.specs.Numbers.{word_at, number_in}
 use Rattle.picture_lines.specs.declared.numbers.TheConstants.{MOST_DIGITS}
 
 -- what follows on a value, and nothing where there is none

@@ -6,7 +6,7 @@ use Rattle.fh_base.specs.Causes.{Counts}
 use Rattle.fh_base.specs.Told.{WritesPart}
 use Rattle.fh_base.specs.declared.fault.SinkFault.{SinkFault}
 use Rattle.fh_base.specs.declared.fault.SinkFault.TheVariants as sink
-use Rattle.text_lines.specs.Numbers.{word_at}
+use Rattle.fh_base.specs.Numbers.{word_at}
 use Rattle.picture_lines.specs.declared.faults.DrawFault.{DrawFault}
 use Rattle.picture_lines.specs.declared.faults.DrawFault.TheVariants as draw
 use Rattle.picture_lines.specs.declared.faults.TextRefusal.{TextRefusal}

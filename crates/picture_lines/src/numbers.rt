@@ -2,8 +2,8 @@
 ghost use Rattle.std.specs.Prelude.{◌≡◌, pos, neg_ℤ, ◌^◌, ◌<◌, ◌≤◌, ◌≤ℤ◌, length, IfSome};
 ghost use Rattle.picture_lines.specs.Numbers.{numeral, keyed, integer, digit, after, is_lower_hex, is_id, is_mask, is_name_byte, is_name, is_free};
 
+use fh_base::number_in;
 use line_words::{KEPT, Words};
-use text_lines::number_in;
 
 /// The most digits of a number.
 const MOST_DIGITS: usize = 16;

@@ -8,7 +8,7 @@ use Rattle.air_source.specs.declared.events.Side.TheVariants.{Ru, Du}
 use Rattle.window_config.specs.Relations.{PassesCheck}
 use Rattle.window_config.specs.Usual.{usual_delays}
 use Rattle.document_traffic.specs.Undisturbed.{transport_of}
-use Rattle.generated_documents.specs.Documents.{deliveries_from, delivery_of, document}
+use Rattle.generated_laws.specs.Documents.{deliveries_from, delivery_of, document}
 use Rattle.plain_documents.specs.Plain.{GeneratedAreUndisturbed, IsPlain, IsPlainLine, IsWithin}
 use Rattle.plain_documents.proofs.Carried.{are_undisturbed}
 

@@ -8,7 +8,7 @@ use Rattle.fh_document.specs.declared.delivered.TrafficClass.TheVariants.{M}
 use Rattle.fh_document.specs.declared.delivered.Delivery.{Delivery}
 use Rattle.fh_document.specs.declared.document.Document.{Document}
 use Rattle.document_traffic.specs.Undisturbed.{IsUndisturbedBothWays, transport_of}
-use Rattle.generated_documents.specs.Documents.{document}
+use Rattle.generated_laws.specs.Documents.{document}
 
 -- a time on the way within the bounds of the transport
 pub record IsWithin (bounds : Range) (ns : ℤ) : Type 0 where

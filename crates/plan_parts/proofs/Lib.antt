@@ -9,3 +9,5 @@ pub mod OrderedLemmas
 pub mod ListedLemmas
 pub mod PartLemmas
 pub mod OpenLemmas
+pub mod CutLemmas
+pub mod StepLemmas

@@ -3,3 +3,6 @@ pub mod Sweeping
 pub mod Parts
 pub mod Keys
 pub mod OpenMessages
+pub mod Walks
+pub mod Ranges
+pub mod Runs

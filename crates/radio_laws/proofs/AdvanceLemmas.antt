@@ -6,11 +6,11 @@ use Rattle.window_config.specs.declared.config.Config.{Config}
 use Rattle.unit_model.specs.Standing.{History, heard}
 use Rattle.unit_model.specs.declared.symbol_start.SymbolStart.{SymbolStart}
 use Rattle.unit_laws.specs.Runs.{OffsetsFit}
-use Rattle.history_laws.specs.First.{FirstIsFirst, NothingIsNothing}
-use Rattle.history_laws.proofs.UnitLemmas.{heard_more, heard_none}
-use Rattle.ru_jobs.specs.declared.cursor.JobCursor.{JobCursor}
+use Rattle.unit_laws.specs.First.{FirstIsFirst, NothingIsNothing}
+use Rattle.unit_laws.proofs.UnitLemmas.{heard_more, heard_none}
+use Rattle.unit_symbols.specs.declared.cursor.JobCursor.{JobCursor}
 use Rattle.unit_memory.specs.declared.memory.UnitMemory.{UnitMemory}
-use Rattle.ru_reports.specs.Symbols.{left_at}
+use Rattle.unit_symbols.specs.DueSymbols.{left_at}
 use Rattle.radio_laws.specs.Reporting.{IsFirstLeft, IsLeftAfter, HasReported, due_of}
 use Rattle.radio_laws.specs.Units.{RadioStands}
 use Rattle.radio_laws.proofs.HistoryLemmas.{stands}

@@ -26,11 +26,11 @@ use Rattle.unit_model.specs.declared.symbol_start.SymbolStart.{SymbolStart}
 use Rattle.unit_laws.proofs.SentLemmas.{jobs_append}
 use Rattle.unit_laws.proofs.SweepLemmas.{sweep-append, sweep-same}
 use Rattle.unit_cells.specs.Keeping.{SameReported}
-use Rattle.history_laws.specs.Arriving.{IsNextArrival}
-use Rattle.history_laws.proofs.ArrivingLemmas.{arrival_leaves_due, arrival_leaves_jobs, arrival_leaves_sent, arrival_leaves_use}
-use Rattle.history_laws.proofs.TickLemmas.{before_next, after_all}
-use Rattle.ru_jobs.specs.Cursors.{left_behind, left_jobs}
-use Rattle.ru_jobs.specs.declared.cursor.JobCursor.{JobCursor}
+use Rattle.unit_laws.specs.Arriving.{IsNextArrival}
+use Rattle.unit_laws.proofs.ArrivingLemmas.{arrival_leaves_due, arrival_leaves_jobs, arrival_leaves_sent, arrival_leaves_use}
+use Rattle.unit_laws.proofs.HistoryTicks.{before_next, after_all}
+use Rattle.unit_symbols.specs.Cursors.{left_behind, left_jobs}
+use Rattle.unit_symbols.specs.declared.cursor.JobCursor.{JobCursor}
 use Rattle.unit_memory.specs.Memory.{Holds, arrival_at}
 use Rattle.unit_memory.specs.declared.memory.UnitMemory.{UnitMemory}
 use Rattle.radio_laws.specs.Units.{IsWithin, RadioKeeps}

@@ -13,12 +13,12 @@ use Rattle.unit_model.specs.declared.cells.Cell.{Cell}
 use Rattle.unit_laws.specs.Far.{IsFar}
 use Rattle.unit_laws.proofs.AheadLemmas.{no_claims_ahead}
 use Rattle.unit_laws.proofs.TickLemmas.{live_later}
-use Rattle.history_laws.proofs.UnitLemmas.{not_both}
+use Rattle.unit_laws.proofs.UnitLemmas.{not_both}
 use Rattle.unit_cells.specs.Cells.{cells_reported}
 use Rattle.unit_cells.specs.Keeping.{Keeps as RingsKeep}
 use Rattle.unit_cells.proofs.TimeLemmas.{far_not_reported, keeps_later, live_at}
 use Rattle.unit_cells.proofs.ToldLemmas.{told_whole}
-use Rattle.ru_jobs.specs.declared.cursor.JobCursor.{JobCursor}
+use Rattle.unit_symbols.specs.declared.cursor.JobCursor.{JobCursor}
 use Rattle.unit_memory.specs.declared.memory.UnitMemory.{UnitMemory}
 use Rattle.radio_laws.specs.Units.{RadioKeeps, RadioStands, view_of}
 use Rattle.radio_laws.proofs.SymbolLemmas.{all_told}

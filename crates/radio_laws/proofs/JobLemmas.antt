@@ -24,13 +24,13 @@ use Rattle.unit_laws.proofs.SentLemmas.{jobs_begin}
 use Rattle.unit_laws.proofs.TickLemmas.{given_in_order, live_later}
 use Rattle.unit_cells.specs.Cells.{cells_reported, cells_uplink, endpoints_of}
 use Rattle.unit_cells.proofs.TimeLemmas.{far_not_reported, live_at}
-use Rattle.history_laws.specs.First.{FirstIsFirst, IsSweptIn, told_of}
-use Rattle.ru_jobs.specs.Cursors.{GivenOne, IsFirstJob, Settled, jobs_left}
-use Rattle.symbol_search.specs.Symbols.{IsSymbol}
-use Rattle.history_laws.proofs.TickLemmas.{same_then}
-use Rattle.history_laws.proofs.UnitLemmas.{not_both}
-use Rattle.ru_jobs.specs.declared.cursor.JobCursor.{JobCursor}
-use Rattle.ru_jobs.specs.declared.cursor.NextJob.{NextJob}
+use Rattle.unit_laws.specs.First.{FirstIsFirst, IsSweptIn, told_of}
+use Rattle.unit_symbols.specs.Cursors.{GivenOne, IsFirstJob, Settled, jobs_left}
+use Rattle.unit_symbols.specs.Symbols.{IsSymbol}
+use Rattle.unit_laws.proofs.HistoryTicks.{same_then}
+use Rattle.unit_laws.proofs.UnitLemmas.{not_both}
+use Rattle.unit_symbols.specs.declared.cursor.JobCursor.{JobCursor}
+use Rattle.unit_symbols.specs.declared.cursor.NextJob.{NextJob}
 use Rattle.unit_memory.specs.Memory.{Holds, HoldsLater}
 use Rattle.unit_memory.specs.declared.memory.UnitMemory.{UnitMemory}
 use Rattle.radio_laws.specs.JobLaws.{GivesFirst, IsGiven, IsSettled, KeptLater, NoneBeforeFirst, NoneToGive, ReadyOnceGiven, Settles, SomeFromFirst}

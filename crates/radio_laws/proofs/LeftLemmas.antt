@@ -9,11 +9,11 @@ use Rattle.unit_model.specs.Uplink.{symbol_jobs}
 use Rattle.unit_model.specs.declared.allocations.Allocation.{Allocation}
 use Rattle.unit_model.specs.declared.jobs.UplinkJob.{UplinkJob}
 use Rattle.unit_model.specs.declared.symbol_start.SymbolStart.{SymbolStart}
-use Rattle.ru_jobs.specs.Cursors.{at_start, jobs_left, left_behind, left_jobs}
-use Rattle.ru_jobs.specs.declared.cursor.JobCursor.{JobCursor}
+use Rattle.unit_symbols.specs.Cursors.{at_start, jobs_left, left_behind, left_jobs}
+use Rattle.unit_symbols.specs.declared.cursor.JobCursor.{JobCursor}
 use Rattle.fh_time.proofs.Orders.{not_under}
 use Rattle.unit_laws.proofs.AheadLemmas.{no_jobs}
-use Rattle.ru_jobs.proofs.LeftLemmas.{none_of_none as left_none}
+use Rattle.unit_symbols.proofs.LeftLemmas.{none_of_none as left_none}
 
 -- ---- tests of times
 

@@ -23,8 +23,8 @@ use Rattle.unit_laws.proofs.SweepLemmas.{sweep-same}
 use Rattle.unit_laws.proofs.TickLemmas.{starts_at}
 use Rattle.unit_cells.specs.Cells.{cells_uplink, ring_of}
 use Rattle.unit_cells.proofs.TimeLemmas.{far_no_place, live_at, no_uplink_from}
-use Rattle.ru_jobs.specs.Cursors.{jobs_left, left_jobs}
-use Rattle.ru_jobs.specs.declared.cursor.JobCursor.{JobCursor}
+use Rattle.unit_symbols.specs.Cursors.{jobs_left, left_jobs}
+use Rattle.unit_symbols.specs.declared.cursor.JobCursor.{JobCursor}
 use Rattle.unit_memory.specs.Memory.{Holds}
 use Rattle.unit_memory.specs.declared.memory.UnitMemory.{UnitMemory}
 use Rattle.radio_laws.specs.Units.{left_up_to}

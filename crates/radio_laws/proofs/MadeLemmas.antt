@@ -26,10 +26,10 @@ use Rattle.unit_laws.specs.Far.{IsFar}
 use Rattle.unit_laws.proofs.AheadLemmas.{no_jobs_ahead, no_reports_ahead}
 use Rattle.unit_laws.proofs.DueLemmas.{unheard}
 use Rattle.unit_laws.proofs.SweepLemmas.{tick-nothing}
-use Rattle.history_laws.proofs.TickLemmas.{same_most}
+use Rattle.unit_laws.proofs.HistoryTicks.{same_most}
 use Rattle.unit_cells.specs.Cells.{cells_reported}
-use Rattle.ru_jobs.specs.Cursors.{left_behind, left_jobs}
-use Rattle.ru_jobs.specs.declared.cursor.JobCursor.{JobCursor}
+use Rattle.unit_symbols.specs.Cursors.{left_behind, left_jobs}
+use Rattle.unit_symbols.specs.declared.cursor.JobCursor.{JobCursor}
 use Rattle.unit_memory.specs.Memory.{Holds}
 use Rattle.unit_memory.specs.declared.memory.UnitMemory.{UnitMemory}
 use Rattle.radio_laws.specs.Units.{RadioKeeps}

@@ -12,14 +12,14 @@ use Rattle.unit_model.specs.Radiated.{used_mask}
 use Rattle.unit_model.specs.declared.cells.Cell.{Cell}
 use Rattle.unit_model.specs.declared.symbol_start.SymbolStart.{SymbolStart}
 use Rattle.unit_laws.proofs.FarLemmas.{endpoints_equal}
-use Rattle.history_laws.proofs.UnitLemmas.{small_is}
-use Rattle.history_laws.proofs.BeforeLemmas.{IsSamePlace, same_place}
+use Rattle.unit_laws.proofs.UnitLemmas.{small_is}
+use Rattle.unit_laws.proofs.BeforeLemmas.{IsSamePlace, same_place}
 use Rattle.slot_rings.specs.Places.{is_due}
 use Rattle.unit_cells.specs.Cells.{CellsValue, cells_claim, cells_reported, endpoints_of}
-use Rattle.ru_reports.specs.Symbols.{ReportsTold, cell_in, is_left, is_told, left_at}
-use Rattle.symbol_search.specs.Symbols.{IsSymbol}
-use Rattle.ru_reports.proofs.AfterLemmas.{left_after}
-use Rattle.ru_reports.proofs.ReportedLemmas.{symbol_cell}
+use Rattle.unit_symbols.specs.DueSymbols.{ReportsTold, cell_in, is_left, is_told, left_at}
+use Rattle.unit_symbols.specs.Symbols.{IsSymbol}
+use Rattle.unit_symbols.proofs.AfterLemmas.{left_after}
+use Rattle.unit_symbols.proofs.ReportedLemmas.{symbol_cell}
 use Rattle.radio_laws.specs.Reporting.{IsFirstLeft, IsLeftAfter}
 use Rattle.unit_laws.proofs.ReportLemmas.{used_same}
 

@@ -16,10 +16,10 @@ use Rattle.unit_model.specs.declared.symbol_start.SymbolStart.{SymbolStart}
 use Rattle.unit_cells.specs.Cells.{cells_has, cells_uplink, endpoints_of, ring_of}
 use Rattle.unit_cells.proofs.KeepLemmas.{at_config}
 use Rattle.unit_cells.proofs.TimeLemmas.{no_uplink_from}
-use Rattle.history_laws.specs.First.{IsSweptIn, told_of}
-use Rattle.ru_jobs.specs.Cursors.{jobs_left}
-use Rattle.symbol_search.specs.Symbols.{IsSymbol}
-use Rattle.ru_jobs.specs.declared.cursor.JobCursor.{JobCursor}
+use Rattle.unit_laws.specs.First.{IsSweptIn, told_of}
+use Rattle.unit_symbols.specs.Cursors.{jobs_left}
+use Rattle.unit_symbols.specs.Symbols.{IsSymbol}
+use Rattle.unit_symbols.specs.declared.cursor.JobCursor.{JobCursor}
 use Rattle.unit_memory.specs.Memory.{Holds}
 use Rattle.unit_memory.specs.declared.memory.UnitMemory.{UnitMemory}
 use Rattle.radio_laws.proofs.LeftLemmas.{left_of_none}

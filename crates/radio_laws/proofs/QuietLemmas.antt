@@ -6,8 +6,8 @@ use Rattle.unit_model.specs.Sweeps.{OfSymbol, sweep}
 use Rattle.unit_laws.proofs.SweepLemmas.{sweep-append, sweep-none}
 use Rattle.unit_cells.specs.Cells.{CellsValue}
 use Rattle.window_config.specs.declared.endpoints.EndpointConfig.{EndpointConfig}
-use Rattle.history_laws.proofs.ListLemmas.{front_empty}
-use Rattle.ru_jobs.specs.declared.cursor.JobCursor.{JobCursor}
+use Rattle.unit_laws.proofs.HistoryLists.{front_empty}
+use Rattle.unit_symbols.specs.declared.cursor.JobCursor.{JobCursor}
 use Rattle.radio_laws.specs.Units.{left_up_to}
 use Rattle.fh_time.proofs.Orders.{weak, next_order}
 

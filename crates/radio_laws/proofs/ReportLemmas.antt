@@ -18,13 +18,13 @@ use Rattle.unit_laws.proofs.DueLemmas.{due_begins, due_in_pieces}
 use Rattle.unit_laws.proofs.FrameLemmas.{symbols_are_swept}
 use Rattle.unit_laws.proofs.TickLemmas.{due_after_now}
 use Rattle.unit_cells.proofs.KeepLemmas.{at_config}
-use Rattle.history_laws.specs.First.{FirstIsFirst, IsSweptIn, NothingIsNothing, told_of}
-use Rattle.history_laws.proofs.TickLemmas.{next_after}
-use Rattle.history_laws.proofs.ListLemmas.{front_empty}
-use Rattle.ru_jobs.specs.declared.cursor.JobCursor.{JobCursor}
+use Rattle.unit_laws.specs.First.{FirstIsFirst, IsSweptIn, NothingIsNothing, told_of}
+use Rattle.unit_laws.proofs.HistoryTicks.{next_after}
+use Rattle.unit_laws.proofs.HistoryLists.{front_empty}
+use Rattle.unit_symbols.specs.declared.cursor.JobCursor.{JobCursor}
 use Rattle.unit_memory.specs.declared.memory.UnitMemory.{UnitMemory}
-use Rattle.ru_reports.specs.Symbols.{is_left, left_at}
-use Rattle.symbol_search.specs.Symbols.{IsSymbol}
+use Rattle.unit_symbols.specs.DueSymbols.{is_left, left_at}
+use Rattle.unit_symbols.specs.Symbols.{IsSymbol}
 use Rattle.radio_laws.specs.Reporting.{DueBegins, DueGoesOn, FirstIsDue, IsFirstLeft, IsLeftAfter, NothingBeforeFirst, NothingIsDue, SomethingAtFirst, due_of}
 use Rattle.radio_laws.specs.Units.{RadioKeeps}
 use Rattle.radio_laws.proofs.SymbolLemmas.{clock_first, looked_up, none_is_left, quiet}

@@ -35,17 +35,17 @@ use Rattle.unit_laws.proofs.DifferLemmas.{all_kept}
 use Rattle.unit_laws.proofs.DueLemmas.{due_left, heard_differ, unheard, all_front as front}
 use Rattle.unit_laws.proofs.FarLemmas.{endpoints_equal}
 use Rattle.unit_laws.proofs.SweepLemmas.{each_related, sweep-same}
-use Rattle.history_laws.proofs.UnitLemmas.{same_ids, small_is}
-use Rattle.history_laws.proofs.ListLemmas.{one_of_two}
+use Rattle.unit_laws.proofs.UnitLemmas.{same_ids, small_is}
+use Rattle.unit_laws.proofs.HistoryLists.{one_of_two}
 use Rattle.unit_cells.specs.Cells.{CellsValue, IsCellIn, cells_block, cells_claim, cells_reported, cells_uplink, endpoints_of}
 use Rattle.unit_cells.proofs.KeepLemmas.{at_config, at_rings, of_still}
-use Rattle.ru_jobs.specs.Cursors.{jobs_left, left_jobs}
-use Rattle.ru_jobs.specs.declared.cursor.JobCursor.{JobCursor}
+use Rattle.unit_symbols.specs.Cursors.{jobs_left, left_jobs}
+use Rattle.unit_symbols.specs.declared.cursor.JobCursor.{JobCursor}
 use Rattle.unit_memory.specs.Memory.{Holds}
 use Rattle.unit_memory.specs.declared.memory.UnitMemory.{UnitMemory}
-use Rattle.ru_reports.proofs.CountLemmas.{stand_told}
-use Rattle.ru_reports.specs.Symbols.{cell_in, is_told, left_at, left_told}
-use Rattle.symbol_search.specs.Symbols.{IsSymbol}
+use Rattle.unit_symbols.proofs.CountLemmas.{stand_told}
+use Rattle.unit_symbols.specs.DueSymbols.{cell_in, is_told, left_at, left_told}
+use Rattle.unit_symbols.specs.Symbols.{IsSymbol}
 use Rattle.radio_laws.specs.Reporting.{HasReported, KeepsReported, due_of}
 use Rattle.radio_laws.specs.Units.{RadioKeeps, left_up_to}
 use Rattle.radio_laws.proofs.SymbolLemmas.{cell_is, claims_are, live_lookup, live_or_ahead, since_clock}

@@ -15,12 +15,12 @@ use Rattle.unit_laws.proofs.FrameLemmas.{symbols_are_swept}
 use Rattle.unit_laws.proofs.SweepLemmas.{sweep-append, sweep-same, tick-nothing}
 use Rattle.unit_cells.specs.Cells.{CellsValue, cells_uplink, endpoints_of}
 use Rattle.unit_cells.proofs.ApartLemmas.{is_slot_of}
-use Rattle.history_laws.specs.First.{FirstIsFirst, IsQuietBefore, IsSweptIn, told_of}
-use Rattle.ru_jobs.specs.Cursors.{GivenOne, IsFirstJob, Settled, jobs_left}
-use Rattle.symbol_search.specs.Symbols.{IsSymbol}
-use Rattle.history_laws.proofs.TickLemmas.{next_of_last, later_then, same_then}
-use Rattle.ru_jobs.specs.declared.cursor.JobCursor.{JobCursor}
-use Rattle.ru_jobs.specs.declared.cursor.NextJob.{NextJob}
+use Rattle.unit_laws.specs.First.{FirstIsFirst, IsQuietBefore, IsSweptIn, told_of}
+use Rattle.unit_symbols.specs.Cursors.{GivenOne, IsFirstJob, Settled, jobs_left}
+use Rattle.unit_symbols.specs.Symbols.{IsSymbol}
+use Rattle.unit_laws.proofs.HistoryTicks.{next_of_last, later_then, same_then}
+use Rattle.unit_symbols.specs.declared.cursor.JobCursor.{JobCursor}
+use Rattle.unit_symbols.specs.declared.cursor.NextJob.{NextJob}
 use Rattle.radio_laws.specs.Units.{left_up_to}
 use Rattle.radio_laws.proofs.LeftLemmas.{left_since, start_before, start_behind}
 use Rattle.unit_model.proofs.SweepLaws.{sweep_quiet as sweep-nothing}

@@ -40,15 +40,15 @@ use Rattle.unit_cells.specs.Told.{IsTold}
 use Rattle.unit_cells.proofs.KeepLemmas.{at_rings}
 use Rattle.unit_cells.proofs.TimeLemmas.{far_no_place, live_at}
 use Rattle.unit_cells.proofs.ToldLemmas.{told_whole}
-use Rattle.ru_jobs.specs.declared.cursor.JobCursor.{JobCursor}
+use Rattle.unit_symbols.specs.declared.cursor.JobCursor.{JobCursor}
 use Rattle.unit_memory.specs.declared.memory.UnitMemory.{UnitMemory}
-use Rattle.ru_reports.specs.Symbols.{cell_in, is_left, left_at, left_told}
-use Rattle.symbol_search.specs.Symbols.{IsSymbol}
+use Rattle.unit_symbols.specs.DueSymbols.{cell_in, is_left, left_at, left_told}
+use Rattle.unit_symbols.specs.Symbols.{IsSymbol}
 use Rattle.radio_laws.specs.Units.{RadioKeeps}
 use Rattle.unit_model.proofs.BlockLemmas.{all_timely}
-use Rattle.history_laws.proofs.UnitLemmas.{whole_data}
-use Rattle.history_laws.proofs.ListLemmas.{kept_one, filter_kept, both_nothing, one_unless}
-use Rattle.ru_reports.proofs.LeftLemmas.{nothing_without_place, nothing_left}
+use Rattle.unit_laws.proofs.UnitLemmas.{whole_data}
+use Rattle.unit_laws.proofs.HistoryLists.{kept_one, filter_kept, both_nothing, one_unless}
+use Rattle.unit_symbols.proofs.LeftReports.{nothing_without_place, nothing_left}
 use Rattle.radio_laws.proofs.SlotLemmas.{swept_slot}
 use Rattle.fh_time.proofs.Orders.{weak, neither_2 as neither, at_most}
 

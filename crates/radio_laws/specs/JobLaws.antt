@@ -8,10 +8,10 @@ use Rattle.unit_model.specs.Standing.{History, at_clock, due, handed, still_give
 use Rattle.unit_model.specs.declared.symbol_start.SymbolStart.{SymbolStart}
 use Rattle.unit_laws.specs.Runs.{OffsetsFit}
 use Rattle.unit_cells.specs.Cells.{cells_uplink}
-use Rattle.ru_jobs.specs.Cursors.{GivenOne, IsFirstJob, Settled, left_in}
-use Rattle.symbol_search.specs.Symbols.{IsSymbol}
-use Rattle.ru_jobs.specs.declared.cursor.JobCursor.{JobCursor}
-use Rattle.ru_jobs.specs.declared.cursor.NextJob.{NextJob}
+use Rattle.unit_symbols.specs.Cursors.{GivenOne, IsFirstJob, Settled, left_in}
+use Rattle.unit_symbols.specs.Symbols.{IsSymbol}
+use Rattle.unit_symbols.specs.declared.cursor.JobCursor.{JobCursor}
+use Rattle.unit_symbols.specs.declared.cursor.NextJob.{NextJob}
 use Rattle.unit_memory.specs.declared.memory.UnitMemory.{UnitMemory}
 use Rattle.radio_laws.specs.Units.{IsReady, RadioKeeps}
 

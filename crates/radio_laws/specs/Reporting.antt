@@ -10,11 +10,11 @@ use Rattle.unit_model.specs.Standing.{History, due, heard}
 use Rattle.unit_model.specs.declared.symbol_start.SymbolStart.{SymbolStart}
 use Rattle.unit_laws.specs.Runs.{OffsetsFit}
 use Rattle.unit_cells.specs.Cells.{CellsValue}
-use Rattle.history_laws.specs.First.{FirstIsFirst, NothingIsNothing}
-use Rattle.ru_jobs.specs.declared.cursor.JobCursor.{JobCursor}
+use Rattle.unit_laws.specs.First.{FirstIsFirst, NothingIsNothing}
+use Rattle.unit_symbols.specs.declared.cursor.JobCursor.{JobCursor}
 use Rattle.unit_memory.specs.declared.memory.UnitMemory.{UnitMemory}
-use Rattle.ru_reports.specs.Symbols.{CountsTold, ReportsTold, is_left, left_at}
-use Rattle.symbol_search.specs.Symbols.{IsSymbol}
+use Rattle.unit_symbols.specs.DueSymbols.{CountsTold, ReportsTold, is_left, left_at}
+use Rattle.unit_symbols.specs.Symbols.{IsSymbol}
 use Rattle.radio_laws.specs.Units.{RadioKeeps}
 
 -- what is due up to a time, over all that came

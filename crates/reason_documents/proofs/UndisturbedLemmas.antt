@@ -30,12 +30,12 @@ use Rattle.schedule_laws.specs.Cells.{planned_air, planned_cell, planned_event, 
 use Rattle.schedule_laws.specs.Data.{Blocks}
 use Rattle.schedule_laws.specs.Singles.{event_of}
 use Rattle.uplink_laws.specs.Cells.{taken_air, taken_cell, taken_event, taken_symbol}
-use Rattle.replay_events.specs.Events.{events}
-use Rattle.replay_events.specs.Heard.{cells_heard}
-use Rattle.replay_events.specs.Traffic.{Traffic}
+use Rattle.replay_laws.specs.Events.{events}
+use Rattle.replay_laws.specs.Heard.{cells_heard}
+use Rattle.replay_laws.specs.Traffic.{Traffic}
 use Rattle.document_traffic.specs.Sending.{lines_of}
 use Rattle.document_traffic.specs.Undisturbed.{IsTakenInOnce, RadiatesOnce, answers_for, blocks_for, told_for}
-use Rattle.replay_events.specs.Moments.{end_of_time}
+use Rattle.replay_laws.specs.Moments.{end_of_time}
 use Rattle.reason_records.specs.declared.sections.CommandRecord.{CommandRecord}
 use Rattle.explain_model.specs.Pieces.{pieces}
 use Rattle.explain_reasons.specs.Missing.{missing_cell, missing_cells, missing_lines}

@@ -23,9 +23,9 @@ use Rattle.unit_model.proofs.ReachLaws.{symbol_piece}
 use Rattle.schedule_laws.specs.Cells.{mask_below}
 use Rattle.schedule_laws.proofs.ListLemmas.{in_each, in_piece, numerology_short}
 use Rattle.schedule_laws.proofs.SingleLemmas.{mask_some}
-use Rattle.replay_events.specs.Events.{events}
-use Rattle.replay_events.specs.Moments.{all_arrivals, end_of_time}
-use Rattle.replay_events.specs.Traffic.{Traffic, known_at, landings_at, reported_at}
+use Rattle.replay_laws.specs.Events.{events}
+use Rattle.replay_laws.specs.Moments.{all_arrivals, end_of_time}
+use Rattle.replay_laws.specs.Traffic.{Traffic, known_at, landings_at, reported_at}
 use Rattle.replay_laws.proofs.OnceLemmas.{cells_are_reported}
 use Rattle.explain_reasons.specs.Seen.{is_at, is_heard, seen, seen_of}
 use Rattle.reason_documents.proofs.MaskLemmas.{mask_is}

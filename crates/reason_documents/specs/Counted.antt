@@ -5,8 +5,8 @@ use Rattle.air_source.specs.declared.events.Side.{Side}
 use Rattle.fault_counters.specs.Counts.{times}
 use Rattle.fault_counters.specs.declared.kinds.Counter.TheVariants.{Missing}
 use Rattle.window_config.specs.declared.config.Config.{Config}
-use Rattle.replay_events.specs.Events.{all_counted, events}
-use Rattle.replay_events.specs.Traffic.{Traffic}
+use Rattle.replay_laws.specs.Events.{all_counted, events}
+use Rattle.replay_laws.specs.Traffic.{Traffic}
 use Rattle.explain_reasons.specs.Missing.{MissingCell, missing_of}
 
 -- those of a unit

@@ -1,8 +1,8 @@
 -- Where nothing disturbs a document, nothing is missing and nothing is silent (this project's profile).
 use Rattle.std.specs.Prelude.{◌≡◌, ℕ, List, []}
 use Rattle.fh_document.specs.declared.document.Document.{Document}
-use Rattle.replay_events.specs.Events.{events}
-use Rattle.replay_events.specs.Traffic.{Traffic}
+use Rattle.replay_laws.specs.Events.{events}
+use Rattle.replay_laws.specs.Traffic.{Traffic}
 use Rattle.document_traffic.specs.Undisturbed.{IsTakenInOnce, RadiatesOnce}
 use Rattle.explain_reasons.specs.Missing.{why_lines}
 use Rattle.explain_reasons.specs.Silent.{silent_lines}

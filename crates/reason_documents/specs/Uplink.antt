@@ -8,8 +8,8 @@ use Rattle.fragment_laws.specs.Apart.{IsIn}
 use Rattle.plan_model.specs.Lines.{is_up_line, line_allocation, planned, uplink_allocations}
 use Rattle.plan_model.specs.Valid.{IsValid}
 use Rattle.plan_model.specs.declared.lines.PlannedLine.{PlannedLine}
-use Rattle.replay_events.specs.Events.{events}
-use Rattle.replay_events.specs.Traffic.{Traffic}
+use Rattle.replay_laws.specs.Events.{events}
+use Rattle.replay_laws.specs.Traffic.{Traffic}
 use Rattle.explain_reasons.specs.Seen.{is_heard, seen}
 
 -- of a valid plan, whatever lands

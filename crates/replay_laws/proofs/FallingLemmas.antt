@@ -11,7 +11,7 @@ use Rattle.unit_model.specs.Lists.{onto}
 use Rattle.unit_model.specs.Meetings.{Arrival, Meeting, Ignored, Commands, Piece, fragments, meetings, met_in}
 use Rattle.unit_model.specs.Standing.{AreInTime}
 use Rattle.fh_time.proofs.Orders.{at_most}
-use Rattle.history_laws.proofs.AddedLemmas.{Came, all_came}
+use Rattle.unit_laws.proofs.AddedLemmas.{Came, all_came}
 
 -- the newest first, none later than the clock, and none later than a newer one
 abbrev pub AreFalling : ℤ → List Fragment → Type 0

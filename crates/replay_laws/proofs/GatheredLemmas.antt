@@ -28,11 +28,11 @@ use Rattle.unit_model.specs.Meetings.{Arrival, Meeting, Ignored, Commands, Piece
 use Rattle.unit_model.specs.Reports.{hold_of, met}
 use Rattle.unit_model.specs.Standing.{AreInTime}
 use Rattle.unit_model.specs.declared.decoded.UserSection.{UserSection}
-use Rattle.replay_events.specs.Events.{events}
-use Rattle.replay_events.specs.Heard.{cells_heard}
-use Rattle.replay_events.specs.Moments.{all_arrivals, end_of_time}
-use Rattle.replay_events.specs.Traffic.{landings_at}
-use Rattle.replay_events.proofs.CameLemmas.{arrivals_in_time}
+use Rattle.replay_laws.specs.Events.{events}
+use Rattle.replay_laws.specs.Heard.{cells_heard}
+use Rattle.replay_laws.specs.Moments.{all_arrivals, end_of_time}
+use Rattle.replay_laws.specs.Traffic.{landings_at}
+use Rattle.replay_laws.proofs.CameLemmas.{arrivals_in_time}
 use Rattle.replay_laws.specs.Gathered.{CameThen, EachIsGathered, GaveGathered, IsGathered, IsPieceInTime, ShownAreGathered, fragments_gathered}
 use Rattle.replay_laws.specs.Shown.{IsInTime, IsInWindow}
 use Rattle.replay_laws.proofs.FallingLemmas.{AreFalling, falling_behind, met_falling}

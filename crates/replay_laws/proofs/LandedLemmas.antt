@@ -11,10 +11,10 @@ use Rattle.unit_model.specs.Meetings.{Arrival}
 use Rattle.unit_model.specs.Radiated.{first_clock}
 use Rattle.unit_model.proofs.SweepLaws.{gap_is}
 use Rattle.unit_model.proofs.CountLemmas.{no_time}
-use Rattle.history_laws.proofs.TickLemmas.{next_after, same_tick, clock_begins}
-use Rattle.replay_events.specs.Moments.{all_arrivals, arrivals_in, end_of_time, landing_at}
-use Rattle.replay_events.proofs.CameLemmas.{none_first, next_first}
-use Rattle.replay_events.proofs.EndLemmas.{lands_by_end}
+use Rattle.unit_laws.proofs.HistoryTicks.{next_after, same_tick, clock_begins}
+use Rattle.replay_laws.specs.Moments.{all_arrivals, arrivals_in, end_of_time, landing_at}
+use Rattle.replay_laws.proofs.CameLemmas.{none_first, next_first}
+use Rattle.replay_laws.proofs.EndLemmas.{lands_by_end}
 use Rattle.replay_laws.specs.Landed.{EachArrives}
 use Rattle.fh_time.proofs.Orders.{under_is as is_less, not_under_is as not_less, weak, not_later as less_differ, within_next, is_same, not_eq, more_differ, and_none}
 

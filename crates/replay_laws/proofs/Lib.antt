@@ -12,3 +12,12 @@ pub mod SilentLemmas
 pub mod WithoutLemmas
 pub mod StandingLemmas
 pub mod GatheredLemmas
+pub mod TickLemmas
+pub mod CameLemmas
+pub mod SettledLemmas
+pub mod MomentLemmas
+pub mod ToldLemmas
+pub mod AloneLemmas
+pub mod HeardLemmas
+pub mod EventLemmas
+pub mod EndLemmas

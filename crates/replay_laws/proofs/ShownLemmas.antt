@@ -34,10 +34,10 @@ use Rattle.unit_laws.proofs.FarLemmas.{endpoints_equal}
 use Rattle.unit_laws.proofs.HistoryLemmas.{data_are_heard, data_are_proper}
 use Rattle.unit_laws.proofs.DifferLemmas.{all_kept}
 use Rattle.unit_laws.proofs.SweepLemmas.{each_related, sweep_related}
-use Rattle.replay_events.proofs.CameLemmas.{arrivals_in_time}
-use Rattle.replay_events.specs.Moments.{all_arrivals, end_of_time}
-use Rattle.replay_events.specs.Passing.{AreLandings}
-use Rattle.replay_events.specs.Traffic.{Traffic, known_at, landings_at}
+use Rattle.replay_laws.proofs.CameLemmas.{arrivals_in_time}
+use Rattle.replay_laws.specs.Moments.{all_arrivals, end_of_time}
+use Rattle.replay_laws.specs.Passing.{AreLandings}
+use Rattle.replay_laws.specs.Traffic.{Traffic, known_at, landings_at}
 use Rattle.replay_laws.specs.Shown.{ElementIsGiven, GaveElement, GaveSamples, HaveOneId, IsInTime, IsInWindow, PlannedElement, ShownOnlyInTime}
 use Rattle.replay_laws.proofs.GivenLemmas.{IsGiven, IsUnder, block_given, claim_given, one_id, planned_given, samples_are_under}
 use Rattle.replay_laws.proofs.MaskLemmas.{cell_id_is, in_use, used_is_busy}

@@ -16,8 +16,8 @@ use Rattle.unit_model.specs.Standing.{AreInTime}
 use Rattle.unit_model.specs.declared.decoded.ControlSection.{ControlSection}
 use Rattle.unit_model.specs.declared.decoded.UserSection.{UserSection}
 use Rattle.unit_laws.proofs.ChangeLemmas.{either_way}
-use Rattle.replay_events.specs.Moments.{all_arrivals, end_of_time}
-use Rattle.replay_events.proofs.CameLemmas.{arrivals_in_time}
+use Rattle.replay_laws.specs.Moments.{all_arrivals, end_of_time}
+use Rattle.replay_laws.proofs.CameLemmas.{arrivals_in_time}
 use Rattle.replay_laws.specs.Silent.{EachSilentChangesNothing, IsSilent, SilentChangesNothing, began, is_with, without}
 use Rattle.replay_laws.proofs.FallingLemmas.{AreFalling, falling_behind, met_falling}
 use Rattle.replay_laws.proofs.RefusedLemmas.{AreAlike, alike_more, alike_standing}

@@ -14,11 +14,11 @@ use Rattle.unit_model.specs.Meetings.{Arrival, Meeting, Piece, fragments}
 use Rattle.unit_model.specs.Reports.{hold_of, met}
 use Rattle.unit_model.specs.declared.cells.Cell.{Cell}
 use Rattle.unit_model.specs.declared.decoded.UserSection.{UserSection}
-use Rattle.replay_events.specs.Events.{events}
-use Rattle.replay_events.specs.Heard.{cells_heard}
-use Rattle.replay_events.specs.Moments.{all_arrivals}
-use Rattle.replay_events.specs.Passing.{AreLandings}
-use Rattle.replay_events.specs.Traffic.{Traffic, landings_at}
+use Rattle.replay_laws.specs.Events.{events}
+use Rattle.replay_laws.specs.Heard.{cells_heard}
+use Rattle.replay_laws.specs.Moments.{all_arrivals}
+use Rattle.replay_laws.specs.Passing.{AreLandings}
+use Rattle.replay_laws.specs.Traffic.{Traffic, landings_at}
 use Rattle.replay_laws.specs.Shown.{GaveSamples, HaveOneId, IsInWindow}
 
 -- the fragments of the message that f makes whole after these, f first

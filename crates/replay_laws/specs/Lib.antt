@@ -6,3 +6,10 @@ pub mod Refused
 pub mod Delays
 pub mod Silent
 pub mod Gathered
+pub mod Moments
+pub mod Traffic
+pub mod Events
+pub mod Heard
+pub mod Passing
+pub mod Alone
+pub mod Ending

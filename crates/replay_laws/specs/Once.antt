@@ -3,9 +3,9 @@ use Rattle.air_source.specs.declared.events.Side.{Side}
 use Rattle.window_config.specs.Configs.{IsConfig}
 use Rattle.window_config.specs.declared.config.Config.{Config}
 use Rattle.unit_laws.specs.Due.{AreDifferent}
-use Rattle.replay_events.specs.Events.{events}
-use Rattle.replay_events.specs.Heard.{cells_heard}
-use Rattle.replay_events.specs.Traffic.{Traffic}
+use Rattle.replay_laws.specs.Events.{events}
+use Rattle.replay_laws.specs.Heard.{cells_heard}
+use Rattle.replay_laws.specs.Traffic.{Traffic}
 
 -- no two of a unit's events are reports of one cell
 abbrev pub IsOnce : Config → Traffic → Type 0

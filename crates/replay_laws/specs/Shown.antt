@@ -29,11 +29,11 @@ use Rattle.unit_model.specs.declared.cells.Claim.{Claim}
 use Rattle.unit_model.specs.declared.decoded.ControlSection.{ControlSection}
 use Rattle.unit_model.specs.declared.decoded.UserSection.{UserSection}
 use Rattle.unit_model.specs.declared.verdicts.CommandVerdict.TheVariants.{Accepted}
-use Rattle.replay_events.specs.Events.{events}
-use Rattle.replay_events.specs.Heard.{cells_heard}
-use Rattle.replay_events.specs.Moments.{all_arrivals}
-use Rattle.replay_events.specs.Passing.{AreLandings}
-use Rattle.replay_events.specs.Traffic.{Traffic, landings_at}
+use Rattle.replay_laws.specs.Events.{events}
+use Rattle.replay_laws.specs.Heard.{cells_heard}
+use Rattle.replay_laws.specs.Moments.{all_arrivals}
+use Rattle.replay_laws.specs.Passing.{AreLandings}
+use Rattle.replay_laws.specs.Traffic.{Traffic, landings_at}
 use Rattle.air_source.specs.Units.{is_down}
 
 -- the cell that a unit reported, of the endpoint with this index

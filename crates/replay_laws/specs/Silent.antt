@@ -11,8 +11,8 @@ use Rattle.window_config.specs.declared.endpoints.EndpointConfig.{EndpointConfig
 use Rattle.unit_model.specs.Decoding.{Backwards, Decoded, Refused, Sections, data_now, data_sections}
 use Rattle.unit_model.specs.Meetings.{Arrival, Meeting, Ignored, Commands, Piece, commands, fragments}
 use Rattle.unit_model.specs.Reports.{commands_of, data_of, hold_of, met}
-use Rattle.replay_events.specs.Moments.{all_arrivals}
-use Rattle.replay_events.specs.Passing.{AreLandings}
+use Rattle.replay_laws.specs.Moments.{all_arrivals}
+use Rattle.replay_laws.specs.Passing.{AreLandings}
 
 -- what a fragment told: its message is whole, and is refused, has the other unit's direction, or has no sections
 abbrev pub IsSilent : Option Decoded → Type 0

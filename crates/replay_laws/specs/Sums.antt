@@ -9,10 +9,10 @@ use Rattle.fault_counters.specs.declared.kinds.Counter.TheVariants.{Cells, Missi
 use Rattle.window_config.specs.declared.config.Config.{Config}
 use Rattle.unit_model.specs.Reports.{commands_of, data_of}
 use Rattle.unit_laws.specs.Totals.{commands_total, data_total}
-use Rattle.replay_events.specs.Events.{additions_of, all_counted, events}
-use Rattle.replay_events.specs.Heard.{cells_heard}
-use Rattle.replay_events.specs.Moments.{all_arrivals}
-use Rattle.replay_events.specs.Traffic.{Traffic, landings_at}
+use Rattle.replay_laws.specs.Events.{additions_of, all_counted, events}
+use Rattle.replay_laws.specs.Heard.{cells_heard}
+use Rattle.replay_laws.specs.Moments.{all_arrivals}
+use Rattle.replay_laws.specs.Traffic.{Traffic, landings_at}
 
 abbrev pub cells_total : List Counter → ℕ
 cells_total counted = times counted Cells + times counted Missing

@@ -1,9 +1,9 @@
 // A replay of a command and its data: the ordinary case by hand, and an air that fails at each call in turn, also where both units report.
 ghost use Rattle.std.specs.Prelude.{◌≡◌, ◌<◌};
 ghost use Rattle.air_source.specs.Answers.{Fits16};
-ghost use Rattle.tone_source.specs.Tones.{tone_of};
+ghost use Rattle.air_source.specs.Tones.{tone_of};
 
-use air_source::{Event, MemoryAir, RePlace, Samples, Side};
+use air_source::{Event, MemoryAir, RePlace, Samples, Side, ToneSteps};
 use bfp_codec::Wide;
 use fault_counters::{Counter, Counters};
 use fh_base::List;
@@ -13,7 +13,6 @@ use fronthaul_replay::{ReplayFault, check_plan, intake_of, replay};
 use ru_buffers::Ru;
 use std::alloc::Global;
 use std::test::Fail;
-use tone_source::ToneSteps;
 
 /// Symbol 0 of frame 1, PRB 0 of section 1, at 10 ms: its command at 9.6 ms, and its data at 9.7 ms.
 const DOCUMENT: &str =

@@ -15,22 +15,22 @@ use Rattle.unit_model.specs.ProperJobs.{IsProperJob}
 use Rattle.unit_model.specs.Reports.{accepted_of}
 use Rattle.unit_model.specs.Uplink.{jobs}
 use Rattle.unit_model.specs.declared.jobs.UplinkJob.{UplinkJob}
-use Rattle.history_laws.proofs.SendingLemmas.{jobs_are_proper}
+use Rattle.unit_laws.proofs.SendingLemmas.{jobs_are_proper}
 use Rattle.unit_model.specs.Standing.{History, arrived, at_clock, handed, nothing_yet, owed_until}
 use Rattle.unit_model.specs.declared.symbol_start.SymbolStart.{SymbolStart}
 use Rattle.unit_laws.specs.Runs.{OffsetsFit}
 use Rattle.fh_time.specs.declared.values.Ticks.{Ticks}
-use Rattle.history_laws.proofs.FirstLemmas.{first_is_first, nothing_is_nothing}
+use Rattle.unit_laws.proofs.FirstLemmas.{first_is_first, nothing_is_nothing}
 use Rattle.unit_model.specs.Starts.{start_at}
 use Rattle.unit_model.specs.declared.cells.Cell.{Cell}
 use Rattle.unit_laws.proofs.SweepLemmas.{tick-nothing}
 use Rattle.unit_cells.specs.Cells.{CellsValue, cells_reported, cells_uplink, endpoints_of}
 use Rattle.unit_cells.specs.Keeping.{SameKnown, SameReported}
-use Rattle.ru_jobs.specs.Cursors.{GivenOne, IsFirstJob, Settled, jobs_left}
-use Rattle.ru_jobs.specs.declared.cursor.NextJob.{NextJob}
-use Rattle.ru_reports.specs.Symbols.{is_left}
-use Rattle.symbol_search.specs.Symbols.{IsSymbol}
-use Rattle.ru_jobs.specs.declared.cursor.JobCursor.{JobCursor}
+use Rattle.unit_symbols.specs.Cursors.{GivenOne, IsFirstJob, Settled, jobs_left}
+use Rattle.unit_symbols.specs.declared.cursor.NextJob.{NextJob}
+use Rattle.unit_symbols.specs.DueSymbols.{is_left}
+use Rattle.unit_symbols.specs.Symbols.{IsSymbol}
+use Rattle.unit_symbols.specs.declared.cursor.JobCursor.{JobCursor}
 use Rattle.unit_memory.specs.Memory.{Holds, HoldsSome, arrival_at}
 use Rattle.unit_memory.specs.declared.memory.UnitMemory.{UnitMemory}
 use Rattle.unit_memory.proofs.HoldLemmas.{holds_later}

@@ -4,9 +4,9 @@ use Rattle.std.proofs.lemmas.Bool.{cases_Bool}
 use Rattle.window_config.specs.declared.config.Config.{Config}
 use Rattle.unit_model.specs.Standing.{History, arrived}
 use Rattle.unit_model.specs.declared.symbol_start.SymbolStart.{SymbolStart}
-use Rattle.ru_jobs.specs.Cursors.{Settled}
-use Rattle.ru_jobs.specs.declared.cursor.JobCursor.{JobCursor}
-use Rattle.ru_jobs.specs.declared.cursor.NextJob.{NextJob}
+use Rattle.unit_symbols.specs.Cursors.{Settled}
+use Rattle.unit_symbols.specs.declared.cursor.JobCursor.{JobCursor}
+use Rattle.unit_symbols.specs.declared.cursor.NextJob.{NextJob}
 use Rattle.unit_memory.specs.declared.memory.UnitMemory.{UnitMemory}
 use Rattle.unit_memory.specs.Control.{has_control}
 use Rattle.unit_memory.specs.Memory.{arrival_at}

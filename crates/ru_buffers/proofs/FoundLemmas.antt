@@ -4,11 +4,11 @@ use Rattle.std.specs.Prelude.{IfNone, IfSome, int_lt}
 use Rattle.std.proofs.lemmas.Bool.{and_from, and_parts}
 use Rattle.unit_model.specs.declared.symbol_start.SymbolStart.{SymbolStart}
 use Rattle.unit_cells.specs.Cells.{CellsValue, cells_uplink}
-use Rattle.ru_jobs.specs.Cursors.{IsFirstJob, left_in}
-use Rattle.ru_jobs.specs.declared.cursor.JobCursor.{JobCursor}
-use Rattle.ru_jobs.specs.declared.cursor.NextJob.{NextJob}
-use Rattle.ru_reports.specs.Symbols.{is_left_after}
-use Rattle.symbol_search.specs.Symbols.{IsFirst, IsFitting, IsSymbol}
+use Rattle.unit_symbols.specs.Cursors.{IsFirstJob, left_in}
+use Rattle.unit_symbols.specs.declared.cursor.JobCursor.{JobCursor}
+use Rattle.unit_symbols.specs.declared.cursor.NextJob.{NextJob}
+use Rattle.unit_symbols.specs.DueSymbols.{is_left_after}
+use Rattle.unit_symbols.specs.Symbols.{IsFirst, IsFitting, IsSymbol}
 use Rattle.ru_buffers.specs.Calls.{IsNextMessage, IsNextSymbol}
 use Rattle.radio_laws.specs.Reporting.{IsLeftAfter}
 use Rattle.fh_time.proofs.Orders.{under as later, under_is as is_later}

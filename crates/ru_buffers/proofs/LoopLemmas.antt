@@ -16,12 +16,12 @@ use Rattle.unit_model.specs.declared.symbol_start.SymbolStart.{SymbolStart}
 use Rattle.unit_laws.specs.Runs.{OffsetsFit}
 use Rattle.unit_cells.specs.Cells.{CellsValue, endpoints_of}
 use Rattle.unit_cells.specs.Keeping.{SameKnown}
-use Rattle.history_laws.proofs.FirstLemmas.{first_is_first, nothing_is_nothing}
-use Rattle.ru_jobs.specs.Cursors.{IsFirstJob, Settled}
-use Rattle.ru_jobs.specs.declared.cursor.JobCursor.{JobCursor}
-use Rattle.ru_jobs.specs.declared.cursor.NextJob.{NextJob}
+use Rattle.unit_laws.proofs.FirstLemmas.{first_is_first, nothing_is_nothing}
+use Rattle.unit_symbols.specs.Cursors.{IsFirstJob, Settled}
+use Rattle.unit_symbols.specs.declared.cursor.JobCursor.{JobCursor}
+use Rattle.unit_symbols.specs.declared.cursor.NextJob.{NextJob}
 use Rattle.unit_memory.specs.declared.memory.UnitMemory.{UnitMemory}
-use Rattle.ru_reports.specs.Symbols.{StopsAtCell, left_at}
+use Rattle.unit_symbols.specs.DueSymbols.{StopsAtCell, left_at}
 use Rattle.ru_buffers.specs.Advancing.{AfterReport, GoesOn, InOrder, IsNextReport, IsOver, StartsLater, ToldAll, rank_of, rank_past, ranks_left}
 use Rattle.ru_buffers.specs.Calls.{IsNextMessage, IsNextSymbol, StandsFor, StopsAtDue}
 use Rattle.radio_laws.specs.JobLaws.{NothingIsLeft}

@@ -31,15 +31,15 @@ use Rattle.unit_cells.specs.Cells.{CellsValue, cells_claim, cells_reported, cell
 use Rattle.unit_cells.specs.Keeping.{SameKnown}
 use Rattle.unit_cells.proofs.KeepLemmas.{at_config, at_rings}
 use Rattle.unit_cells.proofs.TimeLemmas.{far_no_place, live_at, no_uplink_from}
-use Rattle.history_laws.proofs.FirstLemmas.{first_is_first}
-use Rattle.ru_jobs.specs.Cursors.{IsFirstJob, Settled, at_start, jobs_left, left_in, left_jobs}
-use Rattle.symbol_search.specs.Symbols.{IsSymbol}
-use Rattle.history_laws.proofs.TickLemmas.{last_before}
-use Rattle.ru_jobs.specs.declared.cursor.JobCursor.{JobCursor}
-use Rattle.ru_jobs.specs.declared.cursor.NextJob.{NextJob}
+use Rattle.unit_laws.proofs.FirstLemmas.{first_is_first}
+use Rattle.unit_symbols.specs.Cursors.{IsFirstJob, Settled, at_start, jobs_left, left_in, left_jobs}
+use Rattle.unit_symbols.specs.Symbols.{IsSymbol}
+use Rattle.unit_laws.proofs.HistoryTicks.{last_before}
+use Rattle.unit_symbols.specs.declared.cursor.JobCursor.{JobCursor}
+use Rattle.unit_symbols.specs.declared.cursor.NextJob.{NextJob}
 use Rattle.unit_memory.specs.declared.memory.UnitMemory.{UnitMemory}
-use Rattle.ru_reports.specs.Symbols.{cell_in, is_left}
-use Rattle.ru_reports.proofs.LeftLemmas.{nothing_without_place}
+use Rattle.unit_symbols.specs.DueSymbols.{cell_in, is_left}
+use Rattle.unit_symbols.proofs.LeftReports.{nothing_without_place}
 use Rattle.ru_buffers.specs.Advancing.{StartsLater}
 use Rattle.ru_buffers.specs.Calls.{IsNextMessage, IsNextSymbol}
 use Rattle.radio_laws.specs.Reporting.{IsLeftAfter}

@@ -11,10 +11,10 @@ use Rattle.unit_model.specs.declared.allocations.Allocation.{Allocation}
 use Rattle.unit_model.specs.declared.jobs.UplinkJob.{UplinkJob}
 use Rattle.unit_model.specs.declared.symbol_start.SymbolStart.{SymbolStart}
 use Rattle.unit_cells.specs.Cells.{CellsValue, cells_uplink}
-use Rattle.ru_jobs.specs.Cursors.{IsFirstJob, left_in}
-use Rattle.symbol_search.specs.Symbols.{IsSymbol}
-use Rattle.ru_jobs.specs.declared.cursor.JobCursor.{JobCursor}
-use Rattle.ru_jobs.specs.declared.cursor.NextJob.{NextJob}
+use Rattle.unit_symbols.specs.Cursors.{IsFirstJob, left_in}
+use Rattle.unit_symbols.specs.Symbols.{IsSymbol}
+use Rattle.unit_symbols.specs.declared.cursor.JobCursor.{JobCursor}
+use Rattle.unit_symbols.specs.declared.cursor.NextJob.{NextJob}
 use Rattle.radio_laws.specs.Reporting.{IsFoundLeft, IsLeftAfter, due_of}
 use Rattle.radio_laws.specs.Units.{IsReady, RadioKeeps, view_of}
 use Rattle.ru_buffers.specs.declared.unit.Ru.{Ru}

@@ -2,10 +2,9 @@
 ghost use Rattle.ru_buffers.specs.Calls.{IsNextMessage, IsNextSymbol};
 
 use fh_time::Ticks;
-use ru_jobs::{JobCursor, NextJob, next_job};
-use ru_reports::first_left;
 use unit_cells::UnitCells;
 use unit_model::SymbolStart;
+use unit_symbols::{JobCursor, NextJob, first_left, next_job};
 
 /// The first symbol that starts after a time and of which something is left to be reported.
 pub(crate) fn find_symbol(cells: &UnitCells, after: Ticks) -> Option<SymbolStart>

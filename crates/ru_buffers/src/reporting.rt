@@ -10,8 +10,8 @@ use crate::finding::find_symbol;
 use crate::unit::Ru;
 use air_source::{Air, AirFault};
 use fh_time::Ticks;
-use ru_reports::report;
 use unit_model::SymbolStart;
+use unit_symbols::report;
 
 /// Whether a symbol starts by a time.
 pub(crate) fn starts_by(m: &SymbolStart, to: Ticks) -> bool

@@ -11,10 +11,10 @@ use air_source::Side;
 use fault_counters::Counters;
 use fh_base::NoMemory;
 use fh_time::{FIRST_CLOCK, Ticks};
-use ru_jobs::{JobCursor, NextJob};
 use std::alloc::Global;
 use unit_memory::UnitMemory;
 use unit_model::{Delivered, SymbolStart, TakesFrames};
+use unit_symbols::{JobCursor, NextJob};
 use window_config::Config;
 
 /// The radio unit of an open fronthaul, in memory that is taken when it is made.

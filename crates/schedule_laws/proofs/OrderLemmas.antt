@@ -95,7 +95,6 @@ head_sum : (s t p : ℕ) → s ≡ t + p → 4 + s ≡ (4 + t) + p
 head_sum s t p e = omega (arith, e)
 
 module _ {P : Type 0} (f : PartFields P) (most : ℕ) where
-
   -- in the order of a key of their first parts
   behind_rising : (key : P → ℤ) (m : Message P) (ps : List P) → ((q : P) → IsIn q ps → key m.first ≤ℤ key q) → IsRising key ps → IsRising (λ n. key n.first) (packs_behind f most m ps)
   unfolding packs_behind

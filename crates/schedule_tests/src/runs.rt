@@ -4,11 +4,11 @@ ghost use Rattle.plan_parts.specs.Parts.{IsTimed};
 
 use fh_base::NoMemory;
 use fh_time::Ticks;
-use frame_order::{Queue, Run, Turn, frames_leave_in_time};
+use frame_order::{
+    Queue, Run, Turn, frames_leave_in_time, messages_are_runs, queue_of, sent_is_in_order,
+};
 use plan_model::{Departures, Stream};
-use plan_parts::TimedPart;
-use plan_runs::{Limits, parts_make_runs, stream_messages};
-use sent_order::{messages_are_runs, queue_of, sent_is_in_order};
+use plan_parts::{Limits, TimedPart, parts_make_runs, stream_messages};
 
 /// A frame that leaves at this time.
 fn turn(at: Ticks, endpoint: u8, stream: Stream, number: u32, sub: u8) -> Turn

@@ -1,6 +1,6 @@
 -- The definitions at values worked out by hand, each by computing.
 use Rattle.std.proofs.Common.{◌≡◌, ℕ, zero, suc, pos, negsuc, true, List, [], ◌∷◌, ◌++◌, refl}
-use Rattle.bit_fields.specs.Field.{digits}
+use Rattle.bfp_codec.specs.Field.{digits}
 use Rattle.fh_time.specs.Numbering.{offset_at, ordinary_at}
 use Rattle.fh_time.specs.declared.spacing.Spacing.TheVariants.{Khz30}
 use Rattle.bfp_codec.specs.declared.samples.Iq.{Iq}

@@ -2,9 +2,9 @@
 -- application headers).
 use Rattle.std.specs.Prelude.{ℕ, ℤ, List, [], ◌∷◌, ◌++◌, codes, decimal}
 use Rattle.std.specs.List.{flat_map}
-use Rattle.bit_fields.specs.Field.{flag}
-use Rattle.line_laws.specs.Words.{class_word}
-use Rattle.text_lines.specs.Words.{hex4_text, spaced_text, spaced_signed_text}
+use Rattle.bfp_codec.specs.Field.{flag}
+use Rattle.fh_document.specs.LineWords.{class_word}
+use Rattle.fh_base.specs.Words.{hex4_text, spaced_text, spaced_signed_text}
 use Rattle.window_config.specs.declared.plan.PlanKind.{PlanKind}
 use Rattle.window_config.specs.declared.plan.PlanKind.TheVariants.{Down, Up, Idle}
 use Rattle.sent_lines.specs.declared.lines.FrameLine.{FrameLine}

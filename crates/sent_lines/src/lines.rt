@@ -1,15 +1,15 @@
 // The line of a sent frame.
 ghost use Rattle.std.specs.Prelude.{◌≡◌, ◌+◌, ◌*◌, ◌≤◌, [], ◌++◌, codes, decimal, length};
 ghost use Rattle.std.specs.List.{flat_map};
-ghost use Rattle.bit_fields.specs.Field.{flag};
-ghost use Rattle.line_laws.specs.Words.{class_word};
+ghost use Rattle.bfp_codec.specs.Field.{flag};
+ghost use Rattle.fh_document.specs.LineWords.{class_word};
 ghost use Rattle.sent_lines.specs.Lines.{copies_text, frame_line_text, kind_text, name_text, piece_text, place_text};
-ghost use Rattle.text_lines.specs.Words.{spaced_signed_text};
+ghost use Rattle.fh_base.specs.Words.{spaced_signed_text};
 
 use ecpri_fragments::SeqField;
+use fh_base::Line;
 use fh_document::TrafficClass;
 use fh_time::{Slot, Ticks};
-use text_lines::Line;
 use window_config::PlanKind;
 
 /// What is told of a frame that a plan sends, beside its copies.

@@ -30,14 +30,14 @@ use Rattle.plan_parts.specs.Parts.{HasEndpoint, listed, part_first, timed}
 use Rattle.plan_parts.specs.Placing.{ArePlaced}
 use Rattle.plan_parts.proofs.OrderedLemmas.{in_order_keeps, in_order_ordered}
 use Rattle.plan_parts.proofs.PartLemmas.{few_parts, part_ranks, parts_are}
-use Rattle.plan_table.specs.Plans.{IsTabledPlan}
-use Rattle.plan_table.proofs.PlanLemmas.{has_endpoint, placed, short}
+use Rattle.du_scheduler.specs.TablePlans.{IsTabledPlan}
+use Rattle.du_scheduler.proofs.TablePlanLemmas.{has_endpoint, placed, short}
 use Rattle.frame_order.specs.Turns.{IsRun, rest_of, turns}
 use Rattle.frame_order.specs.declared.turns.Run.{Run}
-use Rattle.sent_order.specs.Runs.{endpoint_runs, gap_ticks, rests_of, run_of, runs_from, runs_of, stream_runs, turn_of}
-use Rattle.sent_order.proofs.KeptLemmas.{at_time}
-use Rattle.sent_order.proofs.ProperLemmas.{are_runs}
-use Rattle.sent_order.proofs.RunLemmas.{runs_are}
+use Rattle.frame_order.specs.Runs.{endpoint_runs, gap_ticks, rests_of, run_of, runs_from, runs_of, stream_runs, turn_of}
+use Rattle.frame_order.proofs.KeptLemmas.{at_time}
+use Rattle.frame_order.proofs.ProperLemmas.{are_runs}
+use Rattle.frame_order.proofs.RunLemmas.{runs_are}
 
 -- ---- going over all ticks finds no frame twice
 

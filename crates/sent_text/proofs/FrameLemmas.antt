@@ -25,8 +25,8 @@ use Rattle.plan_model.specs.declared.streams.Stream.{Stream}
 use Rattle.plan_model.specs.declared.streams.Stream.TheVariants.{DownCommands, UpCommands, DownData, UpData}
 use Rattle.plan_model.proofs.ListLemmas.{in_either, the_one}
 use Rattle.schedule_laws.proofs.SentLemmas.{IsOfMessage, IsSentStream, message_part, part_is, sent_is}
-use Rattle.plan_table.specs.Kept.{placed_line}
-use Rattle.plan_table.specs.declared.kept.PlacedLine.{PlacedLine}
+use Rattle.du_scheduler.specs.Kept.{placed_line}
+use Rattle.du_scheduler.specs.declared.kept.PlacedLine.{PlacedLine}
 use Rattle.frame_bytes.specs.Commands.{command_frame}
 use Rattle.frame_bytes.specs.Cuts.{cut, piece_frame}
 use Rattle.frame_bytes.specs.Spelled.{in_bytes}
@@ -39,7 +39,7 @@ use Rattle.sent_frames.specs.Messages.{Source, message_bytes}
 use Rattle.sent_frames.proofs.MessageFacts.{IsGoodMessage, IsGoodPart, good_message, good_part, length_bytes, message_short}
 use Rattle.frame_order.specs.declared.turns.Turn.{Turn}
 use Rattle.frame_order.specs.Turns.{is_command}
-use Rattle.sent_order.specs.Runs.{turn_of}
+use Rattle.frame_order.specs.Runs.{turn_of}
 use Rattle.document_traffic.specs.Sending.{class_of, lines_of, source_for}
 use Rattle.document_traffic.proofs.LineLemmas.{lines_fit}
 use Rattle.fh_document.specs.declared.delivered.TrafficClass.{TrafficClass}

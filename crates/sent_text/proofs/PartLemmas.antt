@@ -9,8 +9,8 @@ use Rattle.window_config.specs.declared.endpoints.EndpointConfig.{EndpointConfig
 use Rattle.window_config.specs.declared.plan.PlanLine.{PlanLine}
 use Rattle.plan_model.specs.Packs.{Message, parts_of, size_of}
 use Rattle.plan_model.specs.Streams.{Part, part_fields, section_size}
-use Rattle.plan_table.specs.Kept.{placed_line}
-use Rattle.plan_table.specs.declared.kept.PlacedLine.{PlacedLine}
+use Rattle.du_scheduler.specs.Kept.{placed_line}
+use Rattle.du_scheduler.specs.declared.kept.PlacedLine.{PlacedLine}
 use Rattle.schedule_laws.proofs.ListLemmas.{at_in}
 use Rattle.sent_text.specs.Frames.{IsPlaced, StandsIn}
 

@@ -4,11 +4,11 @@ use Rattle.std.specs.List.{flat_map}
 use Rattle.std.proofs.lemmas.Grind.{flat_map-append}
 use Rattle.air_source.specs.declared.events.Side.TheVariants.{Ru}
 use Rattle.fh_base.specs.Told.{WritesFront, WritesPart}
-use Rattle.owed_bytes.specs.Owed.{Carried}
-use Rattle.owed_bytes.specs.CarriedLaws.{carried_more, carried_none}
-use Rattle.owed_bytes.proofs.Carrying.{front_behind}
-use Rattle.owed_bytes.proofs.Parts.{front_part, part_behind}
-use Rattle.owed_bytes.proofs.Telling.{front_before}
+use Rattle.fh_base.specs.Owed.{Carried}
+use Rattle.fh_base.specs.CarriedLaws.{carried_more, carried_none}
+use Rattle.fh_base.proofs.Carrying.{front_behind}
+use Rattle.fh_base.proofs.Parts.{front_part, part_behind}
+use Rattle.fh_base.proofs.OwedTelling.{front_before}
 use Rattle.fh_document.specs.Proper.{IsDocument}
 use Rattle.fh_document.specs.declared.delivered.TrafficClass.{TrafficClass}
 use Rattle.fh_document.specs.declared.document.Document.{Document}
@@ -20,10 +20,10 @@ use Rattle.frame_order.specs.declared.turns.Turn.{Turn}
 use Rattle.plan_model.specs.Sent.{SentFrame}
 use Rattle.plan_model.specs.Valid.{IsValid}
 use Rattle.plan_model.proofs.ListLemmas.{in_right}
-use Rattle.plan_table.specs.Plans.{IsTabledPlan}
-use Rattle.plan_table.specs.Tables.{IsTable}
-use Rattle.plan_table.specs.declared.tables.Table.{Table}
-use Rattle.sent_order.specs.Runs.{turn_of}
+use Rattle.du_scheduler.specs.TablePlans.{IsTabledPlan}
+use Rattle.du_scheduler.specs.Tables.{IsTable}
+use Rattle.du_scheduler.specs.declared.tables.Table.{Table}
+use Rattle.frame_order.specs.Runs.{turn_of}
 use Rattle.document_traffic.specs.Sending.{SentCounts, class_of, lines_of, none_sent, sent_for}
 use Rattle.document_traffic.proofs.LineLemmas.{lines_fit}
 use Rattle.sent_lines.specs.Lines.{frame_line_text}

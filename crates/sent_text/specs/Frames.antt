@@ -12,11 +12,11 @@ use Rattle.plan_model.specs.Packs.{Message, parts_of}
 use Rattle.plan_model.specs.Sent.{SentFrame}
 use Rattle.plan_model.specs.Streams.{Part}
 use Rattle.plan_model.specs.Valid.{IsValid}
-use Rattle.plan_table.specs.Kept.{placed_line}
-use Rattle.plan_table.specs.Tables.{IsTable}
-use Rattle.plan_table.specs.declared.kept.PlacedLine.{PlacedLine}
-use Rattle.plan_table.specs.declared.tables.Table.{Table}
-use Rattle.sent_order.specs.Runs.{turn_of}
+use Rattle.du_scheduler.specs.Kept.{placed_line}
+use Rattle.du_scheduler.specs.Tables.{IsTable}
+use Rattle.du_scheduler.specs.declared.kept.PlacedLine.{PlacedLine}
+use Rattle.du_scheduler.specs.declared.tables.Table.{Table}
+use Rattle.frame_order.specs.Runs.{turn_of}
 use Rattle.document_traffic.specs.Sending.{lines_of, sent_for}
 
 -- the sequence field of a turn's frame, where so many carry its message

@@ -5,17 +5,17 @@ ghost use Rattle.fh_document.specs.Proper.{IsDocument};
 ghost use Rattle.fh_document.specs.declared.delivered.TrafficClass.TheVariants.{M};
 ghost use Rattle.frame_deliveries.specs.Copies.{copies_of as copies_in};
 ghost use Rattle.plan_model.specs.Sent.{SentFrame};
-ghost use Rattle.plan_table.specs.Kept.{placed_line};
+ghost use Rattle.du_scheduler.specs.Kept.{placed_line};
 ghost use Rattle.sent_text.specs.Frames.{IsTabled, IsTurnFor};
 ghost use Rattle.sent_text.specs.Rows.{line_for};
 
 use crate::sizes::{line_at, piece_of};
+use du_scheduler::{PlacedLine, Table};
 use fh_base::List;
 use fh_document::{Document, TrafficClass};
 use frame_deliveries::FrameDeliveries;
 use frame_order::Turn;
 use plan_model::{PlannedLine, Stream};
-use plan_table::{PlacedLine, Table};
 use sent_lines::FrameLine;
 
 /// The class of a stream's frames.

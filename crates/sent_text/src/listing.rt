@@ -9,11 +9,11 @@ ghost use Rattle.fh_base.specs.Told.{WritesFront, WritesPart};
 ghost use Rattle.fh_document.specs.Proper.{IsDocument};
 ghost use Rattle.frame_deliveries.specs.Copies.{deliveries_to};
 ghost use Rattle.frame_order.specs.Queues.{IsQueue, StandsFor};
-ghost use Rattle.owed_bytes.specs.Owed.{Carried};
+ghost use Rattle.fh_base.specs.Owed.{Carried};
 ghost use Rattle.plan_model.specs.Valid.{IsValid};
-ghost use Rattle.plan_table.specs.Tables.{IsTable};
+ghost use Rattle.du_scheduler.specs.Tables.{IsTable};
 ghost use Rattle.sent_lines.specs.Lines.{frame_line_text};
-ghost use Rattle.sent_order.specs.Runs.{turn_of};
+ghost use Rattle.frame_order.specs.Runs.{turn_of};
 ghost use Rattle.sent_text.specs.Laws.{IsListed};
 ghost use Rattle.sent_text.specs.Rows.{rows_of};
 ghost use Rattle.sent_text.specs.Text.{row_text, sent_text};
@@ -21,16 +21,13 @@ ghost use Rattle.sent_text.specs.Text.{row_text, sent_text};
 use crate::frames::{class_of, copies_of, told};
 use crate::tally::Tally;
 use air_source::Side;
-use du_scheduler::planned_lines;
-use fh_base::{Sink, SinkFault};
+use du_scheduler::{Table, planned_lines};
+use fh_base::{Line, OwedBytes, Sink, SinkFault};
 use fh_document::Document;
 use frame_deliveries::FrameDeliveries;
 use frame_order::Queue;
-use owed_bytes::OwedBytes;
-use plan_table::Table;
 use sent_lines::{FrameLine, put_frame_line};
 use std::alloc::Global;
-use text_lines::Line;
 
 /// Tells the line of a frame.
 fn tell_line<K: Sink>(

@@ -16,12 +16,12 @@ ghost use Rattle.window_config.specs.Endpoints.{IsEndpoint};
 ghost use Rattle.window_config.specs.Plans.{IsPlanLine};
 ghost use Rattle.window_config.specs.declared.config.TheConstants.{LEAST_FRAGMENT, MOST_FRAGMENT};
 
+use du_scheduler::PlacedLine;
 use ecpri_fragments::SeqField;
 use fh_base::List;
 use fh_document::Document;
 use frame_order::Turn;
 use plan_model::{PlannedLine, frame_count, section_size};
-use plan_table::PlacedLine;
 use sent_frames::command_frame;
 use window_config::{EndpointConfig, PlanLine};
 

@@ -1,9 +1,9 @@
 -- A combined cell's line, told as its two halves.
 use Rattle.std.proofs.Common.{◌≡◌, ℕ, List, ◌++◌, Option, ap₂, subst, sym, ◌∙◌}
 use Rattle.fh_base.specs.Told.{WritesPart}
-use Rattle.owed_bytes.specs.Owed.{Carried}
-use Rattle.owed_bytes.specs.CarriedLaws.{carried_more}
-use Rattle.owed_bytes.proofs.Parts.{part_before, part_behind}
+use Rattle.fh_base.specs.Owed.{Carried}
+use Rattle.fh_base.specs.CarriedLaws.{carried_more}
+use Rattle.fh_base.proofs.Parts.{part_before, part_behind}
 use Rattle.shared_cell.specs.declared.values.Mixed.{Mixed}
 use Rattle.shared_lines.specs.Lines.{mix_back_text, mix_front_text, mixed_text}
 use Rattle.shared_lines.proofs.Halves.{two_halves}

@@ -2,11 +2,11 @@
 use Rattle.std.specs.Prelude.{ℕ, zero, suc, ◌+◌, ◌==◌, List, [], ◌++◌, codes, if◌then◌else◌}
 use Rattle.std.specs.List.{flat_map, slice_index_or}
 use Rattle.std.specs.Fmt.{signed_decimal}
-use Rattle.report_lines.specs.Cells.{slot_text}
+use Rattle.air_source.specs.CellLines.{slot_text}
 use Rattle.shared_cell.specs.Joined.{in_mask, no_sum}
 use Rattle.shared_cell.specs.declared.values.Mixed.{Mixed}
 use Rattle.shared_cell.specs.declared.values.Sum.{Sum}
-use Rattle.text_lines.specs.Words.{hex3_text, hex4_text, spaced_signed_text, spaced_text}
+use Rattle.fh_base.specs.Words.{hex3_text, hex4_text, spaced_signed_text, spaced_text}
 
 -- the line above what a unit writes
 unfoldable pub unit_text : ℕ → List ℕ

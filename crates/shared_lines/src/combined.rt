@@ -4,14 +4,12 @@ ghost use Rattle.std.specs.List.{flat_map};
 ghost use Rattle.std.specs.Io.KnownBytes.{append_known};
 ghost use Rattle.fh_base.specs.Causes.{HasSinkCause};
 ghost use Rattle.fh_base.specs.Told.{WritesFront, WritesPart};
-ghost use Rattle.owed_bytes.specs.Owed.{Carried};
+ghost use Rattle.fh_base.specs.Owed.{Carried};
 ghost use Rattle.shared_lines.specs.Lines.{mixed_text, mixes_text};
 
 use crate::mixes::{put_mix_back, put_mix_front};
-use fh_base::{Sink, SinkFault};
-use owed_bytes::OwedBytes;
+use fh_base::{Line, OwedBytes, Sink, SinkFault};
 use shared_cell::{Mixed, Mixer};
-use text_lines::Line;
 
 // Tells the line of a combined cell.
 fn tell_cell<K: Sink>(

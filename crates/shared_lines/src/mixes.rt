@@ -1,11 +1,11 @@
 // The line of a combined cell.
 ghost use Rattle.std.specs.Prelude.{◌≡◌, ◌+◌, ◌<◌, ◌≤◌, ◌++◌, length, []};
-ghost use Rattle.report_lines.specs.Cells.{slot_text};
+ghost use Rattle.air_source.specs.CellLines.{slot_text};
 ghost use Rattle.shared_lines.specs.Lines.{element_text, elements_text, mix_back_text, mix_front_text, mix_head_text, sum_text};
 
+use fh_base::Line;
 use fh_time::Slot;
 use shared_cell::{Mixed, Sum};
-use text_lines::Line;
 
 fn slot_words(line: &mut Line, slot: Slot)
     requires { length line.old ≤ 29 }

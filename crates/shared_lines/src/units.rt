@@ -2,7 +2,7 @@
 ghost use Rattle.std.specs.Prelude.{◌≡◌};
 ghost use Rattle.shared_lines.specs.Lines.{unit_text};
 
-use text_lines::Line;
+use fh_base::Line;
 
 /// Writes the line `unit R` in place of what stood in the line: R is the unit, counted from 0.
 #[tactic(auto, unfolding(crate::specs::Lines::unit_text))]

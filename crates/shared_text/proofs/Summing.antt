@@ -19,8 +19,8 @@ use Rattle.layered_cells.specs.Layers.{AreAlike, AreDistinct, AreShown, all_of, 
 use Rattle.layered_cells.proofs.Layering.{are_layers, each_counted}
 use Rattle.measured_traffic.specs.Replayed.{traffic_of}
 use Rattle.plan_model.specs.Valid.{IsValid}
-use Rattle.replay_events.specs.Moments.{all_arrivals, end_of_time}
-use Rattle.replay_events.specs.Traffic.{landings_at}
+use Rattle.replay_laws.specs.Moments.{all_arrivals, end_of_time}
+use Rattle.replay_laws.specs.Traffic.{landings_at}
 use Rattle.replay_laws.proofs.OnceLemmas.{cells_are_reported}
 use Rattle.shared_cell.specs.Combined.{AgreeIn, Follows, combined}
 use Rattle.shared_cell.specs.Places.{is_at, place_of}

@@ -6,7 +6,7 @@ use Rattle.std.proofs.lemmas.Grind.{flat_map-append}
 use Rattle.air_source.specs.declared.airs.AirFault.{AirFault}
 use Rattle.air_source.specs.declared.airs.AirFault.TheVariants.{Failed, NoMemory as WantsMemory}
 use Rattle.air_source.specs.declared.events.Event.{Event}
-use Rattle.air_sinks.proofs.Fronts.{IsFront, WritesOut, carried_from, cut_front, front_from, stops_front}
+use Rattle.air_source.proofs.Fronts.{IsFront, WritesOut, carried_from, cut_front, front_from, stops_front}
 use Rattle.fh_base.specs.Told.{WritesFront, WritesPart}
 use Rattle.fh_base.specs.KnownLaws.{append_nothing, append_twice}
 use Rattle.fh_base.proofs.Progress.{front_first, front_second}
@@ -15,11 +15,11 @@ use Rattle.fronthaul_replay.specs.Cut.{CutBy}
 use Rattle.fronthaul_replay.specs.Replaying.{events_of}
 use Rattle.fronthaul_replay.specs.declared.report.TextFault.{TextFault}
 use Rattle.fronthaul_replay.specs.declared.report.TextFault.TheVariants.{WriteFault, NoMemory}
-use Rattle.owed_bytes.specs.Owed.{Carried}
-use Rattle.owed_bytes.specs.CarriedLaws.{carried_more}
-use Rattle.owed_bytes.proofs.Carrying.{front_behind}
-use Rattle.owed_bytes.proofs.Parts.{front_part, part_second}
-use Rattle.owed_bytes.proofs.Telling.{all_written, last_front}
+use Rattle.fh_base.specs.Owed.{Carried}
+use Rattle.fh_base.specs.CarriedLaws.{carried_more}
+use Rattle.fh_base.proofs.Carrying.{front_behind}
+use Rattle.fh_base.proofs.Parts.{front_part, part_second}
+use Rattle.fh_base.proofs.OwedTelling.{all_written, last_front}
 use Rattle.shared_cell.specs.Combined.{combined}
 use Rattle.shared_cell.specs.declared.values.Mixed.{Mixed}
 use Rattle.shared_lines.specs.Lines.{combined_text, end_text, mixed_text, mixes_text, unit_text}

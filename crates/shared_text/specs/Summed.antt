@@ -6,7 +6,7 @@ use Rattle.document_traffic.specs.Sending.{lines_of}
 use Rattle.document_traffic.specs.Undisturbed.{IsUndisturbedBothWays, answers_for}
 use Rattle.fh_document.specs.declared.document.Document.{Document}
 use Rattle.layered_cells.specs.Layers.{first_layer, layered}
-use Rattle.replay_events.specs.Moments.{end_of_time}
+use Rattle.replay_laws.specs.Moments.{end_of_time}
 use Rattle.shared_cell.specs.Combined.{combined}
 use Rattle.shared_text.specs.Shared.{unit_cells, units_cells}
 use Rattle.unit_documents.specs.Units.{unit_of}

@@ -19,7 +19,7 @@ use Rattle.explain_reasons.specs.Seen.{Seen, cell_runs, ep_found, ep_of, is_at, 
 use Rattle.reason_records.specs.Keys.{run_key, same_symbol}
 use Rattle.reason_records.specs.declared.runs.CellRun.{CellRun}
 use Rattle.symbol_records.specs.Keys.{of_symbol}
-use Rattle.reason_lines.proofs.MissingLemmas.{HasEndpoint}
+use Rattle.explain_records.proofs.MissingLemmas.{HasEndpoint}
 use Rattle.silent_lines.proofs.ListLemmas.{all_append, all_weaker}
 use Rattle.silent_lines.specs.Silent.{has_element, symbol_key}
 

@@ -4,3 +4,4 @@ pub mod HeardLemmas
 pub mod RunLemmas
 pub mod ListLemmas
 pub mod SilentTexts
+pub mod LineLemmas

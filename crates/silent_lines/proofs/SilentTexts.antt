@@ -29,7 +29,7 @@ use Rattle.reason_records.specs.Keys.{run_key}
 use Rattle.reason_records.specs.declared.runs.CellRun.{CellRun}
 use Rattle.reason_records.specs.declared.sections.CommandRecord.{CommandRecord}
 use Rattle.symbol_records.specs.Keys.{of_symbol}
-use Rattle.reason_lines.proofs.MissingLemmas.{each_same}
+use Rattle.explain_records.proofs.MissingLemmas.{each_same}
 use Rattle.silent_lines.specs.Laws.{LinesAreNumbered, SameRunsBySymbol, SilentAreTold}
 use Rattle.silent_lines.specs.Silent.{commands_of, has_element, line_symbol, silent_item, silent_item_if, silent_items, silent_items_at, silent_items_if, silent_items_of, silent_items_of_symbol, silent_line_of, silent_mask_by, silent_related, symbol_key}
 use Rattle.silent_lines.specs.declared.items.SilentItem.{SilentItem}

@@ -1,3 +1,4 @@
 pub mod Silent
 pub mod SilentSteps
 pub mod Laws
+pub mod PlanLaws

@@ -4,11 +4,10 @@ ghost use Rattle.silent_lines.specs.Silent.{silent_item, silent_line_of, silent_
 
 use air_source::Side;
 use explain_lines::{ExplainLine, PrbRun, Reason, SymbolPlace};
-use explain_records::{Asked, command_reason};
+use explain_records::{Asked, command_reason, is_next, same_reason};
 use fh_time::Ticks;
 use line_runs::RunItem;
 use plan_model::PlannedLine;
-use reason_lines::{is_next, same_reason};
 use reason_records::{CommandRecord, SlotKey};
 
 /// A symbol of a line of a plan.

@@ -1,6 +1,6 @@
 -- The elements of a picture, each a line (W3C Scalable Vector Graphics 1.1: rect, section 9.2; path, section 8; text, section 10.4).
 use Rattle.std.specs.Prelude.{ℕ, List, [], ◌++◌, Bool, true, false, codes, decimal}
-use Rattle.text_lines.specs.Words.{spaced_text}
+use Rattle.fh_base.specs.Words.{spaced_text}
 use Rattle.svg_elements.specs.declared.rects.Area.{Area}
 use Rattle.svg_elements.specs.declared.texts.Anchor.{Anchor}
 use Rattle.svg_elements.specs.declared.texts.Anchor.TheVariants.{Start, Middle, End}

@@ -1,6 +1,6 @@
 -- How a picture begins and ends.
 use Rattle.std.specs.Prelude.{ℕ, List, ◌++◌, codes}
-use Rattle.text_lines.specs.Words.{spaced_text}
+use Rattle.fh_base.specs.Words.{spaced_text}
 use Rattle.svg_elements.specs.Elements.{attribute_text}
 
 -- the style of all classes, one line

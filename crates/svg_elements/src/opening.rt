@@ -3,8 +3,7 @@ ghost use Rattle.std.specs.Prelude.{◌≡◌, ◌++◌, OnOk};
 ghost use Rattle.svg_elements.specs.Opening.{style_text, head_text, ground_text, hatching_text, opening_text, closing_text};
 
 use crate::pieces::attribute;
-use fh_base::{Bytes, NoMemory};
-use text_lines::Line;
+use fh_base::{Bytes, Line, NoMemory};
 
 /// Appends the style of all classes.
 #[tactic(auto, unfolding(crate::specs::Opening::style_text))]

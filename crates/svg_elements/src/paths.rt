@@ -3,8 +3,7 @@ ghost use Rattle.std.specs.Prelude.{◌≡◌, ◌+◌, ◌≤◌, ◌++◌, len
 ghost use Rattle.svg_elements.specs.Elements.{path_text, down_text, across_text};
 
 use crate::pieces::class;
-use fh_base::{Bytes, NoMemory};
-use text_lines::Line;
+use fh_base::{Bytes, Line, NoMemory};
 
 /// Appends a path of a class from a point on, by so many pixels in a direction: `v` down, `h` to the right.
 fn put_path(

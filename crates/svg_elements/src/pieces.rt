@@ -2,7 +2,7 @@
 ghost use Rattle.std.specs.Prelude.{◌≡◌, ◌+◌, ◌≤◌, ◌++◌, length};
 ghost use Rattle.svg_elements.specs.Elements.{attribute_text, class_text};
 
-use text_lines::Line;
+use fh_base::Line;
 
 /// Appends a space, a name of at most 8 characters, and a number in quotes.
 pub(crate) fn attribute(line: &mut Line, name: &[u8], n: u32)

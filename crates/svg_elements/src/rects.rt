@@ -3,8 +3,7 @@ ghost use Rattle.std.specs.Prelude.{◌≡◌, ◌+◌, ◌≤◌, ◌++◌, len
 ghost use Rattle.svg_elements.specs.Elements.{area_text, rect_text, titled_text, hatched_text};
 
 use crate::pieces::{attribute, class};
-use fh_base::{Bytes, NoMemory};
-use text_lines::Line;
+use fh_base::{Bytes, Line, NoMemory};
 
 /// A rectangle: its left upper corner and its size.
 #[derive(Clone, Copy, Debug, PartialEq, Eq)]

@@ -3,8 +3,7 @@ ghost use Rattle.std.specs.Prelude.{◌≡◌, ◌+◌, ◌≤◌, ◌++◌, len
 ghost use Rattle.svg_elements.specs.Elements.{grey_text, anchor_text, text_text};
 
 use crate::pieces::{attribute, class};
-use fh_base::{Bytes, NoMemory};
-use text_lines::Line;
+use fh_base::{Bytes, Line, NoMemory};
 
 /// Which place of a text stands at its point.
 #[derive(Clone, Copy, Debug, PartialEq, Eq)]

@@ -2,7 +2,7 @@
 use Rattle.std.proofs.Common.{◌≡◌, ◌∙◌, ℕ, ◌<◌, ◌≤◌, ◌^◌, List, Option, Some, Result, Ok, Err, sym, ap, subst}
 use Rattle.std.specs.Prelude.{IfOk}
 use Rattle.plan_model.specs.Valid.{IsValid}
-use Rattle.generated_plans.proofs.Valid.{are_valid}
+use Rattle.generated_laws.proofs.Valid.{are_valid}
 use Rattle.fh_document.specs.Answered.{Answers}
 use Rattle.fh_document.specs.Document.{document_of}
 use Rattle.fh_document.specs.Generated.{generated}
@@ -12,8 +12,8 @@ use Rattle.fh_document.specs.declared.refusals.DocFault.{DocFault}
 use Rattle.fh_document.specs.declared.refusals.DocFault.TheVariants as doc
 use Rattle.fh_document.specs.declared.refusals.DocWhy.{DocWhy}
 use Rattle.fh_document.proofs.Properness.{document_of_in}
-use Rattle.generated_documents.specs.Documents.{document}
-use Rattle.generated_documents.proofs.Read.{are_read}
+use Rattle.generated_laws.specs.Documents.{document}
+use Rattle.generated_laws.proofs.Read.{are_read}
 use Rattle.plain_documents.proofs.Generated.{generated_are_undisturbed}
 use Rattle.fronthaul_replay.proofs.LawLemmas.{is_sound}
 use Rattle.command_words.specs.Words.{command_of}

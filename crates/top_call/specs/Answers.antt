@@ -11,7 +11,7 @@ use Rattle.fh_document.specs.declared.document.Document.{Document}
 use Rattle.fh_document.specs.declared.refusals.DocWhy.{DocWhy}
 use Rattle.fh_document.specs.Document.{document_of}
 use Rattle.fh_document.specs.Generated.{generated}
-use Rattle.generated_documents.specs.Documents.{document}
+use Rattle.generated_laws.specs.Documents.{document}
 use Rattle.fronthaul_replay.specs.Reports.{capture_of, document_counts, document_report, summary_of}
 use Rattle.pcap_frames.specs.declared.refusals.PcapRefusal.{PcapRefusal}
 use Rattle.pcap_frames.specs.declared.values.Whose.{Whose}
@@ -27,8 +27,8 @@ use Rattle.window_config.specs.declared.config.Config.{Config}
 use Rattle.window_config.specs.declared.delays.Delays.{Delays}
 use Rattle.window_config.specs.declared.relations.Failing.{Failing}
 use Rattle.window_config.specs.Relations.{checked}
-use Rattle.window_lines.specs.Fit.{fit_text}
-use Rattle.window_lines.specs.Windows.{windows_text}
+use Rattle.window_plan.specs.Fit.{fit_text}
+use Rattle.window_plan.specs.Windows.{windows_text}
 use Rattle.window_plan.specs.declared.refusals.NoFit.{NoFit as Refusal}
 use Rattle.window_plan.specs.Fitting.{fitted}
 use Rattle.sent_text.specs.Text.{sent_text}

@@ -9,7 +9,7 @@ use Rattle.plan_model.specs.declared.refusals.PlanWhy.{PlanWhy}
 use Rattle.plan_model.specs.declared.refusals.PlanWhy.TheVariants.{UnknownEndpoint, Range, Overlap, TooManySections, SequenceDense}
 use Rattle.picture_lines.specs.Refusals.{why_name as text_name}
 use Rattle.picture_lines.specs.declared.faults.TextWhy.{TextWhy}
-use Rattle.text_lines.specs.Words.{spaced_signed_text}
+use Rattle.fh_base.specs.Words.{spaced_signed_text}
 use Rattle.window_config.specs.declared.relations.Failing.{Failing}
 use Rattle.window_config.specs.Relations.{name_of as relation_name}
 use Rattle.window_plan.specs.declared.refusals.NoFit.{NoFit as Refusal}

@@ -3,7 +3,7 @@ use Rattle.std.specs.Prelude.{◌≡◌, ℕ, Ok}
 use Rattle.plan_model.specs.Valid.{IsValid}
 use Rattle.fh_document.specs.Document.{document_of}
 use Rattle.fh_document.specs.Generated.{generated}
-use Rattle.generated_documents.specs.Documents.{document}
+use Rattle.generated_laws.specs.Documents.{document}
 use Rattle.document_traffic.specs.Undisturbed.{IsTakenInOnce, RadiatesOnce}
 use Rattle.measured_traffic.specs.Replayed.{traffic_of}
 use Rattle.fronthaul_replay.specs.Laws.{IsSound}

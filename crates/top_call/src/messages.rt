@@ -8,10 +8,9 @@ ghost use Rattle.top_call.specs.Statuses.{capture_line, failing_line, status_lin
 use crate::status::{LineWhy, Status};
 use capture_records::CaptureWhy;
 use du_scheduler::PlanWhy;
-use fh_base::{Sink, SinkFault, write_all_to};
+use fh_base::{Line, Sink, SinkFault, write_all_to};
 use pcap_frames::PcapRefusal;
 use picture_lines::TextWhy;
-use text_lines::Line;
 use window_config::Failing;
 use window_plan::NoFit;
 

@@ -4,8 +4,8 @@ use Rattle.std.specs.Borrow.{GName}
 use Rattle.std.proofs.Common.{refl, sym, ap, subst, ◌∙◌}
 use Rattle.std.proofs.lemmas.Grind.{flat_map-append}
 use Rattle.air_source.specs.declared.events.Event.{Event}
-use Rattle.owed_bytes.specs.Owed.{Carried}
-use Rattle.owed_bytes.specs.CarriedLaws.{carried_none, carried_more}
+use Rattle.fh_base.specs.Owed.{Carried}
+use Rattle.fh_base.specs.CarriedLaws.{carried_none, carried_more}
 use Rattle.shared_cell.specs.declared.values.Mixed.{Mixed}
 use Rattle.unit_air.specs.Text.{all_taken, event_taken, unit_event_text, unit_events_text}
 

@@ -5,8 +5,8 @@ use Rattle.air_source.specs.declared.events.Event.{Event}
 use Rattle.air_source.specs.declared.events.Event.TheVariants.{Cell, Delay, Arrival, Count}
 use Rattle.air_source.specs.declared.events.Side.{Side}
 use Rattle.air_source.specs.declared.events.Side.TheVariants.{Ru, Du}
-use Rattle.report_lines.specs.Cells.{cell_text}
-use Rattle.report_lines.specs.Units.{count_text}
+use Rattle.air_source.specs.CellLines.{cell_text}
+use Rattle.air_source.specs.UnitLines.{count_text}
 use Rattle.shared_cell.specs.Joined.{taken}
 use Rattle.shared_cell.specs.declared.values.Mixed.{Mixed}
 

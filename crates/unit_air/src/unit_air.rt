@@ -5,23 +5,19 @@ ghost use Rattle.std.specs.Io.KnownBytes.{append_known};
 ghost use Rattle.fh_base.specs.Told.{WritesFront, WritesPart};
 ghost use Rattle.air_source.specs.Causes.{HasAirCause};
 ghost use Rattle.air_source.specs.declared.airs.AirFault.TheVariants.{NoMemory as WantsMemory};
-ghost use Rattle.owed_bytes.specs.Owed.{Carried};
+ghost use Rattle.fh_base.specs.Owed.{Carried};
 ghost use Rattle.shared_cell.specs.Joined.{taken};
 ghost use Rattle.shared_lines.specs.Lines.{unit_text};
 ghost use Rattle.unit_air.specs.Stopping.{Ceased};
 ghost use Rattle.unit_air.specs.Text.{all_taken, unit_event_text, unit_events_text};
 ghost use Rattle.unit_air.specs.Laws.{Heard, grew_none, grew_more};
 
-use air_sinks::{push_out, tell};
-use air_source::{Air, AirCell, AirFault, Side};
+use air_source::{Air, AirCell, AirFault, Side, push_out, put_cell, put_count, tell};
 use fault_counters::Counter;
-use fh_base::Sink;
+use fh_base::{Line, OwedBytes, Sink};
 use fh_time::Ticks;
-use owed_bytes::OwedBytes;
-use report_lines::{put_cell, put_count};
 use shared_cell::Mixer;
 use shared_lines::put_unit;
-use text_lines::Line;
 
 /// An air that writes a line for each cell and each counter of the radio unit to a sink that it borrows, and adds each cell of the
 /// distributed unit to a mixer that it borrows.

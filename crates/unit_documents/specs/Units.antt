@@ -11,7 +11,7 @@ use Rattle.fh_document.specs.declared.delivered.TrafficClass.TheVariants.{C, U, 
 use Rattle.fh_document.specs.declared.delivered.Delivery.{Delivery}
 use Rattle.fh_document.specs.declared.document.Document.{Document}
 use Rattle.fh_document.specs.declared.document.Transits.{Transits}
-use Rattle.tone_source.specs.declared.values.Tone.{Tone}
+use Rattle.air_source.specs.declared.tones.Tone.{Tone}
 
 -- a time on the way that is longer by so many nanoseconds, three seconds at most
 abbrev pub moved : ℕ → ℤ → ℤ

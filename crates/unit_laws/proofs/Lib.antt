@@ -20,3 +20,11 @@ pub mod FrameLemmas
 pub mod TickLemmas
 pub mod EndLemmas
 pub mod BeginLemmas
+pub mod HistoryTicks
+pub mod HistoryLists
+pub mod UnitLemmas
+pub mod BeforeLemmas
+pub mod FirstLemmas
+pub mod AddedLemmas
+pub mod ArrivingLemmas
+pub mod SendingLemmas

@@ -13,3 +13,6 @@ pub mod Runs
 pub mod Ticks
 pub mod Ends
 pub mod Touched
+pub mod First
+pub mod Arriving
+pub mod Sending

@@ -50,7 +50,7 @@ fn find_endpoint(endpoints: &[EndpointConfig], id: u16) -> Option<(usize, Endpoi
 }
 
 /// The eAxC id of a payload.
-#[tactic(auto, using(std::proofs::lemmas::Grind::common_steps, bit_fields::proofs::Field::fields))]
+#[tactic(auto, using(std::proofs::lemmas::Grind::common_steps, bfp_codec::proofs::Field::fields))]
 fn id_at(payload: &[u8]) -> u16
     requires { 4 ≤ length payload.now }
     ensures { result ≡ id_of payload.now }

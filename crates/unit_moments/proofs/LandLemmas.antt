@@ -6,10 +6,10 @@ use Rattle.delay_exchange.specs.Meters.{HasDoings}
 use Rattle.delay_exchange.specs.declared.unit.UnitMeter.{UnitMeter}
 use Rattle.delay_laws.specs.Nodes.{Compensation}
 use Rattle.delay_model.specs.Doings.{Doings, results_of, with_frame, with_frames}
-use Rattle.replay_events.proofs.HeardLemmas.{arrivals-append, arrivals-own}
-use Rattle.replay_events.proofs.ToldLemmas.{none_told, told_next, told_one}
-use Rattle.replay_events.specs.Events.{arrival_told}
-use Rattle.replay_events.specs.Heard.{arrivals_heard}
+use Rattle.replay_laws.proofs.HeardLemmas.{arrivals-append, arrivals-own}
+use Rattle.replay_laws.proofs.ToldLemmas.{none_told, told_next, told_one}
+use Rattle.replay_laws.specs.Events.{arrival_told}
+use Rattle.replay_laws.specs.Heard.{arrivals_heard}
 use Rattle.delay_measure.specs.declared.edge.Edge.{Edge}
 use Rattle.frame_deliveries.specs.Landing.{arrival_at, landing_at}
 use Rattle.frame_ways.specs.Landed.{bytes_of}

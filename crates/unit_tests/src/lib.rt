@@ -1,4 +1,4 @@
-//! Tests of the radio unit in fixed memory, by the public calls of `ru_buffers` and `ru_reports`.
+//! Tests of the radio unit in fixed memory, by the public calls of `ru_buffers` and `unit_symbols`.
 //!
 //! They stand beside these crates, which are proved without them. `samples` makes what the tests need, and `steps` calls the unit and
 //! keeps what its calls require.

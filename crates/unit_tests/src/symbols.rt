@@ -14,10 +14,10 @@ use eaxc_map::Widths;
 use fault_counters::{Counter, Counters};
 use fh_base::List;
 use fh_time::{Numerology, Slot, Ticks, of_ns, shape};
-use ru_reports::{first_left, report};
 use std::test::Fail;
 use unit_cells::{DataHeading, UnitCells};
 use unit_model::{CommandVerdict, ControlSection, SymbolStart};
+use unit_symbols::{first_left, report};
 use uplane_sections::{UHead, USection};
 use window_config::{Delays, EndpointConfig};
 

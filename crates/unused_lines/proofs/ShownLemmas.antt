@@ -17,7 +17,7 @@ use Rattle.unit_model.specs.Lists.{each}
 use Rattle.unit_model.specs.Meetings.{find_from}
 use Rattle.unit_model.specs.Proper.{IsAt}
 use Rattle.unit_model.specs.declared.symbol_start.SymbolStart.{SymbolStart}
-use Rattle.history_laws.proofs.UnitLemmas.{same_ids}
+use Rattle.unit_laws.proofs.UnitLemmas.{same_ids}
 use Rattle.plan_model.proofs.ListLemmas.{all_join}
 use Rattle.explain_model.specs.Cells.{Entry, Lines, Of, runs}
 use Rattle.explain_reasons.specs.Seen.{Seen, cell_runs, ep_found, ep_of, is_at, is_shown_at, run_of, seen, seen_at, seen_in}

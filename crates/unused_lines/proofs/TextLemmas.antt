@@ -22,7 +22,7 @@ use Rattle.explain_reasons.proofs.AloneLemmas.{others_never_matter}
 use Rattle.explain_records.specs.Stored.{SameBySymbol}
 use Rattle.line_runs.specs.Runs.{piece_line, run_lines}
 use Rattle.line_runs.proofs.MapLemmas.{run_lines_map}
-use Rattle.reason_lines.proofs.MissingLemmas.{each_same}
+use Rattle.explain_records.proofs.MissingLemmas.{each_same}
 use Rattle.reason_records.specs.Keys.{data_key, run_key, same_symbol}
 use Rattle.reason_records.specs.declared.data.DataRecord.{DataRecord}
 use Rattle.reason_records.specs.declared.keys.SymbolKey.{SymbolKey}

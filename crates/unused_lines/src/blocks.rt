@@ -8,9 +8,8 @@ ghost use Rattle.unused_lines.specs.Unused.{is_shown_by, shows, symbol_text, unu
 
 use air_source::{AirFault, Side};
 use explain_lines::{ExplainLine, PrbRun, SymbolPlace};
-use explain_records::giver_of;
+use explain_records::{giver_of, is_next};
 use line_runs::{LineRuns, LineSink, RunItem};
-use reason_lines::is_next;
 use reason_records::{CellRun, DataRecord, SymbolKey};
 use unit_model::{SymbolStart, is_from};
 

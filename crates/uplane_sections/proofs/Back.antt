@@ -3,8 +3,8 @@ use Rattle.std.proofs.Common.{◌≡◌, ℕ, zero, suc, ◌+◌, ◌-◌, ◌*�
 use Rattle.std.proofs.lemmas.List.{drop_at, length-take-le, take-append-le, take-append-drop, drop-append-le}
 use Rattle.std.proofs.lemmas.Bool.{le-ltb, cases_Bool}
 use Rattle.std.proofs.lemmas.Bool.Decides.{nat_tests}
-use Rattle.bit_fields.specs.Field.{field, flag}
-use Rattle.bit_fields.proofs.Field.{field_take, field_drop}
+use Rattle.bfp_codec.specs.Field.{field, flag}
+use Rattle.bfp_codec.proofs.Field.{field_take, field_drop}
 use Rattle.fh_time.specs.declared.values.Shape.{Shape}
 use Rattle.bfp_codec.specs.declared.methods.Method.{Method}
 use Rattle.bfp_codec.specs.declared.methods.Format.{Format}

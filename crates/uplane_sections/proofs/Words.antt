@@ -1,8 +1,8 @@
 -- What written words say of their fields.
 use Rattle.std.proofs.Common.{◌≡◌, ℕ, ◌+◌, ◌*◌, ◌/◌, ◌%◌, ◌^◌, ◌<◌, ◌≤◌, Bool, true, false, cond, eqb, List, length, drop, get_or, refl, sym, ◌∙◌, arith}
 use Rattle.std.proofs.lemmas.Bool.Decides.{nat_tests}
-use Rattle.bit_fields.specs.Field.{field, flag}
-use Rattle.bit_fields.proofs.Field.{field_of_word, field_in_byte, field_byte}
+use Rattle.bfp_codec.specs.Field.{field, flag}
+use Rattle.bfp_codec.proofs.Field.{field_of_word, field_in_byte, field_byte}
 use Rattle.bfp_codec.specs.declared.methods.Method.{Method}
 use Rattle.bfp_codec.specs.declared.methods.Method.TheVariants.{Plain, Bfp}
 use Rattle.bfp_codec.specs.declared.methods.Format.{Format}

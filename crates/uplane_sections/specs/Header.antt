@@ -1,6 +1,6 @@
 -- The application header of a U-plane message, as fields of its bytes (O-RAN.WG4.CUS, clause 8.3.2).
 use Rattle.std.specs.Prelude.{ℕ, List, ◌==◌}
-use Rattle.bit_fields.specs.Field.{field}
+use Rattle.bfp_codec.specs.Field.{field}
 use Rattle.uplane_sections.specs.declared.values.UHead.{UHead}
 
 -- 0 is uplink, 1 downlink

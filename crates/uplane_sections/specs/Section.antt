@@ -1,6 +1,6 @@
 -- The header of one section of a U-plane message, as fields of the bytes that it begins (O-RAN.WG4.CUS, clause 8.3.2).
 use Rattle.std.specs.Prelude.{ℕ, ◌+◌, ◌*◌, Bool, List, drop, if◌then◌else◌, ◌==◌, ◌&&◌, ◌||◌}
-use Rattle.bit_fields.specs.Field.{field}
+use Rattle.bfp_codec.specs.Field.{field}
 use Rattle.fh_time.specs.Carrier.{count_of}
 use Rattle.bfp_codec.specs.declared.methods.Method.{Method}
 use Rattle.bfp_codec.specs.declared.methods.Method.TheVariants.{Plain, Bfp}

@@ -1,6 +1,6 @@
 -- Written headers: each reserved bit is 0. What a message made of them says.
 use Rattle.std.specs.Prelude.{◌≡◌, ℕ, ◌+◌, ◌*◌, ◌%◌, ◌<◌, ◌≤◌, ◌^◌, Bool, true, false, if◌then◌else◌, List, ◌∷◌, ◌++◌, length, drop}
-use Rattle.bit_fields.specs.Field.{field, flag}
+use Rattle.bfp_codec.specs.Field.{field, flag}
 use Rattle.fh_time.specs.declared.values.Shape.{Shape}
 use Rattle.bfp_codec.specs.declared.methods.Method.{Method}
 use Rattle.bfp_codec.specs.declared.methods.Method.TheVariants.{Plain, Bfp}

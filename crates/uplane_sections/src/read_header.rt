@@ -7,7 +7,7 @@ use crate::values::{UHead, UWhy};
 use fh_time::Shape;
 
 /// The fields of a header.
-#[tactic(auto, using(std::proofs::lemmas::Grind::common_steps, bit_fields::proofs::Field::fields))]
+#[tactic(auto, using(std::proofs::lemmas::Grind::common_steps, bfp_codec::proofs::Field::fields))]
 fn fields_at(bytes: &[u8]) -> UHead
     requires { length bytes.now ≡ 4 }
     ensures { result ≡ head_of bytes.now }
@@ -31,7 +31,7 @@ pub fn read_head(bytes: [u8; 4]) -> UHead
 }
 
 /// The header in four bytes, by the first test that fails.
-#[tactic(auto, using(std::proofs::lemmas::Grind::common_steps, bit_fields::proofs::Field::fields))]
+#[tactic(auto, using(std::proofs::lemmas::Grind::common_steps, bfp_codec::proofs::Field::fields))]
 pub(crate) fn head_at(bytes: &[u8], shape: Shape) -> Result<UHead, UWhy>
     requires { length bytes.now ≡ 4 }
     ensures value { result ≡ head_checked shape bytes.now }

@@ -1,6 +1,6 @@
 //! The headers of a section, read.
 ghost use Rattle.std.specs.Prelude.{◌≡◌, ◌+◌, ◌*◌, ◌<◌, ◌≤◌, ◌^◌, length, false, IfSome, IfErr};
-ghost use Rattle.bit_fields.specs.Field.{field};
+ghost use Rattle.bfp_codec.specs.Field.{field};
 ghost use Rattle.bfp_codec.specs.Layout.{length_of};
 ghost use Rattle.uplane_sections.specs.Section.{section_with};
 ghost use Rattle.uplane_sections.specs.Phases.{symbol_checked, method_read, is_cut};
@@ -10,7 +10,7 @@ use bfp_codec::Method;
 use fh_time::Shape;
 
 /// The four bytes from a place, as one number.
-#[tactic(auto, using(bit_fields::proofs::Field::field_word))]
+#[tactic(auto, using(bfp_codec::proofs::Field::field_word))]
 fn word_at(bytes: &[u8], at: usize) -> u32
     requires { at + 4 ≤ length bytes.now }
     ensures { result ≡ field bytes.now (8 * at) 32 }
@@ -20,7 +20,7 @@ fn word_at(bytes: &[u8], at: usize) -> u32
 
 /// The maintained symbol number of a section, where it was `before`, by the first test of its first
 /// four bytes that fails.
-#[tactic(auto, using(std::proofs::lemmas::Grind::common_steps, bit_fields::proofs::Field::field_of_word))]
+#[tactic(auto, using(std::proofs::lemmas::Grind::common_steps, bfp_codec::proofs::Field::field_of_word))]
 pub(crate) fn symbol_at(prbs: u16, shape: Shape, before: u8, bytes: &[u8]) -> Result<u8, UWhy>
     requires { length bytes.now ≡ 4 }
     ensures value { result ≡ symbol_checked prbs shape before bytes.now }
@@ -43,7 +43,7 @@ pub(crate) fn symbol_at(prbs: u16, shape: Shape, before: u8, bytes: &[u8]) -> Re
 }
 
 /// The section with these first four bytes.
-#[tactic(auto, using(std::proofs::lemmas::Grind::common_steps, bit_fields::proofs::Field::field_of_word))]
+#[tactic(auto, using(std::proofs::lemmas::Grind::common_steps, bfp_codec::proofs::Field::field_of_word))]
 pub(crate) fn section_from(bytes: &[u8], symbol: u8, method: Method) -> USection
     requires { length bytes.now ≡ 4 }
     ensures value { result ≡ section_with symbol method bytes.now }
@@ -62,7 +62,7 @@ pub(crate) fn section_from(bytes: &[u8], symbol: u8, method: Method) -> USection
 
 /// The method that a compression header names; none where it is neither no compression with 16 bits
 /// nor block floating point.
-#[tactic(auto, using(std::proofs::lemmas::Grind::common_steps, bit_fields::proofs::Field::fields))]
+#[tactic(auto, using(std::proofs::lemmas::Grind::common_steps, bfp_codec::proofs::Field::fields))]
 pub(crate) fn method_at(header: &[u8]) -> Option<Method>
     requires { length header.now ≡ 2 }
     ensures value { result ≡ method_read header.now }

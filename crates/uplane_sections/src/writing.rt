@@ -1,6 +1,6 @@
 //! The headers, written.
 ghost use Rattle.std.specs.Prelude.{◌≡◌, ℕ, ◌+◌, ◌-◌, ◌*◌, ◌≤◌, ◌<◌, ◌^◌, ◌⊎◌, List, [], ◌∷◌, length, take, slice_index};
-ghost use Rattle.bit_fields.specs.Field.{field, flag};
+ghost use Rattle.bfp_codec.specs.Field.{field, flag};
 ghost use Rattle.fh_time.specs.declared.values.Shape.{Shape};
 ghost use Rattle.bfp_codec.specs.declared.methods.Format.{Format as SpecFormat};
 ghost use Rattle.bfp_codec.specs.Layout.{HasWidth};
@@ -12,7 +12,7 @@ use crate::values::{UHead, USection};
 use bfp_codec::{Format, Method};
 
 /// Writes four bytes at the front.
-#[tactic(auto, using(std::proofs::lemmas::Grind::common_steps, bit_fields::proofs::Field::field_put))]
+#[tactic(auto, using(std::proofs::lemmas::Grind::common_steps, bfp_codec::proofs::Field::field_put))]
 fn put_word(into: &mut [u8], word: u32)
     requires { 4 ≤ length into.old }
     ensures word { field into.new 0 32 ≡ word }

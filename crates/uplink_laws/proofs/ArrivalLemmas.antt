@@ -32,8 +32,8 @@ use Rattle.schedule_laws.proofs.ListLemmas.{in_each, in_joined, in_map, of_each,
 use Rattle.sent_frames.specs.Messages.{Source}
 use Rattle.uplink_model.specs.Frames.{Antenna, uplink_frame_of, frames_behind, uplink_frames_from, uplink_message_frames}
 use Rattle.uplink_model.specs.Messages.{frame_count, uplink_frames_before, uplink_messages_of as job_messages, number_behind}
-use Rattle.uplink_streams.specs.Streams.{frame_for, message_frames_for, planned_frames, stream_frames_for}
-use Rattle.uplink_streams.proofs.StreamLemmas.{frames_are_the_stream}
+use Rattle.uplink_laws.specs.Streams.{frame_for, message_frames_for, planned_frames, stream_frames_for}
+use Rattle.uplink_laws.proofs.StreamLemmas.{frames_are_the_stream}
 use Rattle.uplink_laws.specs.Flows.{uplink_bounds_of, uplink_flow_of}
 use Rattle.sent_laws.specs.Sent.{IsSendable}
 use Rattle.uplink_laws.specs.Premise.{BothArrive, CommandsArrive, IsUplinkCopy, frames_of, jobs_of}

@@ -11,3 +11,15 @@ pub mod BlockLemmas
 pub mod CellLemmas
 pub mod SingleLemmas
 pub mod LeastLemmas
+pub mod TurnJobs
+pub mod MessageLemmas
+pub mod HandedLemmas
+pub mod LeavingLemmas
+pub mod GivenLemmas
+pub mod ListLemmas
+pub mod StreamJobs
+pub mod StreamMessages
+pub mod NumberLemmas
+pub mod StreamLemmas
+pub mod RunLemmas
+pub mod TurnLemmas

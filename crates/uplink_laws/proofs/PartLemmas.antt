@@ -35,7 +35,7 @@ use Rattle.schedule_laws.proofs.PackLemmas.{message_from}
 use Rattle.schedule_laws.proofs.SentLemmas.{message_part, part_message}
 use Rattle.schedule_laws.proofs.TimeLemmas.{in_end}
 use Rattle.sent_frames.proofs.MessageFacts.{IsGoodMessage, IsGoodPart}
-use Rattle.uplink_streams.proofs.ListLemmas.{of_order}
+use Rattle.uplink_laws.proofs.ListLemmas.{of_order}
 use Rattle.unit_model.proofs.ClaimLemmas.{same_slot_is as slots_equal, slot_self as slot_own, from_within}
 use Rattle.ecpri_fragments.specs.declared.place.TheConstants.{MESSAGE_BYTES}
 use Rattle.uplink_laws.proofs.JobLemmas.{up_sent}

@@ -59,7 +59,7 @@ use Rattle.sent_laws.proofs.MessageSays.{message_told, the_place, in_count}
 use Rattle.sent_laws.proofs.SentRead.{some_bytes, in_size}
 use Rattle.uplink_model.specs.Frames.{Antenna, uplink_fragment_bytes, head_of, uplink_message_bytes, samples_of, section_of}
 use Rattle.uplink_model.specs.Messages.{job_fields}
-use Rattle.uplink_streams.specs.Streams.{job_for, message_for}
+use Rattle.uplink_laws.specs.Streams.{job_for, message_for}
 use Rattle.uplink_laws.specs.Data.{AreUplinkSections, IsUplinkDataFor, IsUplinkDecoded, antenna_blocks}
 use Rattle.uplink_laws.specs.Flows.{fragment_text}
 use Rattle.uplink_laws.specs.Premise.{CanAnswer}

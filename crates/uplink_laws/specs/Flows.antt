@@ -14,7 +14,7 @@ use Rattle.plan_model.specs.declared.lines.PlannedLine.{PlannedLine}
 use Rattle.plan_model.specs.declared.streams.Stream.TheVariants.{UpData}
 use Rattle.frame_bytes.specs.Cuts.{piece_at}
 use Rattle.uplink_model.specs.Frames.{Antenna, uplink_message_bytes}
-use Rattle.uplink_streams.specs.Streams.{message_for}
+use Rattle.uplink_laws.specs.Streams.{message_for}
 
 -- the messages of the endpoint with this index
 abbrev pub uplink_messages_at : Config → List PlannedLine → ℕ → List (Numbered Part)

@@ -6,3 +6,9 @@ pub mod Data
 pub mod Cells
 pub mod Singles
 pub mod Least
+pub mod Turns
+pub mod TurnLaws
+pub mod Given
+pub mod Streams
+pub mod Laws
+pub mod Runs

@@ -1,6 +1,6 @@
 -- The definitions compute what was worked out by hand.
 use Rattle.std.proofs.Common.{refl}
-use Rattle.bit_fields.specs.Field.{digits}
+use Rattle.bfp_codec.specs.Field.{digits}
 use Rattle.bfp_codec.specs.Layout.{be_bytes, number_bytes, packed_of}
 use Rattle.air_source.specs.Answers.{block_of}
 use Rattle.unit_model.specs.Lists.{each, in_order, put_in}

@@ -1,4 +1,4 @@
-//! Tests of what stands between both units, by the public calls of `frame_network`, `send_queue`, `frame_ways`, `unit_meters`,
+//! Tests of what stands between both units, by the public calls of `frame_network`, `frame_network`, `frame_ways`, `unit_meters`,
 //! `unit_moments`, `delay_exchange` and `frame_deliveries`, which are proved without them.
 #![tactic(auto)]
 

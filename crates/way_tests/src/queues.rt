@@ -3,7 +3,7 @@ use crate::built::mark_of;
 use air_source::Link;
 use fh_base::NoMemory;
 use fh_time::Ticks;
-use send_queue::{Outbox, SendQueue};
+use frame_network::{Outbox, SendQueue};
 use std::test::Fail;
 
 /// Hands over a frame of one byte, which says when it is handed over.

@@ -2,7 +2,7 @@
 use Rattle.std.proofs.Common.{◌≡◌, ◌≢◌, ℕ, ◌≤◌, List, [], ◌∷◌, ◌++◌, length, Option, arith}
 use Rattle.fh_base.specs.Told.{WritesPart}
 use Rattle.fh_base.proofs.Progress.{front_none}
-use Rattle.owed_bytes.proofs.Parts.{front_part}
+use Rattle.fh_base.proofs.Parts.{front_part}
 use Rattle.arrival_lines.proofs.Flows.{row_downlink_commands, row_uplink_commands, row_downlink_data, row_uplink_data}
 use Rattle.arrival_lines.proofs.Tallying.{tally_length}
 use Rattle.arrival_lines.specs.Rows.{of_flow, rows_of}

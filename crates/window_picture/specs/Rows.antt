@@ -1,6 +1,6 @@
 -- The row of a flow of commands or data.
 use Rattle.std.specs.Prelude.{ℕ, ℤ, pos, neg_ℤ, ◌+◌, ◌-◌, List, ◌++◌, max, Bool, true, false, if◌then◌else◌, codes}
-use Rattle.text_lines.specs.Words.{spaced_text}
+use Rattle.fh_base.specs.Words.{spaced_text}
 use Rattle.arrival_lines.specs.Tallies.{Tally}
 use Rattle.arrival_lines.specs.declared.windows.Window.{Window}
 use Rattle.arrival_lines.specs.declared.windows.Windows.{Windows}

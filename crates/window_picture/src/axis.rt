@@ -3,9 +3,8 @@ ghost use Rattle.std.specs.Prelude.{◌≡◌, ◌++◌, ◌≤◌, ◌<◌, ◌
 ghost use Rattle.window_picture.specs.Axis.{step_of, before_of, after_of, time_of, tick_text, ticks_text, place_of};
 
 use arrival_lines::{Windows, column_of, far_of, near_of};
-use fh_base::{Bytes, NoMemory};
+use fh_base::{Bytes, Line, NoMemory};
 use svg_elements::{Anchor, put_down, put_text};
-use text_lines::Line;
 
 /// Where a time stands.
 pub(crate) fn place_of(windows: &Windows, ns: i64) -> u32

@@ -3,9 +3,8 @@ ghost use Rattle.std.specs.Prelude.{◌≡◌, ◌++◌, ◌+◌, ◌≤◌, ◌
 ghost use Rattle.window_picture.specs.Labels.{count_part, counts_text, sections_text, least_text, since_text, until_text};
 
 use arrival_lines::Counts;
-use fh_base::{Bytes, NoMemory};
+use fh_base::{Bytes, Line, NoMemory};
 use svg_elements::{Anchor, put_text};
-use text_lines::Line;
 
 /// Appends how many sections are of a kind, where any are.
 fn count_part(line: &mut Line, n: u32, name: &[u8])

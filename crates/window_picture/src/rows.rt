@@ -6,9 +6,8 @@ use crate::axis::place_of;
 use crate::bars::put_bars;
 use crate::labels::{put_sections, put_since, put_until};
 use arrival_lines::{Row, Window, Windows};
-use fh_base::{Bytes, NoMemory};
+use fh_base::{Bytes, Line, NoMemory};
 use svg_elements::{Anchor, Area, put_across, put_rect, put_text};
-use text_lines::Line;
 
 /// When a window opens, in nanoseconds after the symbol.
 fn first_of(window: Window, after: bool) -> i64

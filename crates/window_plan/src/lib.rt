@@ -5,14 +5,24 @@
 //! delay within the bounds and arrives outside the other unit's window, or two frames of one message that arrive too far apart.
 //!
 //! Delay management follows O-RAN.WG4.CUS. Times are whole nanoseconds. Nothing allocates.
+//!
+//! The texts that speak of the windows of a document (this project's profile).
+//!
+//! [`put_windows`] writes the windows of both units, the ring sizes of each endpoint and the check of the profile. [`put_fit`]
+//! writes for each relation that fails the frames that show it, and then the greatest windows that fit. Each line ends with a line
+//! feed, its words are parted by one space, and numbers are decimal. Nothing here takes memory but the sink.
 #![tactic(auto)]
 
 mod breaches;
+mod fit_texts;
 mod fitting;
 mod refusals;
+mod window_texts;
 mod witnesses;
 
 pub use breaches::Breach;
+pub use fit_texts::put_fit;
 pub use fitting::fit;
 pub use refusals::{NoFit, Window};
+pub use window_texts::put_windows;
 pub use witnesses::breach;

@@ -1,7 +1,7 @@
 -- The definitions compute what was worked out by hand.
 use Rattle.std.proofs.Common.{refl}
 use Rattle.bfp_codec.specs.Layout.{be_bytes}
-use Rattle.bit_fields.specs.Field.{field}
+use Rattle.bfp_codec.specs.Field.{field}
 use Rattle.document_traffic.specs.Sending.{delayed_behind}
 use Rattle.measured_traffic.specs.Measured.{delay_frame}
 use Rattle.worked_documents.specs.Measured.{MeasurementIsAsWorked}

@@ -1,7 +1,7 @@
 -- The definitions compute what was worked out by hand.
 use Rattle.std.proofs.Common.{refl}
 use Rattle.std.specs.Fmt.{digits}
-use Rattle.bit_fields.specs.Field.{field}
+use Rattle.bfp_codec.specs.Field.{field}
 use Rattle.fh_time.specs.Frame.{absolute_frame}
 use Rattle.cplane_sections.specs.Message.{sections_of}
 use Rattle.cplane_sections.specs.Tests.{walked, checked}
@@ -13,7 +13,7 @@ use Rattle.unit_model.specs.Blocks.{block_at, every_data_cell, has_all, data_ver
 use Rattle.unit_model.specs.Decoding.{gathered, decode, data_sections}
 use Rattle.unit_model.specs.Radiated.{id_from}
 use Rattle.unit_memory.specs.Judgements.{judged_commands, judged_data, judged_whole, judged_in}
-use Rattle.replay_events.specs.Heard.{arrivals_heard}
+use Rattle.replay_laws.specs.Heard.{arrivals_heard}
 use Rattle.explain_model.specs.Stories.{arrival_count, told_after, stories_in}
 use Rattle.explain_model.specs.Pieces.{pieces}
 use Rattle.explain_model.specs.Timings.{control_timing, heading_slot, data_timing}
@@ -27,7 +27,7 @@ use Rattle.explain_lines.specs.Lines.{line_text, margin_text, endpoint_text, who
 use Rattle.explain_lines.specs.Places.{run_text, message_text, timing_text, clash_text}
 use Rattle.explain_lines.specs.Reasons.{reason_text}
 use Rattle.explain_lines.specs.Faults.{is_fault}
-use Rattle.report_lines.specs.Units.{delay_text, count_text}
+use Rattle.air_source.specs.UnitLines.{delay_text, count_text}
 use Rattle.worked_explanations.specs.OneCommand.{OneCommandAreAsWorked}
 use Rattle.worked_explanations.specs.BothWays.{BothWaysAreAsWorked}
 use Rattle.worked_explanations.specs.OverlapDocument.{OverlapsAreAsWorked}

@@ -13,7 +13,7 @@ use Rattle.fh_time.specs.declared.spacing.Spacing.{Spacing}
 use Rattle.fh_time.specs.declared.spacing.Spacing.TheVariants.{Khz120, Khz15, Khz1x25, Khz240, Khz30, Khz5, Khz60}
 use Rattle.fh_time.specs.declared.carrier.TheConstants.{CARRIER_PRBS}
 use Rattle.fh_time.specs.declared.nanoseconds.TheConstants.{LAST_TIME}
-use Rattle.text_lines.specs.Numbers.{word_at}
+use Rattle.fh_base.specs.Numbers.{word_at}
 use Rattle.window_config.specs.declared.plan.TheConstants.{PLAN_LINES}
 use Rattle.fh_document.specs.ConfigLines.{set_of, time_at}
 use Rattle.fh_document.specs.DeliverLines.{deliver_line, delivery_of, has_deliver_count}

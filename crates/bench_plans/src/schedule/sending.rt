@@ -1,13 +1,12 @@
 // All frames of a plan.
 ghost use Rattle.std.specs.Prelude.{◌<◌, ◌≡◌};
 ghost use Rattle.air_source.specs.Answers.{Fits16};
-ghost use Rattle.tone_source.specs.Tones.{tone_of};
+ghost use Rattle.air_source.specs.Tones.{tone_of};
 ghost use Rattle.du_scheduler.specs.Plans.{IsPlan};
 
-use air_source::{RePlace, Samples};
+use air_source::{RePlace, Samples, Tone, ToneSteps};
 use bfp_codec::Wide;
 use du_scheduler::{Plan, Plane, Sent};
-use tone_source::{Tone, ToneSteps};
 
 /// How many frames were sent, and the sum of their last bytes.
 #[derive(Clone, Copy, Debug, PartialEq, Eq)]

@@ -3,19 +3,18 @@ ghost use Rattle.std.specs.Prelude.{◌≡◌, ◌<◌, true};
 ghost use Rattle.air_source.specs.Answers.{Fits16};
 ghost use Rattle.air_source.specs.Kept.{IsKept};
 ghost use Rattle.uplink_path.specs.Steps.{IsSenderOf, IsUnitOf};
-ghost use Rattle.tone_source.specs.Tones.{tone_of};
+ghost use Rattle.air_source.specs.Tones.{tone_of};
 ghost use Rattle.window_config.specs.Configs.{IsConfig};
 
 use crate::uplink::commands::{comes, command, ends};
 use crate::uplink::configs::config_of;
 use crate::uplink::steps::{hand, made, pass, sender};
 use crate::uplink::tally::{Tally, hand_on, tally_of};
-use air_source::{MemoryAir, MemoryLink, RePlace, Samples};
+use air_source::{MemoryAir, MemoryLink, RePlace, Samples, Tone, ToneSteps};
 use bfp_codec::Wide;
 use fh_base::List;
 use ru_buffers::Ru;
 use std::alloc::Global;
-use tone_source::{Tone, ToneSteps};
 use uplink_path::Uplink;
 use window_config::Config;
 

@@ -11,8 +11,7 @@ use fh_base::Sink;
 use fh_document::read;
 use std::alloc::Global;
 use window_config::Delays;
-use window_lines::put_fit;
-use window_plan::fit;
+use window_plan::{fit, put_fit};
 
 /// Reads a document and writes what breaks its windows, and the greatest that fit.
 pub(crate) fn write_fit<K: Sink>(alloc: Global, bytes: &[u8], out: &mut K) -> Status

@@ -5,7 +5,7 @@ ghost use Rattle.fh_document.specs.Answered.{Answers};
 ghost use Rattle.fh_document.specs.Proper.{IsDocument};
 ghost use Rattle.plan_model.specs.Lines.{planned};
 ghost use Rattle.plan_model.specs.Sent.{sent};
-ghost use Rattle.generated_documents.specs.Documents.{document};
+ghost use Rattle.generated_laws.specs.Documents.{document};
 ghost use Rattle.top_call.specs.Answers.{counted, of_planned, tried};
 ghost use Rattle.top_call.specs.Run.{Performs};
 

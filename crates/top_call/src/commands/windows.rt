@@ -12,7 +12,7 @@ use fh_base::Sink;
 use fh_document::read;
 use std::alloc::Global;
 use window_config::{Config, Delays, check};
-use window_lines::put_windows;
+use window_plan::put_windows;
 
 /// Reads a document and writes its windows, its rings and its check.
 pub(crate) fn write_windows<K: Sink>(alloc: Global, bytes: &[u8], out: &mut K) -> Status

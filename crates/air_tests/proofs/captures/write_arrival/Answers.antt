@@ -1,9 +1,9 @@
 use Rattle.std.proofs.Common.{rules, [], ◌∷◌, refl}
 use Rattle.std.proofs.lemmas.Result.{on_ok_weaker}
 use Rattle.air_source.specs.declared.events.Event.TheVariants.{Arrival}
-use Rattle.capture_air.specs.Airs.{sink_of, owed_of}
-use Rattle.capture_air.specs.Laws.{grew_none}
-use Rattle.capture_air.proofs.Captured.{finished, finish_front, stopped_front}
+use Rattle.report_airs.specs.CaptureAirs.{sink_of, owed_of}
+use Rattle.report_airs.specs.CaptureLaws.{grew_none}
+use Rattle.report_airs.proofs.Captured.{finished, finish_front, stopped_front}
 use Rattle.air_tests.proofs.captures.write_arrival.Goals as goal
 
 pub returns-in_err-arrival-clause-front : goal.returns-in_err-arrival-clause-front

@@ -6,7 +6,7 @@ use Rattle.air_source.specs.Tellings.{line_next, line_gives, line_ends, bytes_ow
 use Rattle.air_source.specs.declared.events.Event.TheVariants.{Cell}
 use Rattle.air_source.proofs.Texts.{stops_front, finish_front}
 use Rattle.air_tests.proofs.line_air.write_lines.Goals as goal
-use Rattle.owed_bytes.proofs.Telling.{anyhow}
+use Rattle.fh_base.proofs.OwedTelling.{anyhow}
 
 pub returns-in_err-tell_cells-clause-front : goal.returns-in_err-tell_cells-clause-front
 returns-in_err-tell_cells-clause-front g c =

@@ -2,9 +2,9 @@ use Rattle.std.proofs.Common.{rules, List, [], map, sym, append-nil}
 use Rattle.std.proofs.lemmas.Result.{on_ok_weaker}
 use Rattle.air_source.specs.declared.events.AirCell.{AirCell}
 use Rattle.air_source.specs.declared.events.Event.TheVariants.{Cell}
-use Rattle.sum_air.specs.Airs.{sink_of, owed_of, sums_of}
-use Rattle.sum_air.proofs.Whole.{CountsLast, cells_earlier}
-use Rattle.sum_air.proofs.Written.{finished, finish_front, stopped_front}
+use Rattle.report_airs.specs.SumAirs.{sink_of, owed_of, sums_of}
+use Rattle.report_airs.proofs.Whole.{CountsLast, cells_earlier}
+use Rattle.report_airs.proofs.Written.{finished, finish_front, stopped_front}
 use Rattle.air_tests.proofs.sums.tell_all.Goals as goal
 
 cells_only : (cells : List AirCell) → CountsLast (map Cell cells)

@@ -1,9 +1,9 @@
 use Rattle.std.proofs.Common.{rules, map}
 use Rattle.std.proofs.lemmas.Result.{on_ok_weaker}
 use Rattle.air_source.specs.declared.events.Event.TheVariants.{Cell}
-use Rattle.text_air.specs.Airs.{sink_of, owed_of}
-use Rattle.text_air.specs.Text.{event_text}
-use Rattle.text_air.proofs.Texts.{stops_front, front_of_whole, finish_front, finished}
+use Rattle.report_airs.specs.TextAirs.{sink_of, owed_of}
+use Rattle.report_airs.specs.Text.{event_text}
+use Rattle.report_airs.proofs.Texts.{stops_front, front_of_whole, finish_front, finished}
 use Rattle.air_tests.proofs.texts.write_cells.Goals as goal
 
 pub returns-in_err-tell_cells-clause-front : goal.returns-in_err-tell_cells-clause-front

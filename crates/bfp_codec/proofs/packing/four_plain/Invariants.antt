@@ -1,5 +1,5 @@
 use Rattle.std.proofs.Common.{◌≡◌, ℕ, ◌+◌, ◌*◌, ◌<◌}
-use Rattle.bit_fields.specs.Field.{digits}
+use Rattle.bfp_codec.specs.Field.{digits}
 use Rattle.bfp_codec.specs.Samples.{component}
 use Rattle.bfp_codec.specs.Exponent.{Within}
 use Rattle.bfp_codec.specs.Layout.{twos}

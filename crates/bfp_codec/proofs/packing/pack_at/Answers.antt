@@ -1,5 +1,5 @@
 use Rattle.std.proofs.Common.{◌≡◌, ℕ, ◌+◌, ◌*◌, get_or, length, ◌∙◌, arith, rules, length-set, get_or-set_same}
-use Rattle.bit_fields.proofs.Field.{field_same}
+use Rattle.bfp_codec.proofs.Field.{field_same}
 use Rattle.bfp_codec.specs.Exponent.{floor_of}
 use Rattle.bfp_codec.specs.Layout.{twos}
 use Rattle.bfp_codec.specs.Samples.{component}

@@ -1,6 +1,6 @@
 use Rattle.std.proofs.Common.{◌≡◌, ℕ, ◌+◌, ◌-◌, length, inl, inr, subst, ◌∙◌, arith, rules}
 use Rattle.std.proofs.lemmas.Bool.{cases_lt}
-use Rattle.bit_fields.proofs.Field.{field_kept}
+use Rattle.bfp_codec.proofs.Field.{field_kept}
 use Rattle.bfp_codec.specs.Samples.{component}
 use Rattle.bfp_codec.specs.Exponent.{Within}
 use Rattle.bfp_codec.proofs.Whole.{plain_whole}

@@ -2,8 +2,8 @@ use Rattle.std.proofs.Common.{◌≡◌, ℕ, ◌+◌, ◌*◌, ◌^◌, ◌<◌
 use Rattle.std.proofs.lemmas.Int.{to_z-of_z}
 use Rattle.std.specs.Int.{w16}
 use mir.Val.{SFits}
-use Rattle.bit_fields.specs.Field.{digits}
-use Rattle.bit_fields.proofs.Digits.{digits_fit}
+use Rattle.bfp_codec.specs.Field.{digits}
+use Rattle.bfp_codec.proofs.Digits.{digits_fit}
 use Rattle.bfp_codec.proofs.Groups.{two_ones}
 use Rattle.bfp_codec.specs.Samples.{no_iq, component}
 use Rattle.bfp_codec.specs.Exponent.{floor_of, Within}

@@ -1,5 +1,5 @@
 use Rattle.std.proofs.Common.{◌≡◌, ℕ, ◌*◌, ◌/◌, ◌^◌, ◌-◌, ◌+◌, ◌<◌, ◌≤◌, ◌⊎◌, get_or}
-use Rattle.bit_fields.specs.Field.{field}
+use Rattle.bfp_codec.specs.Field.{field}
 use Rattle.bfp_codec.proofs.packing.put_word.Given as goal
 
 abbrev pub invariant-loop-k : goal.invariant-loop-k

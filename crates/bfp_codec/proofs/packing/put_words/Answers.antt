@@ -1,6 +1,6 @@
 use Rattle.std.proofs.Common.{◌+◌, ◌-◌, ◌*◌, arith}
 use Rattle.std.proofs.Math.Facts.{Fits-of_lt}
-use Rattle.bit_fields.proofs.Field.{field_kept}
+use Rattle.bfp_codec.proofs.Field.{field_kept}
 use Rattle.bfp_codec.proofs.Groups.{front_fits, words_written}
 use Rattle.bfp_codec.proofs.packing.put_words.Goals as goal
 

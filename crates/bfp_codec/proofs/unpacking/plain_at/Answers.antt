@@ -3,8 +3,8 @@ use Rattle.std.proofs.lemmas.Int.{to_z-of_z}
 use Rattle.std.proofs.Math.Nat.{mod-eq_of_lt}
 use Rattle.std.specs.Int.{w32}
 use mir.Val.{SFits}
-use Rattle.bit_fields.specs.Field.{signed}
-use Rattle.bit_fields.proofs.Field.{field_fits}
+use Rattle.bfp_codec.specs.Field.{signed}
+use Rattle.bfp_codec.proofs.Field.{field_fits}
 use Rattle.bfp_codec.proofs.unpacking.plain_at.Goals as goal
 
 pub returns : goal.returns

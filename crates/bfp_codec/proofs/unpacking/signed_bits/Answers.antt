@@ -3,7 +3,7 @@ use Rattle.std.proofs.lemmas.Int.{to_z-of_z}
 use Rattle.std.proofs.lemmas.Nat.{mod_below, pow_pos}
 use Rattle.std.specs.Int.{w32}
 use mir.Val.{SFits, to_z}
-use Rattle.bit_fields.specs.Field.{signed}
+use Rattle.bfp_codec.specs.Field.{signed}
 use Rattle.bfp_codec.specs.Exponent.{floor_of, Within}
 use Rattle.bfp_codec.proofs.Twos.{sign_extended, signed_within, top_bits, within_16}
 use Rattle.bfp_codec.proofs.unpacking.signed_bits.Goals as goal

@@ -3,7 +3,7 @@ use Rattle.ecpri_frames.specs.Left.{left_of, message_of}
 use Rattle.capture_show.specs.Messages.{message_lines, messages_lines}
 use Rattle.capture_show.proofs.Telling.{so_far_none, so_far_more, so_far_stopped}
 use Rattle.capture_show.proofs.capture_lines.tell_messages.Goals as goal
-use Rattle.owed_bytes.proofs.Telling.{anyhow}
+use Rattle.fh_base.proofs.OwedTelling.{anyhow}
 
 pub loop-m-init : goal.loop-m-init
 loop-m-init g c =

@@ -5,7 +5,7 @@ use Rattle.capture_show.specs.Messages.{widest, command_line, command_read, sect
 use Rattle.capture_show.specs.Printing.{state_of}
 use Rattle.capture_show.proofs.Telling.{told_more, told_as, stopped_behind, stopped_before, stopped_as}
 use Rattle.capture_show.proofs.capture_lines.tell_read.Goals as goal
-use Rattle.owed_bytes.proofs.Telling.{anyhow}
+use Rattle.fh_base.proofs.OwedTelling.{anyhow}
 use Rattle.ecpri_fragments.specs.Sequence.{id_of, sequence_of, application}
 
 pub returns-in_err-tell-clause-part : goal.returns-in_err-tell-clause-part

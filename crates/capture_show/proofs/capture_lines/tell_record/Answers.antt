@@ -7,7 +7,7 @@ use Rattle.capture_show.specs.Messages.{messages_lines, broken_lines, record_lin
 use Rattle.capture_show.specs.Printing.{state_of}
 use Rattle.capture_show.proofs.Telling.{told_more, told_as, stopped_behind, stopped_before, stopped_as}
 use Rattle.capture_show.proofs.capture_lines.tell_record.Goals as goal
-use Rattle.owed_bytes.proofs.Telling.{anyhow}
+use Rattle.fh_base.proofs.OwedTelling.{anyhow}
 
 pub returns-in_err-tell-clause-part : goal.returns-in_err-tell-clause-part
 returns-in_err-tell-clause-part g c =

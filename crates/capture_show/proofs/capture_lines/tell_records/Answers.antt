@@ -5,7 +5,7 @@ use Rattle.capture_show.specs.Messages.{records_lines}
 use Rattle.capture_show.proofs.Pieces.{records_step, records_none}
 use Rattle.capture_show.proofs.Telling.{so_far_none, so_far_more, so_far_all, so_far_stopped}
 use Rattle.capture_show.proofs.capture_lines.tell_records.Goals as goal
-use Rattle.owed_bytes.proofs.Telling.{anyhow}
+use Rattle.fh_base.proofs.OwedTelling.{anyhow}
 
 pub loop-entry-init : goal.loop-entry-init
 loop-entry-init g c =

@@ -4,7 +4,7 @@ use Rattle.cplane_sections.specs.Left.{left_of}
 use Rattle.capture_show.specs.Messages.{section_line}
 use Rattle.capture_show.proofs.Telling.{so_far_none, so_far_more, so_far_stopped}
 use Rattle.capture_show.proofs.capture_lines.tell_sections.Goals as goal
-use Rattle.owed_bytes.proofs.Telling.{anyhow}
+use Rattle.fh_base.proofs.OwedTelling.{anyhow}
 
 pub loop-section-init : goal.loop-section-init
 loop-section-init g c =

@@ -1,8 +1,8 @@
 use Rattle.std.proofs.Common.{refl, ◌∙◌}
 use Rattle.capture_show.specs.Texts.{member_text}
 use Rattle.capture_show.proofs.printing.tell_members.Goals as goal
-use Rattle.owed_bytes.proofs.Telling.{carried_one_more, anyhow}
-use Rattle.owed_bytes.proofs.Parts.{part_at}
+use Rattle.fh_base.proofs.OwedTelling.{carried_one_more, anyhow}
+use Rattle.fh_base.proofs.Parts.{part_at}
 
 pub returns-in_err-tell_member-clause-part : goal.returns-in_err-tell_member-clause-part
 returns-in_err-tell_member-clause-part g c =

@@ -1,6 +1,6 @@
 use Rattle.std.proofs.Common.{take, ◌≡◌}
 use Rattle.std.specs.List.{flat_map}
-use Rattle.owed_bytes.specs.Owed.{Carried}
+use Rattle.fh_base.specs.Owed.{Carried}
 use Rattle.capture_show.specs.Texts.{member_text}
 use Rattle.capture_show.proofs.printing.tell_members.Given as goal
 

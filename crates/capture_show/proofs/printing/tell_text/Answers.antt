@@ -2,13 +2,13 @@ use Rattle.std.proofs.Common.{◌≡◌, ◌++◌, ap, ap₂, ◌∙◌}
 use Rattle.std.specs.Prelude.{codes}
 use Rattle.std.specs.List.{flat_map}
 use Rattle.std.proofs.lemmas.Result.{on_ok_weaker, on_err_weaker}
-use Rattle.owed_bytes.specs.CarriedLaws.{carried_more}
-use Rattle.owed_bytes.proofs.Parts.{part_behind, part_before}
+use Rattle.fh_base.specs.CarriedLaws.{carried_more}
+use Rattle.fh_base.proofs.Parts.{part_behind, part_before}
 use Rattle.capture_show.specs.Lines.{kind_text, is_bare}
 use Rattle.capture_show.specs.Texts.{member_text, line_text}
 use Rattle.capture_show.proofs.Members.{carried_pair, part_pair}
 use Rattle.capture_show.proofs.printing.tell_text.Goals as goal
-use Rattle.owed_bytes.proofs.Telling.{anyhow}
+use Rattle.fh_base.proofs.OwedTelling.{anyhow}
 
 pub returns-in_err-tell_members-clause-part : goal.returns-in_err-tell_members-clause-part
 unfolding line_text

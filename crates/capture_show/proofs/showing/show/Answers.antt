@@ -3,8 +3,8 @@ use Rattle.std.proofs.lemmas.Result.{on_ok_weaker, on_err_weaker}
 use Rattle.capture_show.specs.Messages.{capture_lines}
 use Rattle.capture_show.specs.Printing.{state_of}
 use Rattle.capture_show.proofs.Whole.{open_part, lines_part, close_front, close_part, close_all}
-use Rattle.owed_bytes.proofs.Telling.{anyhow}
-use Rattle.owed_bytes.proofs.Parts.{part_front}
+use Rattle.fh_base.proofs.OwedTelling.{anyhow}
+use Rattle.fh_base.proofs.Parts.{part_front}
 use Rattle.capture_show.proofs.showing.show.Goals as goal
 
 pub returns-in_err-tell_records-clause-front : goal.returns-in_err-tell_records-clause-front

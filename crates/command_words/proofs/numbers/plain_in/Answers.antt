@@ -1,7 +1,7 @@
 use Rattle.std.proofs.Common.{rules, tests, ◌≡◌, ◌+◌, ◌∙◌, ◌&&◌, arith, get_or, true, nat_le}
 use Rattle.std.specs.Char.{digit_value}
 use Rattle.std.proofs.lemmas.Str.{digit_value_digit}
-use Rattle.text_lines.proofs.DigitSteps.{all_more}
+use Rattle.fh_base.proofs.DigitSteps.{all_more}
 use Rattle.command_words.proofs.Capped.{capped_more}
 use Rattle.command_words.proofs.numbers.plain_in.Goals as goal
 

@@ -1,6 +1,6 @@
 use Rattle.std.proofs.Common.{◌≡◌, ◌+◌, min, take, true}
 use Rattle.std.specs.Str.Parse.{digits_value}
-use Rattle.text_lines.specs.Numbers.{is_decimal}
+use Rattle.fh_base.specs.Numbers.{is_decimal}
 use Rattle.command_words.proofs.numbers.plain_in.Given as goal
 
 abbrev pub invariant-loop-b : goal.invariant-loop-b

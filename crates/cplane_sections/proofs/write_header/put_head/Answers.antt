@@ -1,5 +1,5 @@
 use Rattle.std.proofs.Common.{◌≡◌, ℕ, inr, refl, sym, ap, ◌∙◌, arith}
-use Rattle.bit_fields.proofs.Field.{field_kept}
+use Rattle.bfp_codec.proofs.Field.{field_kept}
 use Rattle.cplane_sections.specs.declared.values.CBody.{CBody}
 use Rattle.cplane_sections.specs.declared.values.CBody.TheVariants.{Idle, Normal, Offset}
 use Rattle.cplane_sections.specs.Header.{kind_of, size_of_head}

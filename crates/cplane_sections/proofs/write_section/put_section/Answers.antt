@@ -3,8 +3,8 @@ use Rattle.std.proofs.lemmas.Bool.Decides.{nat_tests}
 use Rattle.std.proofs.lemmas.Int.{ints, to_z-of_z}
 use mir.Syntax.{w32}
 use mir.Val.{SFits}
-use Rattle.bit_fields.specs.Field.{field, signed}
-use Rattle.bit_fields.proofs.Field.{field_kept}
+use Rattle.bfp_codec.specs.Field.{field, signed}
+use Rattle.bfp_codec.proofs.Field.{field_kept}
 use Rattle.cplane_sections.specs.declared.values.CBody.{CBody}
 use Rattle.cplane_sections.specs.declared.values.CBody.TheVariants.{Idle, Normal, Offset}
 use Rattle.cplane_sections.specs.Header.{kind_of}

@@ -3,7 +3,7 @@ use Rattle.std.proofs.lemmas.Grind.{common_steps}
 use Rattle.std.proofs.lemmas.Int.{to_z-of_z}
 use Rattle.std.specs.Int.{w64}
 use mir.Val.{SFits}
-use Rattle.bit_fields.specs.Field.{signed}
+use Rattle.bfp_codec.specs.Field.{signed}
 use Rattle.delay_measure.proofs.Written.{payload_written}
 use Rattle.delay_measure.proofs.message.put_delay.Goals as goal
 

@@ -7,7 +7,7 @@ use Rattle.explain_air.specs.NoteLaws.{noted_more}
 use Rattle.explain_air.specs.Notes.{HasNoted}
 use Rattle.explain_lines.specs.declared.values.ExplainLine.{ExplainLine}
 use Rattle.line_runs.specs.Stops.{StopsSome}
-use Rattle.reason_lines.specs.Missing.{missing_text}
+use Rattle.explain_records.specs.Missing.{missing_text}
 use Rattle.silent_lines.specs.Silent.{silent_text}
 use Rattle.unused_lines.specs.Unused.{unused_text}
 use Rattle.explain_air.proofs.closing.tell_rest.Goals as goal

@@ -2,7 +2,7 @@ use Rattle.std.proofs.Common.{rules}
 use Rattle.explain_text.proofs.DocumentLemmas.{at_ok, explained}
 use Rattle.explain_text.proofs.TellLemmas.{front_by, nothing_told}
 use Rattle.fronthaul_replay.proofs.Written.{at_error}
-use Rattle.silent_plans.proofs.LineLemmas.{lines_fit}
+use Rattle.silent_lines.proofs.LineLemmas.{lines_fit}
 use Rattle.explain_text.proofs.explaining.explain.Goals as goal
 
 pub kept_for-requires-clause-lines : goal.kept_for-requires-clause-lines

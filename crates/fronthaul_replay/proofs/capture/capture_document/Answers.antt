@@ -1,6 +1,6 @@
 use Rattle.std.proofs.Common.{rules, ◌≡◌}
 use Rattle.std.proofs.lemmas.Result.{on_err_weaker, on_ok_weaker}
-use Rattle.capture_air.specs.Airs.{sink_of, owed_of}
+use Rattle.report_airs.specs.CaptureAirs.{sink_of, owed_of}
 use Rattle.fronthaul_replay.proofs.Cuts.{capture_cut, capture_cut_part, capture_done, capture_front, capture_part}
 use Rattle.fronthaul_replay.proofs.FaultLemmas.{last_cause, same_cause}
 use Rattle.fronthaul_replay.proofs.Written.{at_error, error_passed}

@@ -1,4 +1,4 @@
-use Rattle.replay_turns.proofs.AnswerLemmas.{are_later, are_of, frames_then, handed_now, handed_then, may_send, numbered_before, ok_both, radio_stays, radio_then}
+use Rattle.fronthaul_replay.proofs.AnswerLemmas.{are_later, are_of, frames_then, handed_now, handed_then, may_send, numbered_before, ok_both, radio_stays, radio_then}
 use Rattle.fronthaul_replay.proofs.intake.answer.Goals as goal
 use Rattle.unit_model.specs.Standing.{owed_until}
 

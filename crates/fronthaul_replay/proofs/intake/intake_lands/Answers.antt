@@ -4,12 +4,12 @@ use Rattle.air_source.specs.declared.airs.AirFault.TheVariants.{Failed, NoMemory
 use Rattle.air_source.specs.declared.events.Side.TheVariants.{Du as AtDu}
 use Rattle.document_delays.specs.Settings.{compensation_of}
 use Rattle.du_intake.specs.Calls.{IntakeMayTake}
-use Rattle.replay_turns.specs.Waiting.{begun_at, on_way}
-use Rattle.replay_turns.proofs.LandLemmas.{events_heard, here, may_land, meter_has, same, told_is, unit_stands, waits_on}
-use Rattle.replay_turns.specs.IntakeTurns.{planned_for}
-use Rattle.replay_turns.proofs.IntakeMomentLemmas.{has_landed, heard_all, landed_then, turn_then}
-use Rattle.replay_turns.proofs.IntakeStopLemmas.{halts_landing, stops_closing, stops_landing}
-use Rattle.replay_turns.proofs.ReadyLemmas.{intake_may_take, low_enough, stands_some}
+use Rattle.fronthaul_replay.specs.Waiting.{begun_at, on_way}
+use Rattle.fronthaul_replay.proofs.LandLemmas.{events_heard, here, may_land, meter_has, same, told_is, unit_stands, waits_on}
+use Rattle.fronthaul_replay.specs.IntakeTurns.{planned_for}
+use Rattle.fronthaul_replay.proofs.IntakeMomentLemmas.{has_landed, heard_all, landed_then, turn_then}
+use Rattle.fronthaul_replay.proofs.IntakeStopLemmas.{halts_landing, stops_closing, stops_landing}
+use Rattle.fronthaul_replay.proofs.ReadyLemmas.{intake_may_take, low_enough, stands_some}
 use Rattle.fronthaul_replay.proofs.intake.intake_lands.Given.{Over}
 use Rattle.fronthaul_replay.proofs.intake.intake_lands.Goals as goal
 use Rattle.fronthaul_replay.proofs.intake.intake_lands.Goals.{In_ok-land}

@@ -1,13 +1,13 @@
 use Rattle.std.proofs.Common.{refl, inr}
 use Rattle.std.proofs.lemmas.Result.{on_ok_weaker}
 use Rattle.air_source.specs.declared.events.Side.TheVariants.{Du}
-use Rattle.replay_turns.proofs.CauseLemmas.{cause_wanted}
-use Rattle.replay_turns.proofs.IntakeStopLemmas.{rests_before}
-use Rattle.replay_turns.proofs.LateLemmas.{late_enough}
-use Rattle.replay_turns.proofs.UpLemmas.{is_due, landed_up, queue_short, up_is_sent, up_later}
-use Rattle.replay_turns.proofs.WayLemmas.{is_read}
-use Rattle.replay_turns.specs.Up.{HasSentUp, handed_by, left_at_end}
-use Rattle.replay_turns.specs.Waiting.{on_way}
+use Rattle.fronthaul_replay.proofs.CauseLemmas.{cause_wanted}
+use Rattle.fronthaul_replay.proofs.IntakeStopLemmas.{rests_before}
+use Rattle.fronthaul_replay.proofs.LateLemmas.{late_enough}
+use Rattle.fronthaul_replay.proofs.UpLemmas.{is_due, landed_up, queue_short, up_is_sent, up_later}
+use Rattle.fronthaul_replay.proofs.WayLemmas.{is_read}
+use Rattle.fronthaul_replay.specs.Up.{HasSentUp, handed_by, left_at_end}
+use Rattle.fronthaul_replay.specs.Waiting.{on_way}
 use Rattle.std.specs.Prelude.{length}
 use Rattle.fronthaul_replay.proofs.intake.intake_moment.Given.{Over}
 use Rattle.fronthaul_replay.proofs.intake.intake_moment.Goals as goal

@@ -3,7 +3,7 @@ use Rattle.std.proofs.lemmas.Int.{ints}
 use Rattle.air_source.specs.declared.events.Side.TheVariants.{Du, Ru}
 use Rattle.document_delays.specs.Settings.{compensation_of}
 use Rattle.unit_model.specs.Radiated.{first_clock}
-use Rattle.replay_turns.proofs.MeasureLemmas.{measures_begin}
+use Rattle.fronthaul_replay.proofs.MeasureLemmas.{measures_begin}
 use Rattle.std.proofs.lemmas.Result.{IfOk-weaker}
 use Rattle.fronthaul_replay.proofs.measuring.meters_of.Goals as goal
 

@@ -3,9 +3,9 @@ use Rattle.air_source.specs.declared.airs.AirFault.TheVariants.{NoMemory}
 use Rattle.air_source.specs.declared.events.Side.TheVariants.{Du, Ru}
 use Rattle.measured_traffic.specs.Replayed.{doings_at}
 use Rattle.document_delays.specs.Settings.{compensation_of}
-use Rattle.replay_turns.specs.Measuring.{begins_for}
+use Rattle.fronthaul_replay.specs.Measuring.{begins_for}
 use Rattle.fronthaul_replay.proofs.StopLemmas.{rests_after, rests_before}
-use Rattle.replay_turns.proofs.CauseLemmas.{cause_passed, cause_wanted}
+use Rattle.fronthaul_replay.proofs.CauseLemmas.{cause_passed, cause_wanted}
 use Rattle.fronthaul_replay.proofs.moments.moment.Goals as goal
 
 pub begin-requires : goal.begin-requires

@@ -1,7 +1,7 @@
 use Rattle.std.proofs.Common.{sym, ap, ap₂, subst, ◌∙◌}
 use Rattle.fh_time.specs.Least.{earlier_time}
-use Rattle.replay_turns.specs.IntakeTurns.{planned_for}
-use Rattle.replay_turns.specs.Measuring.{begins_for}
+use Rattle.fronthaul_replay.specs.IntakeTurns.{planned_for}
+use Rattle.fronthaul_replay.specs.Measuring.{begins_for}
 use Rattle.fronthaul_replay.specs.Turns.{IsNextTick, within_end}
 use Rattle.fronthaul_replay.proofs.NextLemmas.{is_next}
 use Rattle.fronthaul_replay.proofs.moments.next_moment.Goals as goal

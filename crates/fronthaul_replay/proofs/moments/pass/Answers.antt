@@ -1,15 +1,15 @@
 use Rattle.std.proofs.Common.{rules, ◌≡◌, ℤ, pos, ◌+ℤ◌, List, refl, sym, subst, ◌∙◌}
 use Rattle.air_source.specs.declared.airs.AirFault.TheVariants.{Failed, NoMemory}
 use Rattle.air_source.specs.declared.events.Event.{Event}
-use Rattle.replay_turns.specs.Turns.{events_before}
-use Rattle.replay_turns.proofs.DownLemmas.{plan_of}
-use Rattle.replay_turns.proofs.TurnLemmas.{events_none}
-use Rattle.replay_events.specs.Moments.{end_of_time}
+use Rattle.fronthaul_replay.specs.BoxTurns.{events_before}
+use Rattle.fronthaul_replay.proofs.DownLemmas.{plan_of}
+use Rattle.fronthaul_replay.proofs.TurnLemmas.{events_none}
+use Rattle.replay_laws.specs.Moments.{end_of_time}
 use Rattle.fronthaul_replay.specs.Turns.{AtMoment}
 use Rattle.fronthaul_replay.proofs.NextLemmas.{all_measured, end_comes, gap_less, heard_next, heard_there, in_order, moment_comes}
 use Rattle.fronthaul_replay.proofs.StepLemmas.{InStep}
 use Rattle.fronthaul_replay.proofs.StopLemmas.{halts_whole, stops_whole}
-use Rattle.replay_turns.proofs.CauseLemmas.{cause_passed}
+use Rattle.fronthaul_replay.proofs.CauseLemmas.{cause_passed}
 use Rattle.fronthaul_replay.proofs.moments.pass.Goals as goal
 
 pub loop-tick-init : goal.loop-tick-init

@@ -1,7 +1,7 @@
 use Rattle.std.proofs.Common.{◌≡◌, ◌+ℤ◌, pos}
 use Rattle.std.specs.Int.{int_gap}
-use Rattle.replay_turns.specs.Turns.{events_before}
-use Rattle.replay_events.specs.Moments.{end_of_time}
+use Rattle.fronthaul_replay.specs.BoxTurns.{events_before}
+use Rattle.replay_laws.specs.Moments.{end_of_time}
 use Rattle.fronthaul_replay.specs.Turns.{AtMoment}
 use Rattle.fronthaul_replay.proofs.moments.pass.Given as goal
 

@@ -2,11 +2,11 @@ use Rattle.std.proofs.lemmas.Result.{on_ok_weaker}
 use Rattle.air_source.specs.declared.events.Side.TheVariants.{Du, Ru}
 use Rattle.measured_traffic.specs.Replayed.{made_at}
 use Rattle.document_delays.specs.Settings.{compensation_of}
-use Rattle.replay_turns.proofs.DownLemmas.{down_goes_on}
-use Rattle.replay_turns.proofs.MeasureLemmas.{made_is_sent}
-use Rattle.replay_turns.proofs.UpLemmas.{up_goes_on}
-use Rattle.replay_turns.proofs.WayLemmas.{is_read}
-use Rattle.replay_turns.specs.Waiting.{on_way}
+use Rattle.fronthaul_replay.proofs.DownLemmas.{down_goes_on}
+use Rattle.fronthaul_replay.proofs.MeasureLemmas.{made_is_sent}
+use Rattle.fronthaul_replay.proofs.UpLemmas.{up_goes_on}
+use Rattle.fronthaul_replay.proofs.WayLemmas.{is_read}
+use Rattle.fronthaul_replay.specs.Waiting.{on_way}
 use Rattle.fronthaul_replay.proofs.moments.send_both.Goals as goal
 
 pub send_made-requires-clause-document : goal.send_made-requires-clause-document

@@ -6,14 +6,14 @@ use Rattle.air_source.specs.declared.events.Event.TheVariants.{Cell}
 use Rattle.air_source.specs.declared.events.Side.TheVariants.{Ru as AtRu}
 use Rattle.measured_traffic.specs.Replayed.{traffic_of}
 use Rattle.document_delays.specs.Settings.{compensation_of}
-use Rattle.replay_events.specs.Events.{arrivals_at}
+use Rattle.replay_laws.specs.Events.{arrivals_at}
 use Rattle.ru_buffers.specs.Calls.{StandsFor}
 use Rattle.radio_laws.specs.Reporting.{due_of}
-use Rattle.replay_turns.specs.Waiting.{begun_at, on_way}
-use Rattle.replay_turns.proofs.LandLemmas.{events_heard, here, may_land, meter_has, same, told_is, unit_stands, waits_on}
-use Rattle.replay_turns.proofs.TurnLemmas.{radio_heard, radio_landed}
-use Rattle.replay_turns.proofs.ReadyLemmas.{is_ready, low_enough, may_take, reported_then}
-use Rattle.replay_turns.proofs.StopLemmas.{halts_landing, stops_due, stops_landing}
+use Rattle.fronthaul_replay.specs.Waiting.{begun_at, on_way}
+use Rattle.fronthaul_replay.proofs.LandLemmas.{events_heard, here, may_land, meter_has, same, told_is, unit_stands, waits_on}
+use Rattle.fronthaul_replay.proofs.TurnLemmas.{radio_heard, radio_landed}
+use Rattle.fronthaul_replay.proofs.ReadyLemmas.{is_ready, low_enough, may_take, reported_then}
+use Rattle.fronthaul_replay.proofs.BoxStops.{halts_landing, stops_due, stops_landing}
 use Rattle.fronthaul_replay.proofs.radio.radio_lands.Goals as goal
 
 pub advance-requires-clause-given : goal.advance-requires-clause-given

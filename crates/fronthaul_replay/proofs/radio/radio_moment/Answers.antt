@@ -1,14 +1,14 @@
 use Rattle.std.proofs.Common.{refl, inr}
 use Rattle.std.proofs.lemmas.Result.{on_ok_weaker}
 use Rattle.air_source.specs.declared.events.Side.TheVariants.{Ru}
-use Rattle.tone_source.specs.Tones.{tone_of}
-use Rattle.replay_turns.proofs.CauseLemmas.{cause_wanted}
-use Rattle.replay_turns.proofs.DownLemmas.{down_later, has_sent, landed_down, may_send}
-use Rattle.replay_turns.proofs.LateLemmas.{late_enough}
-use Rattle.replay_turns.proofs.StepLemmas.{radio_rests}
-use Rattle.replay_turns.proofs.WayLemmas.{is_read}
-use Rattle.replay_turns.specs.Down.{HasSentDown, left_down}
-use Rattle.replay_turns.specs.Waiting.{on_way}
+use Rattle.air_source.specs.Tones.{tone_of}
+use Rattle.fronthaul_replay.proofs.CauseLemmas.{cause_wanted}
+use Rattle.fronthaul_replay.proofs.DownLemmas.{down_later, has_sent, landed_down, may_send}
+use Rattle.fronthaul_replay.proofs.LateLemmas.{late_enough}
+use Rattle.fronthaul_replay.proofs.BoxSteps.{radio_rests}
+use Rattle.fronthaul_replay.proofs.WayLemmas.{is_read}
+use Rattle.fronthaul_replay.specs.Down.{HasSentDown, left_down}
+use Rattle.fronthaul_replay.specs.Waiting.{on_way}
 use Rattle.fronthaul_replay.proofs.radio.radio_moment.Given.{Over}
 use Rattle.fronthaul_replay.proofs.radio.radio_moment.Goals as goal
 use Rattle.fronthaul_replay.proofs.radio.radio_moment.Goals.{In_ok-send_due}

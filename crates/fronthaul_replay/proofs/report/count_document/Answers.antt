@@ -1,7 +1,7 @@
 use Rattle.std.proofs.Common.{rules, ◌≡◌}
 use Rattle.std.proofs.lemmas.Result.{on_err_weaker, on_ok_weaker}
-use Rattle.text_air.specs.CountAirs.{sink_of, owed_of}
-use Rattle.text_air.specs.Counts.{counter_text}
+use Rattle.report_airs.specs.CountAirs.{sink_of, owed_of}
+use Rattle.report_airs.specs.Counts.{counter_text}
 use Rattle.fronthaul_replay.specs.Reports.{document_counts}
 use Rattle.fronthaul_replay.proofs.Written.{at_error, counts_are, cut_text, error_passed, heard_front, heard_part, heard_whole, part_text}
 use Rattle.fronthaul_replay.proofs.FaultLemmas.{last_cause, same_cause}

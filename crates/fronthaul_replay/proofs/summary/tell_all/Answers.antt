@@ -1,6 +1,6 @@
 use Rattle.std.proofs.Common.{rules, ◌≡◌}
 use Rattle.std.proofs.lemmas.Result.{on_err_weaker, on_ok_weaker}
-use Rattle.sum_air.specs.Airs.{sink_of, owed_of, sums_of}
+use Rattle.report_airs.specs.SumAirs.{sink_of, owed_of, sums_of}
 use Rattle.fronthaul_replay.proofs.Cuts.{summary_cut, summary_cut_part, summary_done, summary_front, summary_part}
 use Rattle.fronthaul_replay.proofs.FaultLemmas.{last_cause, same_cause}
 use Rattle.fronthaul_replay.proofs.Written.{at_error, error_passed}

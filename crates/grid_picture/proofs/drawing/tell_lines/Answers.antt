@@ -2,8 +2,8 @@ use Rattle.std.proofs.Common.{◌++◌, ℕ, List, [], refl, ap, ◌∙◌}
 use Rattle.std.specs.Prelude.{◌==◌}
 use Rattle.std.specs.List.{flat_map, slice_split}
 use Rattle.line_words.specs.Words.{parts_left}
-use Rattle.owed_bytes.specs.CarriedLaws.{carried_more, carried_none}
-use Rattle.owed_bytes.proofs.Telling.{anyhow}
+use Rattle.fh_base.specs.CarriedLaws.{carried_more, carried_none}
+use Rattle.fh_base.proofs.OwedTelling.{anyhow}
 use Rattle.grid_picture.specs.Looks.{line_text}
 use Rattle.grid_picture.specs.Picture.{cells_text}
 use Rattle.grid_picture.proofs.Writing.{line_cut, line_said}

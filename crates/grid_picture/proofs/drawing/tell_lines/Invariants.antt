@@ -1,7 +1,7 @@
 use Rattle.std.proofs.Common.{◌≡◌, ◌++◌, ℕ, List}
 use Rattle.std.specs.List.{flat_map}
 use Rattle.line_words.specs.Words.{parts_left, left_length}
-use Rattle.owed_bytes.specs.Owed.{Carried}
+use Rattle.fh_base.specs.Owed.{Carried}
 use Rattle.grid_picture.specs.Looks.{line_text}
 use Rattle.grid_picture.specs.Picture.{cells_text}
 use Rattle.grid_picture.proofs.drawing.tell_lines.Given as goal

@@ -1,9 +1,9 @@
 use Rattle.std.proofs.Common.{◌++◌, ℕ, List, subst}
 use Rattle.std.proofs.lemmas.Result.{on_err_weaker, on_ok_weaker}
 use Rattle.fh_base.specs.Told.{WritesPart}
-use Rattle.owed_bytes.specs.Owed.{Carried}
-use Rattle.owed_bytes.proofs.Parts.{last_part}
-use Rattle.owed_bytes.proofs.Telling.{all_written, anyhow}
+use Rattle.fh_base.specs.Owed.{Carried}
+use Rattle.fh_base.proofs.Parts.{last_part}
+use Rattle.fh_base.proofs.OwedTelling.{all_written, anyhow}
 use Rattle.grid_picture.proofs.Writing.{all_told, cells_cut, foot_cut, head_cut}
 use Rattle.grid_picture.proofs.drawing.write_parts.Goals as goal
 

@@ -1,4 +1,4 @@
-use Rattle.owed_bytes.proofs.Telling.{anyhow}
+use Rattle.fh_base.proofs.OwedTelling.{anyhow}
 use Rattle.grid_picture.proofs.Writing.{nothing_yet}
 use Rattle.grid_picture.proofs.drawing.write_picture.Goals as goal
 

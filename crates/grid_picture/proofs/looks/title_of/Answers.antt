@@ -1,5 +1,5 @@
 use Rattle.std.proofs.Common.{arith}
-use Rattle.text_lines.specs.Numbers.{word_at}
+use Rattle.fh_base.specs.Numbers.{word_at}
 use Rattle.grid_picture.proofs.Titles.{title_more}
 use Rattle.grid_picture.proofs.looks.title_of.Goals as goal
 

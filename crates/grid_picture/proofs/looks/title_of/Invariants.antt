@@ -1,6 +1,6 @@
 use Rattle.std.proofs.Common.{◌≡◌, ◌++◌, ◌∷◌, ◌-◌, drop, take}
 use Rattle.std.specs.List.{flat_map}
-use Rattle.text_lines.specs.Numbers.{word_at}
+use Rattle.fh_base.specs.Numbers.{word_at}
 use Rattle.grid_picture.proofs.looks.title_of.Given as goal
 
 abbrev pub invariant-loop-i : goal.invariant-loop-i

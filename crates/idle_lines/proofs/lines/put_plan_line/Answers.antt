@@ -1,7 +1,7 @@
 use Rattle.std.proofs.Common.{ℕ, List, [], ◌∷◌, ◌++◌, codes, decimal, sym, ap, ◌∙◌, append-nil}
 use Rattle.std.specs.Fmt.{signed_decimal}
-use Rattle.text_lines.specs.Words.{hex3_text, hex4_text}
-use Rattle.line_laws.specs.Words.{plan_kind_word}
+use Rattle.fh_base.specs.Words.{hex3_text, hex4_text}
+use Rattle.fh_document.specs.LineWords.{plan_kind_word}
 use Rattle.idle_lines.specs.Lines.{plan_line_text}
 use Rattle.idle_lines.proofs.JoinedLemmas.{behind_spaces, one_word, spaced_is}
 use Rattle.idle_lines.proofs.lines.put_plan_line.Goals as goal

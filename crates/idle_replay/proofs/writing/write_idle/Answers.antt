@@ -4,7 +4,7 @@ use Rattle.fh_base.specs.Told.{WritesPart}
 use Rattle.fh_base.proofs.Progress.{front_none}
 use Rattle.fronthaul_replay.specs.Replay.{HasWriteCause}
 use Rattle.fronthaul_replay.specs.declared.report.TextFault.{TextFault}
-use Rattle.owed_bytes.proofs.Telling.{anyhow}
+use Rattle.fh_base.proofs.OwedTelling.{anyhow}
 use Rattle.idle_replay.specs.Idle.{cells_for, document_idle}
 use Rattle.idle_replay.proofs.FaultLemmas.{cause_told, err_told, none_written, ok_told}
 use Rattle.idle_replay.proofs.IdleLemmas.{is_idle}

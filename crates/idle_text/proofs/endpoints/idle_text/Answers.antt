@@ -2,8 +2,8 @@ use Rattle.std.proofs.Common.{◌≡◌, ℕ, List, OnErr, OnOk, sym, subst}
 use Rattle.std.specs.Io.KnownBytes.{append_known}
 use Rattle.std.proofs.lemmas.Result.{on_err_weaker, on_ok_weaker}
 use Rattle.fh_base.specs.Told.{WritesFront, WritesPart}
-use Rattle.owed_bytes.proofs.Parts.{last_part, part_front}
-use Rattle.owed_bytes.proofs.Telling.{all_written, anyhow, last_front}
+use Rattle.fh_base.proofs.Parts.{last_part, part_front}
+use Rattle.fh_base.proofs.OwedTelling.{all_written, anyhow, last_front}
 use Rattle.window_config.specs.declared.endpoints.EndpointConfig.{EndpointConfig}
 use Rattle.idle_text.specs.Text.{idle_text}
 use Rattle.idle_text.proofs.EndLemmas.{all_told, end_cut, lines_cut}

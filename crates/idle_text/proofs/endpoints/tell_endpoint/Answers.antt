@@ -1,5 +1,5 @@
 use Rattle.fh_base.proofs.Progress.{front_none}
-use Rattle.owed_bytes.proofs.Telling.{anyhow}
+use Rattle.fh_base.proofs.OwedTelling.{anyhow}
 use Rattle.idle_text.proofs.endpoints.tell_endpoint.Goals as goal
 
 pub returns-in_err-flags-clause-front : goal.returns-in_err-flags-clause-front

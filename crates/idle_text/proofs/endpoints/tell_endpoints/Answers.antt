@@ -1,8 +1,8 @@
 use Rattle.std.proofs.Common.{◌≡◌, ℕ, List, length, take, subst, ap, ◌∙◌, arith}
 use Rattle.std.specs.List.{flat_map}
 use Rattle.std.proofs.lemmas.List.{take_all}
-use Rattle.owed_bytes.specs.Owed.{Carried}
-use Rattle.owed_bytes.proofs.Telling.{anyhow, carried_one_more, cut_at}
+use Rattle.fh_base.specs.Owed.{Carried}
+use Rattle.fh_base.proofs.OwedTelling.{anyhow, carried_one_more, cut_at}
 use Rattle.window_config.specs.declared.endpoints.EndpointConfig.{EndpointConfig}
 use Rattle.idle_text.specs.Text.{endpoint_text}
 use Rattle.idle_text.proofs.TableLemmas.{table_at}

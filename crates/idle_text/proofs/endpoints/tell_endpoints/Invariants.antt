@@ -1,6 +1,6 @@
 use Rattle.std.proofs.Common.{◌≡◌, ℕ, List, take}
 use Rattle.std.specs.List.{flat_map}
-use Rattle.owed_bytes.specs.Owed.{Carried}
+use Rattle.fh_base.specs.Owed.{Carried}
 use Rattle.window_config.specs.declared.config.Config.{Config}
 use Rattle.air_source.specs.declared.events.AirCell.{AirCell}
 use Rattle.idle_spans.specs.Tables.{Stands}

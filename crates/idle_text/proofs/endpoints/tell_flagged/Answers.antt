@@ -1,10 +1,10 @@
 use Rattle.std.proofs.Common.{◌≡◌, ℕ, ◌++◌, List, OnOk, OnErr, subst, ◌∙◌}
 use Rattle.std.proofs.lemmas.Result.{on_err_weaker, on_ok_weaker}
 use Rattle.fh_base.specs.Told.{WritesFront}
-use Rattle.owed_bytes.specs.Owed.{Carried}
-use Rattle.owed_bytes.specs.CarriedLaws.{carried_more}
-use Rattle.owed_bytes.proofs.Carrying.{front_behind}
-use Rattle.owed_bytes.proofs.Telling.{anyhow, front_before}
+use Rattle.fh_base.specs.Owed.{Carried}
+use Rattle.fh_base.specs.CarriedLaws.{carried_more}
+use Rattle.fh_base.proofs.Carrying.{front_behind}
+use Rattle.fh_base.proofs.OwedTelling.{anyhow, front_before}
 use Rattle.idle_text.specs.Text.{free_text, spans_text}
 use Rattle.idle_text.proofs.FreeLemmas.{free_told}
 use Rattle.idle_text.proofs.endpoints.tell_flagged.Goals as goal

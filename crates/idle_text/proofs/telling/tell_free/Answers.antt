@@ -1,6 +1,6 @@
 use Rattle.std.proofs.Common.{◌≡◌, ℕ, length, refl, subst, ◌∙◌, arith}
-use Rattle.owed_bytes.specs.Owed.{Carried}
-use Rattle.owed_bytes.proofs.Telling.{anyhow}
+use Rattle.fh_base.specs.Owed.{Carried}
+use Rattle.fh_base.proofs.OwedTelling.{anyhow}
 use Rattle.idle_text.specs.Text.{flagged_text}
 use Rattle.idle_text.proofs.FreeLemmas.{none_told, slot_cut, slot_told}
 use Rattle.idle_text.proofs.telling.tell_free.Goals as goal

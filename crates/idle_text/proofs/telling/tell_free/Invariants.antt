@@ -1,5 +1,5 @@
 use Rattle.std.proofs.Common.{◌≡◌, ℕ, List}
-use Rattle.owed_bytes.specs.Owed.{Carried}
+use Rattle.fh_base.specs.Owed.{Carried}
 use Rattle.air_source.specs.declared.events.AirCell.{AirCell}
 use Rattle.idle_slots.specs.Tables.{IsTableOf}
 use Rattle.idle_text.specs.Text.{flagged_text}

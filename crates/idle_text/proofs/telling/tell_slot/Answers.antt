@@ -1,8 +1,8 @@
 use Rattle.std.proofs.Common.{◌≡◌, ℕ, ◌*◌, ◌++◌, Bool, List, OnOk, OnErr, sym, ap, subst, ◌∙◌}
 use Rattle.fh_base.specs.Told.{WritesFront}
 use Rattle.fh_time.specs.declared.values.Shape.{Shape}
-use Rattle.owed_bytes.specs.Owed.{Carried}
-use Rattle.owed_bytes.specs.CarriedLaws.{carried_none}
+use Rattle.fh_base.specs.Owed.{Carried}
+use Rattle.fh_base.specs.CarriedLaws.{carried_none}
 use Rattle.window_config.specs.declared.endpoints.EndpointConfig.{EndpointConfig}
 use Rattle.idle_spans.specs.Symbols.{symbol_at}
 use Rattle.idle_text.specs.Text.{flagged_slot, lines_text}

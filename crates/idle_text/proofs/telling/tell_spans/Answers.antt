@@ -2,8 +2,8 @@ use Rattle.std.proofs.Common.{◌≡◌, ℕ, ◌+◌, ◌*◌, ◌<◌, ◌≤�
 use Rattle.std.specs.List.{list_any}
 use Rattle.fh_time.specs.Numbering.{symbols_of}
 use Rattle.fh_time.specs.declared.values.Shape.{Shape}
-use Rattle.owed_bytes.specs.Owed.{Carried}
-use Rattle.owed_bytes.proofs.Telling.{anyhow}
+use Rattle.fh_base.specs.Owed.{Carried}
+use Rattle.fh_base.proofs.OwedTelling.{anyhow}
 use Rattle.window_config.specs.declared.endpoints.EndpointConfig.{EndpointConfig}
 use Rattle.air_source.specs.declared.events.AirCell.{AirCell}
 use Rattle.idle_spans.specs.Places.{IsNoneOrSymbol}

@@ -1,7 +1,7 @@
 use Rattle.std.proofs.Common.{◌≡◌, ℕ, ◌-◌, ◌<◌, ◌≤◌, ◌||◌, false, List, length, get_or}
 use Rattle.std.specs.List.{list_any}
 use Rattle.fh_time.specs.Numbering.{symbols_of}
-use Rattle.owed_bytes.specs.Owed.{Carried}
+use Rattle.fh_base.specs.Owed.{Carried}
 use Rattle.air_source.specs.declared.events.AirCell.{AirCell}
 use Rattle.idle_spans.specs.Symbols.{symbol_count}
 use Rattle.idle_spans.specs.Tables.{symbols_in}

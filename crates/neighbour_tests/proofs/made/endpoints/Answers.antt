@@ -1,5 +1,5 @@
 use Rattle.std.proofs.Common.{arith}
-use Rattle.window_lines.proofs.Numbered.{numbered_are}
+use Rattle.window_plan.proofs.Numbered.{numbered_are}
 use Rattle.neighbour_tests.proofs.made.endpoints.Goals as goal
 
 pub returns-clause-endpoints : goal.returns-clause-endpoints

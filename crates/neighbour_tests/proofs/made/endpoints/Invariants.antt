@@ -1,5 +1,5 @@
 use Rattle.std.proofs.Common.{◌≡◌, ℕ, ◌+◌, ◌<◌, length, get_or}
-use Rattle.window_lines.proofs.Numbered.{IsNumbered}
+use Rattle.window_plan.proofs.Numbered.{IsNumbered}
 use Rattle.neighbour_tests.proofs.made.endpoints.Given as goal
 use Rattle.window_config.specs.Endpoints.{no_endpoint}
 

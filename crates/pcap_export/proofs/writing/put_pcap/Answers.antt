@@ -1,11 +1,11 @@
 use Rattle.std.proofs.lemmas.Result.{on_ok_weaker, on_err_weaker}
-use Rattle.owed_bytes.specs.CarriedLaws.{carried_more}
+use Rattle.fh_base.specs.CarriedLaws.{carried_more}
 use Rattle.capture_records.specs.Reading.{records_of}
 use Rattle.pcap_export.specs.Packets.{file_head, packets_bytes, wanted}
 use Rattle.pcap_export.proofs.Back.{read_back}
 use Rattle.pcap_export.proofs.writing.put_pcap.Goals as goal
-use Rattle.owed_bytes.proofs.Telling.{last_front, all_written, anyhow}
-use Rattle.owed_bytes.proofs.Parts.{part_front, part_behind, last_part}
+use Rattle.fh_base.proofs.OwedTelling.{last_front, all_written, anyhow}
+use Rattle.fh_base.proofs.Parts.{part_front, part_behind, last_part}
 use Rattle.pcap_lines.proofs.Telling.{first_part}
 
 pub returns-in_err-tell_packets-clause-read : goal.returns-in_err-tell_packets-clause-read

@@ -6,7 +6,7 @@ use Rattle.pcap_lines.proofs.Telling.{part_named}
 use Rattle.pcap_export.specs.Packets.{ethernet_head, ns_of, record_head}
 use Rattle.pcap_export.proofs.Packed.{three_carried, three_part, two_part}
 use Rattle.pcap_export.proofs.writing.tell_packet.Goals as goal
-use Rattle.owed_bytes.proofs.Telling.{anyhow}
+use Rattle.fh_base.proofs.OwedTelling.{anyhow}
 
 pub returns-in_err-tell-clause-part : goal.returns-in_err-tell-clause-part
 returns-in_err-tell-clause-part g c =

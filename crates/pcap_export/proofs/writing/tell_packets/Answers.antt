@@ -7,7 +7,7 @@ use Rattle.pcap_export.specs.Packets.{packets_bytes, wanted_bytes}
 use Rattle.pcap_export.proofs.Packed.{packets_more}
 use Rattle.pcap_export.proofs.Placed.{ArePlaced, all_placed}
 use Rattle.pcap_export.proofs.writing.tell_packets.Goals as goal
-use Rattle.owed_bytes.proofs.Telling.{anyhow}
+use Rattle.fh_base.proofs.OwedTelling.{anyhow}
 
 pub loop-record-init : goal.loop-record-init
 loop-record-init g c =

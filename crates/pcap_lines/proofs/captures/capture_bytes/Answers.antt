@@ -1,12 +1,12 @@
 use Rattle.std.proofs.Common.{map}
-use Rattle.owed_bytes.specs.CarriedLaws.{carried_more}
+use Rattle.fh_base.specs.CarriedLaws.{carried_more}
 use Rattle.capture_records.specs.declared.layout.TheConstants.{MAGIC}
 use Rattle.capture_records.specs.Records.{records_bytes}
 use Rattle.pcap_frames.specs.Frames.{frames_of}
 use Rattle.pcap_lines.specs.Texts.{arrived_as}
 use Rattle.pcap_lines.proofs.captures.capture_bytes.Goals as goal
-use Rattle.owed_bytes.proofs.Telling.{last_front, anyhow}
-use Rattle.owed_bytes.proofs.Parts.{part_front, part_behind, last_part}
+use Rattle.fh_base.proofs.OwedTelling.{last_front, anyhow}
+use Rattle.fh_base.proofs.Parts.{part_front, part_behind, last_part}
 use Rattle.pcap_lines.proofs.Telling.{first_part}
 use Rattle.std.proofs.lemmas.Result.{on_err_weaker}
 

@@ -4,8 +4,8 @@ use Rattle.fh_base.specs.Told.{WritesPart}
 use Rattle.capture_records.specs.Records.{head_bytes}
 use Rattle.pcap_lines.proofs.Telling.{carried_pair, part_pair}
 use Rattle.pcap_lines.proofs.captures.tell_record.Goals as goal
-use Rattle.owed_bytes.proofs.Telling.{anyhow}
-use Rattle.owed_bytes.proofs.Parts.{part_before}
+use Rattle.fh_base.proofs.OwedTelling.{anyhow}
+use Rattle.fh_base.proofs.Parts.{part_before}
 use Rattle.fh_time.specs.declared.nanoseconds.TheConstants.{NANOSECOND}
 
 pub returns-in_err-tell-clause-part : goal.returns-in_err-tell-clause-part

@@ -6,7 +6,7 @@ use Rattle.pcap_frames.specs.Left.{left_of}
 use Rattle.pcap_lines.specs.Texts.{arrived_as}
 use Rattle.pcap_lines.proofs.Telling.{so_far_none, so_far_more, so_far_all, so_far_stopped}
 use Rattle.pcap_lines.proofs.captures.tell_records.Goals as goal
-use Rattle.owed_bytes.proofs.Telling.{anyhow}
+use Rattle.fh_base.proofs.OwedTelling.{anyhow}
 
 pub loop-f-init : goal.loop-f-init
 loop-f-init g c =

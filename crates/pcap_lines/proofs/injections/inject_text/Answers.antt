@@ -3,8 +3,8 @@ use Rattle.pcap_frames.specs.Wanted.{wanted_frames, first_time}
 use Rattle.pcap_frames.proofs.Shown.{are_shown, checked_fine}
 use Rattle.pcap_lines.proofs.Read.{are_bytes, read_back}
 use Rattle.pcap_lines.proofs.injections.inject_text.Goals as goal
-use Rattle.owed_bytes.proofs.Telling.{last_front, all_written, anyhow}
-use Rattle.owed_bytes.proofs.Parts.{part_front, last_part}
+use Rattle.fh_base.proofs.OwedTelling.{last_front, all_written, anyhow}
+use Rattle.fh_base.proofs.Parts.{part_front, last_part}
 use Rattle.pcap_lines.proofs.Telling.{first_part}
 
 pub returns-clause-front : goal.returns-clause-front

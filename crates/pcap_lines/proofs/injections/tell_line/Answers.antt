@@ -1,11 +1,11 @@
 use Rattle.std.proofs.Common.{◌≡◌, ◌++◌, ◌∙◌}
 use Rattle.std.specs.Prelude.{codes}
 use Rattle.std.proofs.lemmas.Result.{on_ok_weaker, on_err_weaker}
-use Rattle.line_laws.specs.Words.{frame_word}
+use Rattle.fh_document.specs.LineWords.{frame_word}
 use Rattle.pcap_lines.specs.Texts.{opening_text}
 use Rattle.pcap_lines.proofs.Telling.{part_named, part_pair, carried_pair}
 use Rattle.pcap_lines.proofs.injections.tell_line.Goals as goal
-use Rattle.owed_bytes.proofs.Telling.{anyhow}
+use Rattle.fh_base.proofs.OwedTelling.{anyhow}
 
 pub returns-in_err-tell-clause-part : goal.returns-in_err-tell-clause-part
 returns-in_err-tell-clause-part g c =

@@ -1,6 +1,6 @@
 use Rattle.std.proofs.Common.{arith, ◌≡◌, ◌+◌, ◌*◌, ◌++◌, take, length, sym, ap, ◌∙◌}
 use Rattle.std.proofs.lemmas.List.{length-take-le}
-use Rattle.line_laws.specs.Words.{hex_text}
+use Rattle.fh_document.specs.LineWords.{hex_text}
 use Rattle.pcap_lines.proofs.Hex.{hex_length, front_more}
 use Rattle.pcap_lines.proofs.pieces.spell.Goals as goal
 

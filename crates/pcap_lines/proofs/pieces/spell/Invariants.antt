@@ -1,5 +1,5 @@
 use Rattle.std.proofs.Common.{◌≡◌, ◌+◌, ◌*◌, ◌++◌, take, length}
-use Rattle.line_laws.specs.Words.{hex_text}
+use Rattle.fh_document.specs.LineWords.{hex_text}
 use Rattle.pcap_lines.proofs.pieces.spell.Given as goal
 
 abbrev pub invariant-loop-block : goal.invariant-loop-block

@@ -1,6 +1,6 @@
 use Rattle.std.proofs.Common.{arith, ℕ, List, ◌≡◌, ◌++◌, ◌*◌, length, take, drop, replicate, ap, ◌∙◌}
 use Rattle.std.proofs.lemmas.List.{length-append, length-drop}
-use Rattle.line_laws.specs.Words.{hex_text}
+use Rattle.fh_document.specs.LineWords.{hex_text}
 use Rattle.pcap_lines.proofs.Hex.{hex_front, hex_length, front_cut}
 use Rattle.pcap_lines.proofs.pieces.spell_last.Goals as goal
 

@@ -1,11 +1,11 @@
 use Rattle.std.proofs.Common.{◌+◌, ◌++◌, [], drop, rules, refl, ◌∙◌}
 use Rattle.std.specs.Prelude.{codes}
 use Rattle.std.proofs.lemmas.Result.{on_ok_weaker, on_err_weaker}
-use Rattle.line_laws.specs.Words.{hex_text}
+use Rattle.fh_document.specs.LineWords.{hex_text}
 use Rattle.pcap_lines.proofs.Hex.{hex_slice_before, hex_rest}
 use Rattle.pcap_lines.proofs.Telling.{so_far_more, so_far_all, so_far_stopped}
 use Rattle.pcap_lines.proofs.words.tell_digits.Goals as goal
-use Rattle.owed_bytes.proofs.Telling.{anyhow}
+use Rattle.fh_base.proofs.OwedTelling.{anyhow}
 
 pub returns-in_err-tell_piece-clause-part : goal.returns-in_err-tell_piece-clause-part
 returns-in_err-tell_piece-clause-part g c =

@@ -1,6 +1,6 @@
 use Rattle.std.proofs.Common.{◌-◌, ◌≤◌, ◌≡◌, ◌++◌, length, drop}
 use Rattle.std.specs.Prelude.{codes}
-use Rattle.line_laws.specs.Words.{hex_text}
+use Rattle.fh_document.specs.LineWords.{hex_text}
 use Rattle.pcap_lines.proofs.Telling.{SoFar}
 use Rattle.pcap_lines.proofs.words.tell_digits.Given as goal
 

@@ -1,6 +1,6 @@
 use Rattle.std.proofs.Common.{◌≡◌, ◌+◌, ◌*◌, ◌≤◌, ◌++◌, length, take}
 use Rattle.std.specs.List.{flat_map}
-use Rattle.text_lines.specs.Words.{spaced_signed_text}
+use Rattle.fh_base.specs.Words.{spaced_signed_text}
 use Rattle.sent_lines.proofs.lines.put_times.Given as goal
 
 abbrev pub invariant-loop-ns : goal.invariant-loop-ns

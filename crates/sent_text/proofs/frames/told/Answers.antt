@@ -1,6 +1,6 @@
 use Rattle.std.proofs.Common.{◌<◌, List, length, get_or, ap, sym, subst, arith}
 use Rattle.document_traffic.specs.Sending.{lines_of}
-use Rattle.plan_table.specs.declared.kept.PlacedLine.{PlacedLine}
+use Rattle.du_scheduler.specs.declared.kept.PlacedLine.{PlacedLine}
 use Rattle.sent_text.proofs.FrameLemmas.{line_is}
 use Rattle.sent_text.proofs.PartLemmas.{no_place}
 use Rattle.sent_text.proofs.frames.told.Goals as goal

@@ -1,6 +1,6 @@
 use Rattle.std.proofs.lemmas.Result.{on_err_weaker, on_ok_weaker}
-use Rattle.owed_bytes.proofs.Parts.{last_part, part_front}
-use Rattle.owed_bytes.proofs.Telling.{all_written, anyhow, last_front}
+use Rattle.fh_base.proofs.Parts.{last_part, part_front}
+use Rattle.fh_base.proofs.OwedTelling.{all_written, anyhow, last_front}
 use Rattle.sent_text.proofs.RowLemmas.{is_listed}
 use Rattle.sent_text.proofs.TellLemmas.{end_cut, lines_cut, whole_told}
 use Rattle.sent_text.proofs.listing.list_sent.Goals as goal

@@ -1,6 +1,6 @@
 use Rattle.std.proofs.Common.{map, refl, ◌∙◌, arith}
-use Rattle.owed_bytes.proofs.Telling.{anyhow}
-use Rattle.sent_order.specs.Runs.{turn_of}
+use Rattle.fh_base.proofs.OwedTelling.{anyhow}
+use Rattle.frame_order.specs.Runs.{turn_of}
 use Rattle.sent_text.proofs.TellLemmas.{all_told, is_tabled, none_told, room, text_told, told_cut, told_next}
 use Rattle.sent_text.proofs.listing.tell_frames.Goals as goal
 

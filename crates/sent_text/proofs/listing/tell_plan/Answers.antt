@@ -1,9 +1,9 @@
 use Rattle.std.proofs.Common.{List, ap, subst, ◌∙◌}
 use Rattle.fh_base.proofs.Progress.{front_none}
-use Rattle.owed_bytes.proofs.Telling.{anyhow}
+use Rattle.fh_base.proofs.OwedTelling.{anyhow}
 use Rattle.plan_model.specs.Lines.{planned}
 use Rattle.plan_model.specs.declared.lines.PlannedLine.{PlannedLine}
-use Rattle.plan_table.specs.Tables.{IsTable}
+use Rattle.du_scheduler.specs.Tables.{IsTable}
 use Rattle.window_config.specs.declared.endpoints.EndpointConfig.{EndpointConfig}
 use Rattle.sent_text.proofs.listing.tell_plan.Goals as goal
 

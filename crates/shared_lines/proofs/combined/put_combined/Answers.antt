@@ -2,8 +2,8 @@ use Rattle.std.proofs.Common.{◌≡◌, List, subst}
 use Rattle.std.specs.Io.KnownBytes.{append_known}
 use Rattle.std.proofs.lemmas.Result.{on_ok_weaker, on_err_weaker}
 use Rattle.fh_base.specs.Told.{WritesFront, WritesPart}
-use Rattle.owed_bytes.proofs.Telling.{all_written, last_front, anyhow}
-use Rattle.owed_bytes.proofs.Parts.{part_front, last_part}
+use Rattle.fh_base.proofs.OwedTelling.{all_written, last_front, anyhow}
+use Rattle.fh_base.proofs.Parts.{part_front, last_part}
 use Rattle.shared_cell.specs.declared.values.Mixed.{Mixed}
 use Rattle.shared_lines.specs.Lines.{mixes_text}
 use Rattle.shared_lines.proofs.Whole.{all_told, cells_cut, end_cut}

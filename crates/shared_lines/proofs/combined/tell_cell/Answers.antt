@@ -1,7 +1,7 @@
 -- The line is its two halves, told one after the other.
 use Rattle.std.proofs.Common.{◌∙◌}
 use Rattle.std.proofs.lemmas.Result.{on_ok_weaker, on_err_weaker}
-use Rattle.owed_bytes.proofs.Telling.{anyhow}
+use Rattle.fh_base.proofs.OwedTelling.{anyhow}
 use Rattle.shared_lines.proofs.Told.{part_half, part_both, carried_both}
 use Rattle.shared_lines.proofs.combined.tell_cell.Goals as goal
 

@@ -1,6 +1,6 @@
 use Rattle.std.proofs.Common.{refl, ◌∙◌}
-use Rattle.owed_bytes.proofs.Telling.{carried_one_more, anyhow}
-use Rattle.owed_bytes.proofs.Parts.{part_at}
+use Rattle.fh_base.proofs.OwedTelling.{carried_one_more, anyhow}
+use Rattle.fh_base.proofs.Parts.{part_at}
 use Rattle.shared_lines.specs.Lines.{mixed_text}
 use Rattle.shared_lines.proofs.combined.tell_cells.Goals as goal
 

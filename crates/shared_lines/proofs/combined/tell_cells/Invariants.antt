@@ -1,6 +1,6 @@
 use Rattle.std.proofs.Common.{take, ◌≡◌}
 use Rattle.std.specs.List.{flat_map}
-use Rattle.owed_bytes.specs.Owed.{Carried}
+use Rattle.fh_base.specs.Owed.{Carried}
 use Rattle.shared_lines.specs.Lines.{mixed_text}
 use Rattle.shared_lines.proofs.combined.tell_cells.Given as goal
 

@@ -1,6 +1,6 @@
 use Rattle.std.proofs.Common.{rules, ap, ◌∙◌}
 use Rattle.std.proofs.lemmas.Result.{on_ok_weaker}
-use Rattle.owed_bytes.proofs.Telling.{anyhow}
+use Rattle.fh_base.proofs.OwedTelling.{anyhow}
 use Rattle.fronthaul_replay.specs.Replaying.{events_of}
 use Rattle.unit_air.specs.Airs.{mixer_of, owed_of, sink_of}
 use Rattle.unit_air.specs.Text.{all_taken}

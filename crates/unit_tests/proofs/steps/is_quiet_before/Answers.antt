@@ -1,5 +1,5 @@
 use Rattle.std.proofs.Common.{◌-ℤ◌, pos}
-use Rattle.history_laws.proofs.TickLemmas.{one_before}
+use Rattle.unit_laws.proofs.HistoryTicks.{one_before}
 use Rattle.unit_tests.proofs.steps.is_quiet_before.Goals as goal
 
 pub returns-in-Some : goal.returns-in-Some

@@ -1,6 +1,6 @@
 use Rattle.std.proofs.Common.{◌≡◌, true, false, inl, refl, ◌∙◌, arith}
 use Rattle.std.proofs.lemmas.List.{get_or-drop}
-use Rattle.bit_fields.proofs.Field.{field_same}
+use Rattle.bfp_codec.proofs.Field.{field_same}
 use Rattle.bfp_codec.specs.declared.methods.Format.{Format}
 use Rattle.uplane_sections.specs.Section.{header_size}
 use Rattle.uplane_sections.proofs.Words.{word_written, compression_written, static_written, dynamic_written}

@@ -1,8 +1,8 @@
 use Rattle.std.proofs.Common.{List, ℕ, subst, ◌++◌}
 use Rattle.fh_base.specs.Told.{WritesFront, WritesPart}
 use Rattle.std.proofs.lemmas.Result.{on_err_weaker}
-use Rattle.owed_bytes.proofs.Carrying.{front_pushed}
-use Rattle.owed_bytes.proofs.Parts.{part_pushed}
+use Rattle.fh_base.proofs.Carrying.{front_pushed}
+use Rattle.fh_base.proofs.Parts.{part_pushed}
 use Rattle.capture_show.proofs.printing.Printer.close.Goals as goal
 
 pub returns-clause-front : goal.returns-clause-front

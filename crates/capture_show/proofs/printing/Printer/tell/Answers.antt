@@ -1,7 +1,7 @@
 use Rattle.std.proofs.Common.{refl}
 use Rattle.capture_show.proofs.Telling.{told_one, stopped_one}
 use Rattle.capture_show.proofs.printing.Printer.tell.Goals as goal
-use Rattle.owed_bytes.proofs.Telling.{anyhow}
+use Rattle.fh_base.proofs.OwedTelling.{anyhow}
 
 pub returns-in_err-tell_piece-clause-part : goal.returns-in_err-tell_piece-clause-part
 returns-in_err-tell_piece-clause-part g c = anyhow c.from_residual.result (stopped_one _ _ _ _ _ _ c.in_err-tell_piece.ensures.part)

@@ -4,8 +4,8 @@ use Rattle.plan_model.specs.Lines.{planned}
 use Rattle.plan_model.specs.Sent.{sent}
 use Rattle.plan_model.specs.declared.lines.PlannedLine.{PlannedLine}
 use Rattle.frame_order.specs.Queues.{StandsFor}
-use Rattle.sent_order.specs.Runs.{turn_of}
-use Rattle.plan_table.specs.Tables.{IsTable}
+use Rattle.frame_order.specs.Runs.{turn_of}
+use Rattle.du_scheduler.specs.Tables.{IsTable}
 use Rattle.du_scheduler.proofs.plans.Plan.make.Goals as goal
 
 pub returns : goal.returns

@@ -1,7 +1,7 @@
 use Rattle.air_source.specs.declared.events.Side.TheVariants.{Du}
 use Rattle.unit_model.specs.Radiated.{first_clock}
-use Rattle.replay_turns.proofs.AnswerLemmas.{begins}
-use Rattle.replay_turns.proofs.WayLemmas.{starts}
+use Rattle.fronthaul_replay.proofs.AnswerLemmas.{begins}
+use Rattle.fronthaul_replay.proofs.WayLemmas.{starts}
 use Rattle.fronthaul_replay.proofs.answers.Answers.make.Goals as goal
 
 pub returns : goal.returns

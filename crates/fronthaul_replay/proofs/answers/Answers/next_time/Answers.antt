@@ -5,9 +5,9 @@ use Rattle.fh_time.specs.Least.{IsLeastOf}
 use Rattle.fh_time.specs.declared.values.Ticks.{Ticks}
 use Rattle.frame_ways.proofs.TimeLemmas.{earlier_of_both}
 use Rattle.frame_ways.specs.Ways.{IsCalmTo, landings_on}
-use Rattle.replay_turns.specs.Up.{NoneComesUp}
-use Rattle.replay_turns.specs.Waiting.{on_way}
-use Rattle.send_queue.specs.Queues.{IsNextTime, IsSilentTo}
+use Rattle.fronthaul_replay.specs.Up.{NoneComesUp}
+use Rattle.fronthaul_replay.specs.Waiting.{on_way}
+use Rattle.frame_network.specs.SendQueues.{IsNextTime, IsSilentTo}
 use Rattle.fronthaul_replay.proofs.answers.Answers.next_time.Goals as goal
 
 least_silent : (q : List LinkFrame) (o : Option Ticks) → IsNextTime q o → IsLeastOf (IsSilentTo q) o

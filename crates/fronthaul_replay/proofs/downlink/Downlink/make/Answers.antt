@@ -1,5 +1,5 @@
-use Rattle.replay_turns.proofs.DownLemmas.{down_begins}
-use Rattle.replay_turns.proofs.WayLemmas.{starts}
+use Rattle.fronthaul_replay.proofs.DownLemmas.{down_begins}
+use Rattle.fronthaul_replay.proofs.WayLemmas.{starts}
 use Rattle.air_source.specs.declared.events.Side.TheVariants.{Ru}
 use Rattle.fronthaul_replay.proofs.downlink.Downlink.make.Goals as goal
 

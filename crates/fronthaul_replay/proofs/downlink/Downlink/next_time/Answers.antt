@@ -4,9 +4,9 @@ use Rattle.fh_time.specs.Least.{IsLeastOf}
 use Rattle.frame_sending.specs.Due.{AreSentFrom}
 use Rattle.frame_ways.proofs.TimeLemmas.{earlier_of_both}
 use Rattle.frame_ways.specs.Ways.{IsCalmTo, landings_on}
-use Rattle.replay_turns.proofs.OrderLemmas.{first_sends}
-use Rattle.replay_turns.specs.Down.{NoneComesDown}
-use Rattle.replay_turns.specs.Waiting.{on_way}
+use Rattle.fronthaul_replay.proofs.OrderLemmas.{first_sends}
+use Rattle.fronthaul_replay.specs.Down.{NoneComesDown}
+use Rattle.fronthaul_replay.specs.Waiting.{on_way}
 use Rattle.fronthaul_replay.proofs.downlink.Downlink.next_time.Goals as goal
 
 pub returns : goal.returns

@@ -2,7 +2,7 @@ use Rattle.std.proofs.Common.{ap, ◌∙◌, map}
 use Rattle.line_words.specs.Words.{words_of}
 use Rattle.line_words.proofs.WordSteps.{kept_word, no_word}
 use Rattle.line_words.proofs.words.Words.word.Goals as goal
-use Rattle.text_lines.specs.Numbers.{word_at}
+use Rattle.fh_base.specs.Numbers.{word_at}
 
 pub returns-then-i-kept : goal.returns-then-i-kept
 returns-then-i-kept c =

@@ -1,5 +1,0 @@
-pub mod Field
-pub mod Digits
-pub mod Same
-pub mod Cut
-mod Worked

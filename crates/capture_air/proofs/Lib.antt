@@ -1,2 +1,0 @@
-pub mod Captured
-mod Recording

@@ -1,4 +1,0 @@
-pub mod Airs
-pub mod Capture
-pub mod Laws
-pub mod Recorded

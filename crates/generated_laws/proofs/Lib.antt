@@ -1,0 +1,9 @@
+pub mod Spaced
+pub mod Told
+pub mod Rising
+pub mod Sparse
+pub mod Lines
+pub mod Valid
+pub mod Texts
+pub mod Steps
+pub mod Read

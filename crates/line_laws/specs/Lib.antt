@@ -1,4 +1,0 @@
-pub mod Joined
-pub mod Words
-pub mod Lines
-pub mod Laws

@@ -1,4 +1,0 @@
-pub mod Carrying
-pub mod Parts
-pub mod Passing
-pub mod Telling

@@ -1,2 +1,0 @@
-pub mod CarriedLaws
-pub mod Owed

@@ -1,6 +1,0 @@
-use Rattle.std.proofs.Common.{◌≡◌, ◌++◌, map, drop}
-use Rattle.plan_table.specs.Kept.{placed_line_of}
-use Rattle.plan_table.proofs.kept.placed_lines.Given as goal
-
-abbrev pub invariant-loop-part : goal.invariant-loop-part
-invariant-loop-part l = l.lines.items ++ map placed_line_of (drop l.part-index l.parts) ≡ map placed_line_of l.parts

@@ -1,3 +1,0 @@
-pub mod Kept
-pub mod Plans
-pub mod Tables

@@ -1,0 +1,26 @@
+-- What a contract sees of the air that writes a summary (this project's profile).
+use Rattle.std.specs.Prelude.{ℕ, List}
+use Rattle.std.specs.Borrow.{GName}
+use Rattle.report_airs.specs.declared.sum_air.SumAir.{SumAir}
+use Rattle.report_airs.specs.SumStates.{SumState}
+
+module _ {K : Type 0} where
+  -- the ghost name of the reference to the sink
+  abbrev pub sink_name : SumAir K → GName
+  sink_name a = a.sink.ghost_name
+
+  -- the sink
+  abbrev pub sink_of : SumAir K → K
+  sink_of a = a.sink.now
+
+  -- the bytes that are owed to the sink
+  abbrev pub owed_of : SumAir K → List ℕ
+  owed_of a = a.owed
+
+  -- the line that is told next
+  abbrev pub line_of : SumAir K → List ℕ
+  line_of a = a.line
+
+  -- what it remembers of the events
+  abbrev pub sums_of : SumAir K → SumState
+  sums_of a = a.sums

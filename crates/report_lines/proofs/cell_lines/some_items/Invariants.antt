@@ -1,7 +1,0 @@
-use Rattle.std.proofs.Common.{◌≡◌, ◌+◌, ◌*◌, ◌≤◌, ◌++◌, length}
-use Rattle.report_lines.specs.Cells.{items_text}
-use Rattle.report_lines.proofs.cell_lines.some_items.Given as goal
-
-abbrev pub invariant-loop-k : goal.invariant-loop-k
-invariant-loop-k l =
-    (l.line ≡ l.initial.line ++ items_text l.mask l.block l.k) × (length l.line ≤ 180 + 24 * l.k)

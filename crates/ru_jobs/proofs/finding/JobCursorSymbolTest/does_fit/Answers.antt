@@ -1,7 +1,0 @@
-use Rattle.ru_jobs.proofs.LeftLemmas.{left_at_start}
-use Rattle.ru_jobs.proofs.finding.JobCursorSymbolTest.does_fit.Goals as goal
-
-pub returns : goal.returns
-returns c =
-    left_at_start c.args.cells.now c.args.self.now c.args.place.now.ep c.args.place.now.endpoint.now c.args.place.now.slot c.args.m.now.symbol c.args.uplink.now c.args.m.now
-    c.has_left.result c.requires.lookup c.requires.is c.has_left.ensures

@@ -1,9 +1,0 @@
-use Rattle.symbol_search.specs.Searches.{InPlace}
-use Rattle.ru_jobs.proofs.LeftLemmas.{fits_since, none_in_place}
-use Rattle.ru_jobs.proofs.finding.JobCursorSymbolTest.earliest_at.Goals as goal
-
-pub returns-then-has_uplink_at : goal.returns-then-has_uplink_at
-returns-then-has_uplink_at c = fits_since c.args.cells.now c.args.self.now (InPlace c.args.cells.now c.args.ep c.args.index)
-
-pub returns-else-has_uplink_at : goal.returns-else-has_uplink_at
-returns-else-has_uplink_at c = none_in_place c.args.cells.now c.args.self.now c.args.ep c.args.index (c.has_uplink_at.ensures c.if-has_uplink_at.false)

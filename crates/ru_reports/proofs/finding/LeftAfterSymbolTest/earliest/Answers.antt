@@ -1,6 +1,0 @@
-use Rattle.symbol_search.specs.Symbols.{OfEndpoint}
-use Rattle.ru_reports.proofs.SearchLemmas.{due_fits}
-use Rattle.ru_reports.proofs.finding.LeftAfterSymbolTest.earliest.Goals as goal
-
-pub returns : goal.returns
-returns c = due_fits c.args.cells.now c.args.self.now.after.0 c.args.ep (λ slot. Unit {0}) (OfEndpoint c.args.ep) c.earliest.result (λ m of. (of, tt)) c.earliest.ensures

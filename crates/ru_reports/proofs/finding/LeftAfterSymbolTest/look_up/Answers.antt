@@ -1,8 +1,0 @@
-use Rattle.std.proofs.Common.{sym, ◌∙◌}
-use Rattle.ru_reports.proofs.SearchLemmas.{none_past}
-use Rattle.ru_reports.proofs.finding.LeftAfterSymbolTest.look_up.Goals as goal
-
-pub returns-then-is_past-clause-none : goal.returns-then-is_past-clause-none
-returns-then-is_past-clause-none c =
-    none_past c.args.cells.now c.args.self.now.after.0 c.args.place.now.ep c.args.place.now.endpoint.now c.args.place.now.slot c.requires.at
-    (sym c.is_past.ensures ∙ c.if-is_past.true)

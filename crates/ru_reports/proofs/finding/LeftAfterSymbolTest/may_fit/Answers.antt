@@ -1,9 +1,0 @@
-use Rattle.symbol_search.specs.Places.{start_in}
-use Rattle.ru_reports.proofs.SearchLemmas.{not_used}
-use Rattle.ru_reports.proofs.finding.LeftAfterSymbolTest.may_fit.Goals as goal
-
-pub returns : goal.returns
-returns c off =
-    let p = c.args.place.now in
-    not_used c.args.cells.now c.args.self.now.after.0 (start_in p c.args.symbol)
-    (c.is_pending.ensures off p.slot c.requires.place.index_is c.requires.place.has p.endpoint.now c.requires.place.at)

@@ -1,5 +1,0 @@
-pub mod Queues
-pub mod QueueLaws
-pub mod Outboxes
-pub mod Lending
-pub mod Waiting

@@ -1,4 +1,0 @@
-pub mod ListLemmas
-pub mod AcceptedLemmas
-pub mod HeardLemmas
-pub mod SilentLemmas

@@ -1,8 +1,0 @@
-pub mod Bounds
-pub mod Cut
-pub mod Elements
-pub mod Kept
-pub mod Ranges
-pub mod Same
-pub mod Whole
-pub mod Written

@@ -1,5 +1,0 @@
-use Rattle.sum_air.proofs.Bounds.{rises}
-use Rattle.sum_air.proofs.runs.Run.with.Goals as goal
-
-pub grown-requires-clause-rises : goal.grown-requires-clause-rises
-grown-requires-clause-rises c = rises c.args.self.now c.args.c.now c.requires

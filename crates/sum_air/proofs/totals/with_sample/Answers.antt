@@ -1,6 +1,0 @@
-use Rattle.std.proofs.Common.{arith}
-use Rattle.std.proofs.lemmas.Int.{ints, to_z-of_z}
-use Rattle.sum_air.proofs.totals.with_sample.Goals as goal
-
-pub returns-clause-value : goal.returns-clause-value
-returns-clause-value c = grind (arith, ints, to_z-of_z)

@@ -1,3 +1,0 @@
-pub mod Symbols
-pub mod Places
-pub mod Searches

@@ -1,4 +1,0 @@
-pub mod DigitSteps
-pub mod Ladder
-pub mod Pairs
-pub mod Rows

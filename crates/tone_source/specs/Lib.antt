@@ -1,2 +1,0 @@
-pub mod Tones
-pub mod Steps

@@ -1,0 +1,12 @@
+pub mod OrderLemmas
+pub mod SymbolLemmas
+pub mod SearchLemmas
+pub mod DueSearch
+pub mod CountLemmas
+pub mod ReportedLemmas
+pub mod ReportLemmas
+pub mod LeftReports
+pub mod AfterLemmas
+pub mod LeftLemmas
+pub mod SortLemmas
+pub mod StepLemmas

@@ -1,3 +1,0 @@
-pub mod Streams
-pub mod Laws
-pub mod Runs

@@ -1,5 +1,0 @@
-pub mod JobLemmas
-pub mod MessageLemmas
-pub mod HandedLemmas
-pub mod LeavingLemmas
-pub mod GivenLemmas
