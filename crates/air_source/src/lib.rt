@@ -1,30 +1,19 @@
-//! What the units and the replay tell of a fronthaul, and the samples that they take from a closure.
+//! What the units and the replay tell of a fronthaul, the samples that they take, and the lines of a report.
 //!
-//! An [`Air`] hears events: cells that were reported, delays that were measured, frames that arrived,
-//! and counters. What it heard is said by its ghost members, so code over any air can prove that it
-//! told all its events, or a prefix of them and where the air stopped. A [`MemoryAir`] keeps its
-//! events. [`Samples`] keep a closure that answers I and Q at every resource element, beside what is
-//! known of it. A [`Link`] takes the frames of a unit with their times.
+//! An [`Air`] hears events: cells that were reported, delays that were measured, frames that arrived, and counters. What it heard is
+//! said by its ghost members, so code over any air can prove that it told all its events, or a prefix of them and where the air
+//! stopped. A [`MemoryAir`] keeps its events. An air over a sink holds the sink and what is owed to it side by side; [`tell`] and
+//! [`push_out`] take the two. A [`Link`] takes the frames of a unit with their times.
 //!
-//! What airs over a sink share: bytes that they owe to it, and the sink's faults told as an air tells them.
-//!
-//! Such an air holds the sink and what is owed to it side by side, since a struct that holds one that holds the reference
-//! would lose what became of the sink. [`tell`] and [`push_out`] take the two from it. They take no memory.
-//!
-//! Samples that are known everywhere: a seed and an amplitude give I and Q at every resource element
-//! (this project's profile).
-//!
-//! With seed e and amplitude A, from 1 to 32,768, the number of an element is
+//! [`Samples`] keep a closure that answers I and Q at every resource element, beside what is known of it. A [`Tone`] gives samples
+//! that are known everywhere (this project's profile). With seed e and amplitude A, from 1 to 32,768, the number of an element is
 //! `v = e + 1009 * id + 613 * (frame mod 256) + 409 * subframe + 307 * slot + 211 * symbol + 101 * prb + 17 * re`,
 //! its I is `(v mod 2A) - A` and its Q `((3v + 7) mod 2A) - A`.
 //!
-//! The lines of a report (this project's profile): a cell, a measured delay, and a counter, each as a
-//! text that takes no memory.
-//!
-//! Each line ends with a line feed, its words are parted by one space. Numbers are decimal without
-//! leading zeros, but an eAxC id has four and a mask three lower-case hexadecimal digits. A `put_` call
-//! writes where a line stands, and the call beside it answers a line of its own. A [`ReportLine`] writes what
-//! the lines of a symbol's cells have in common once.
+//! A line of a report (this project's profile) is a cell, a measured delay or a counter. It ends with a line feed, its words are
+//! parted by one space. Numbers are decimal without leading zeros, but an eAxC id has four and a mask three lower-case hexadecimal
+//! digits. A `put_` call writes where a line stands, and the call beside it answers a line of its own. A [`ReportLine`] writes what
+//! the lines of a symbol's cells have in common once. Tones and lines take no memory.
 #![tactic(auto)]
 
 mod airs;

@@ -1,5 +1,4 @@
-//! Tests of airs and of what they write, by the public calls of `air_source`, `air_source`, `air_source`, `air_source`, `report_airs`,
-//! `report_airs` and `report_airs`, which are proved without them.
+//! Tests of airs and of what they write, by the public calls of `air_source` and `report_airs`, which are proved without them.
 //!
 //! `built` makes what the tests need. `telling` has code over any air and any samples, and `line_air` an air of its own form, both with
 //! the contracts that callers of such code need.

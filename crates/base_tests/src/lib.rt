@@ -1,5 +1,5 @@
-//! Tests of bytes, lists and tables, by the public calls of `bfp_codec`, `fh_base`, `fh_base`, `fh_base`, `eaxc_map`,
-//! `fault_counters` and `window_config`, which are proved without them.
+//! Tests of bytes, lists and tables, by the public calls of `bfp_codec`, `fh_base`, `eaxc_map`, `fault_counters` and
+//! `window_config`, which are proved without them.
 #![tactic(auto)]
 
 #[cfg(test)]

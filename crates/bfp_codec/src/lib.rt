@@ -1,11 +1,9 @@
-//! Block floating point compression of PRBs (O-RAN.WG4.CUS, Annex A): 12 samples I, Q as a shared
-//! exponent and 24 mantissas of a few bits, or as 24 numbers of 16 bits where they are not compressed.
+//! Block floating point compression of PRBs (O-RAN.WG4.CUS, Annex A), and the bit fields of bytes in which every layout is written.
 //!
-//! Bit fields of bytes: the words in which every layout is written, and the calls that read and
-//! write whole bytes by them.
-//!
-//! Bits are counted from 0, the most significant bit of the first byte, as the tables of O-RAN,
-//! eCPRI and 3GPP count them, and a field has its most significant bit first.
+//! [`pack`] writes 12 samples I, Q as a shared exponent and 24 mantissas of a few bits, or as 24 numbers of 16 bits where they are
+//! not compressed, and [`unpack`] reads them. [`field_at`] reads a field of up to 128 bits at any place; [`number_at`] and
+//! [`put_number`] read and write up to 16 bytes, big endian. Bits are counted from 0, the most significant bit of the first
+//! byte, as the tables of O-RAN, eCPRI and 3GPP count them, and a field has its most significant bit first. Nothing takes memory.
 #![tactic(auto)]
 
 mod exponents;

@@ -2,12 +2,9 @@
 //!
 //! [`Plan::check`] tests the lines of a plan and takes all memory. [`Plan::next_frame`] lends the frames in their order, each
 //! written into one room: C-plane commands of the lines, and fragments of the downlink U-plane messages with a source's samples.
-//! The plan, its tests and the order of frames are this project's profile; layouts and windows are those of O-RAN.WG4.CUS.
-//!
-//! The messages of a whole plan in one queue, and a table that gives each of them its parts.
-//!
-//! [`Table::make`] makes both for a valid plan: the parts of each endpoint's streams are sorted once and gone over once.
-//! [`Table::message`] lends the parts of the message of a frame that the queue gave.
+//! Below it [`Table::make`] makes for a valid plan a queue of all its messages and a table of their parts, and [`Table::message`]
+//! lends the parts of the message of a frame. The plan, its tests and the order of frames are this project's profile; layouts and
+//! windows are those of O-RAN.WG4.CUS.
 #![tactic(auto)]
 
 mod keeping;

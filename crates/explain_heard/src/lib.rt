@@ -1,9 +1,8 @@
 //! A listener that keeps what a unit judges of a frame, as small values: what the lines and the reasons of an explanation need of it.
 //!
-//! A [`Hearing`] cannot fail: where memory is refused it notes that and keeps no more, and what it has then says nothing.
-//!
-//! The lines of what a unit judged of a part of a frame, but for what they say of earlier ones: which section an overlapping one clashes
-//! with, and how many PRBs had no block before, are given to them.
+//! A [`Hearing`] cannot fail: where memory is refused it notes that and keeps no more, and what it has then says nothing. The lines of
+//! these values are made here too, but for what they say of earlier ones: which section an overlapping one clashes with, and how many
+//! PRBs had no block before, are given to them.
 #![tactic(auto)]
 
 mod building;

@@ -1,10 +1,6 @@
-//! Laws of explanations.
+//! Laws of explanations: their lines are what the units judge and count, and no accepted section names a silent element.
 //!
-//! There are no functions: a law is stated in `specs/` and proved as a lemma in `proofs/`.
-//!
-//! No accepted section names a silent element: a law of whole replays.
-//!
-//! The function here does nothing: its contract is its law.
+//! A law is stated in `specs/` and proved as a lemma in `proofs/`. [`no_accepted_names_silent`] does nothing, and has one as its contract.
 #![tactic(auto)]
 
 mod silent;

@@ -1,6 +1,5 @@
-//! What waits in memory until the end of a replay, and why a cell is missing or an element silent by it.
-//!
-//! The lines at the end of an explanation that say why cells are missing.
+//! What waits in memory until the end of a replay, why a cell is missing or an element silent by it, and the lines at the end of an
+//! explanation that say why cells are missing ([`tell_missing`]).
 #![tactic(auto)]
 
 mod commands;

@@ -2,14 +2,11 @@
 //!
 //! [`read`] answers what a document says, or its first line that is refused and the first reason for that. The grammar is a
 //! definition on the bytes of the text, and the answer is exactly the grammar's. Lines are read one by one, and of a line only the
-//! bytes of an injected frame take memory.
+//! bytes of an injected frame take memory. [`write`] writes a document from a seed and a number of slots. By laws of the grammar,
+//! stated in `specs/` and proved as lemmas in `proofs/`, what a program wrote is read back.
 //!
 //! Beside the grammar stand the lines of a report ([`cell_line`], [`delay_line`], [`count_line`]) and the samples that a [`Tone`]
-//! gives.
-//!
-//! Laws of the grammar of documents: what a program wrote is read back. Who writes documents cites them.
-//!
-//! There are no functions: a law is stated in `specs/` and proved as a lemma in `proofs/`.
+//! gives, of `air_source`.
 #![tactic(auto)]
 
 mod config_lines;

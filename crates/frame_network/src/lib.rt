@@ -1,15 +1,9 @@
-//! The frames in flight to the units of a fronthaul, the earliest first, and which listed frame lands next.
+//! The frames in flight to the units of a fronthaul, which listed frame is received next, and a unit's frames that wait to leave.
 //!
-//! A [`Network`] holds [`Arrival`]s: a frame, the unit that it comes to, and the time in ticks. It
-//! gives them back by their times, and at one time those to the radio unit first, those that were
-//! sent before those that were injected, and then in the order of their ways.
-//!
-//! A document lists frames with times in any order. A replay takes them by time, those of one time in the order of the
-//! list, and looks at each time once. A [`LandingQueue`] sorts them once, when it is made, and then only moves on.
-//!
-//! The memory of a frame that landed goes to a [`FramePool`], from which the next ones take it.
-//!
-//! The frames that a unit handed over and that wait for the times at which they leave.
+//! A [`Network`] holds [`Arrival`]s: a frame, the unit that it comes to, and the time in ticks of 1/1536 ns. It gives them back by
+//! their times, and at one time those to the radio unit first, those that were sent before those that were injected, and then in the
+//! order of their ways. A [`LandingQueue`] sorts the frames that a document lists once, by time, those of one time in the order of
+//! the list. The memory of a received frame goes to a [`FramePool`], from which the next ones take it.
 //!
 //! A unit hands its frames to an [`Outbox`], in the order in which it makes them. A [`SendQueue`] takes them from there and gives them
 //! back in the order in which they are sent: by time, at one time by endpoint, and those of an endpoint as they were handed over

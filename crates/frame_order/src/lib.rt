@@ -1,13 +1,9 @@
 //! The frames of many messages in one order: time, endpoint, stream, number and subsequence.
 //!
-//! A [`Queue`] holds one [`Run`] for each message that has frames left, in a heap that is made with
-//! its room. [`Queue::next`] gives the first frame of all and puts its message back at the next one,
-//! so it takes no memory and cannot fail.
-//!
-//! The frames of a plan in the order of a queue.
-//!
-//! [`sent_is_in_order`] says that the frames that `plan_model` lists tick by tick are all frames of all messages, in the order in which
-//! a queue of these messages gives them. [`queue_of`] makes the queue.
+//! A [`Queue`] holds one [`Run`] for each message that has frames left, in a heap that is made with its room; [`queue_of`] makes one
+//! of a list of messages. [`Queue::next`] gives the first frame of all and puts its message back at the next one, so it takes no
+//! memory and cannot fail. [`sent_is_in_order`] says that the frames that `plan_model` lists tick by tick are all frames of all
+//! messages, in this order. Times are ticks of 1/1536 ns.
 #![tactic(auto)]
 
 mod filling_laws;

@@ -1,12 +1,6 @@
-//! Generated plans and documents are valid, and are read as they were written.
+//! A generated document is read as it was written, and its plan is valid, whatever its seed and its number of slots.
 //!
-//! The plan of a generated document is valid, of whatever number of slots.
-//!
-//! There are no functions: a law is stated in `specs/` and proved as a lemma in `proofs/`.
-//!
-//! A generated document is read, and its plan is valid, whatever its seed and its number of slots.
-//!
-//! Each law is the contract of a function that does nothing, stated in `specs/`.
+//! A law is stated in `specs/`. It is proved as a lemma in `proofs/`, or is the contract of a function here, which does nothing.
 #![tactic(auto)]
 
 mod documents;

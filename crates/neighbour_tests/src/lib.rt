@@ -1,5 +1,4 @@
-//! Tests of the neighbours by the public calls of `shared_cell`, `idle_spans`, `window_plan` and `window_plan`, which are proved
-//! without them.
+//! Tests of the neighbours by the public calls of `shared_cell`, `idle_spans` and `window_plan`, which are proved without them.
 //!
 //! `made` makes configurations, and `following` adds cells up and keeps what the calls require.
 #![tactic(auto)]

@@ -1,6 +1,8 @@
-//! The parts of a plan's messages in their order: a line in its first symbol for a command, in each of its symbols for data.
+//! The parts of a plan's messages in their order, and the messages that they make as a queue takes them.
 //!
-//! The messages of a plan's parts as a queue takes them: how the sections of a symbol are cut into messages, and when these leave.
+//! A [`TimedPart`] is a line in its first symbol for a command, in each of its symbols for data; [`parts_of`] lists those of a stream.
+//! [`stream_messages`] cuts them into messages by the [`Limits`] of the stream, one [`OpenMessage`] at a time, and says when these leave.
+//! Times are ticks of 1/1536 ns.
 #![tactic(auto)]
 
 mod cutting;

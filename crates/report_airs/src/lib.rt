@@ -1,24 +1,13 @@
-//! The airs by which a program writes a report, its sums, its counters, or a capture.
+//! The airs by which a program writes a report, its counters, its summary, or a capture.
 //!
-//! Airs that write a report's lines to a sink: all of them, or the count lines alone.
+//! A [`TextAir`] writes each cell, measured delay and counter as a line of this project's profile, a [`CountAir`] the counters' lines
+//! alone. A [`CaptureAir`] writes each arrival as a record of `capture_records`. A [`SumAir`] writes a line for each run of cells
+//! that follow one another in one symbol of an endpoint, with rising PRBs: the number of elements shown, the sums of their I and of
+//! their Q and the number of missing cells. After the runs it has a line for each unit that measured delays, and then the counters.
 //!
-//! A [`TextAir`] is an `Air`: what it hears it writes as a line of this project's profile, a cell, a
-//! measured delay or a counter. A [`CountAir`] writes the counters' lines alone. Each collects lines in
-//! a buffer of its own and hands them on in large pieces, so the sink holds a front part of the text
-//! until `finish` writes the rest and the line `end`. Neither takes memory.
-//!
-//! An air that writes the frames that arrive as the records of a capture.
-//!
-//! A [`CaptureAir`] is an `Air`: each arrival that it hears is a record of `capture_records`, and of all else it writes
-//! nothing. It owes the magic from the beginning and hands its bytes on in large pieces, so the sink holds a front part of
-//! the capture until `finish` writes the rest. It takes no memory.
-//!
-//! An air that writes a summary: a line for each run of cells in place of the cells' lines.
-//!
-//! A [`SumAir`] is an `Air`. The cells of one symbol of an endpoint that follow one another with rising PRBs are a run, which
-//! has one line with the number of elements shown, the sums of their I and of their Q and the number of missing cells.
-//! Behind the runs stands a line for each unit that measured delays, then the counters and the line `end`. Its memory is
-//! that of the last 16 results of each unit, which [`Sums::make`] takes.
+//! Each collects its bytes and hands them on in large pieces, so the sink holds a front part of the text until `finish` writes the
+//! rest, and but for a capture the line `end`. None takes memory but that of the last 16 results of each unit, which
+//! [`Sums::make`] takes.
 #![tactic(auto)]
 
 mod capture_air;

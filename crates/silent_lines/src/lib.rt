@@ -1,6 +1,4 @@
-//! The lines at the end of an explanation that say why elements of a plan are silent.
-//!
-//! What is known of the lines of a valid plan when its silent elements are told.
+//! The lines at the end of an explanation that say why elements of a plan are silent, and what is known of a valid plan's lines for them.
 #![tactic(auto)]
 
 mod items;

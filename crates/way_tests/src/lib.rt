@@ -1,5 +1,5 @@
-//! Tests of what stands between both units, by the public calls of `frame_network`, `frame_network`, `frame_ways`, `unit_meters`,
-//! `unit_moments`, `delay_exchange` and `frame_deliveries`, which are proved without them.
+//! Tests of what stands between both units, by the public calls of `frame_network`, `frame_ways`, `unit_meters`, `unit_moments`,
+//! `delay_exchange` and `frame_deliveries`, which are proved without them.
 #![tactic(auto)]
 
 #[cfg(test)]
