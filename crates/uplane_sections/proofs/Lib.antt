@@ -3,6 +3,7 @@ pub mod Behind
 pub mod Told
 pub mod Histories
 pub mod Runs
+pub mod Other
 pub mod Words
 pub mod Back
 pub mod Worked

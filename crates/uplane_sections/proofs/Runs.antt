@@ -1,6 +1,6 @@
 -- Runs of whole PRBs, and bytes that are passed.
-use Rattle.std.proofs.Common.{◌≡◌, ℕ, zero, suc, ◌+◌, ◌-◌, ◌*◌, ◌/◌, min, ◌<◌, ◌≤◌, List, [], ◌∷◌, ◌++◌, length, take, drop, refl, sym, ap, ◌∙◌, arith, append_assoc, length-drop}
-use Rattle.std.proofs.lemmas.List.{length-take-le, take-append-drop}
+use Rattle.std.proofs.Common.{◌≡◌, ℕ, zero, suc, ◌+◌, ◌-◌, ◌*◌, ◌/◌, min, ◌<◌, ◌≤◌, List, [], ◌∷◌, ◌++◌, length, take, drop, refl, sym, ap, ◌∙◌, arith, append_assoc, length-append, length-drop}
+use Rattle.std.proofs.lemmas.List.{length-take-le, take_at, take-append-drop}
 use Rattle.std.proofs.lemmas.Bool.{le-ltb}
 use Rattle.std.proofs.Math.Nat.{mul-le-mul_right}
 use Rattle.std.proofs.Math.Seq.{take-add}
@@ -68,6 +68,18 @@ module _ (format : Format) (prbs : ℕ) (shape : Shape) where
       (ap (in_blocks format prbs shape method symbol start prb left) (sym (append_assoc (take there held) xs rest))
       ∙ block_step_at format prbs shape method symbol start prb left front rest some (len ∙ size_is)
       ∙ ap (λ (t : Telling). after (Block prb (unpacked_of method front) ∷ []) t) (leads (start + length_of method) rest))
+
+  -- the same, where its bytes stand first in what is kept
+  pub joined_tells : (phase next : Phase) (method : Method) (symbol start prb left size there : ℕ) (held xs behind kept rest : List ℕ) → phase ≡ Inside method symbol prb left → 1 ≤ left
+      → size ≡ length_of method → length (take there held ++ xs) ≡ size → kept ≡ take there held ++ xs ++ behind
+      → ((at : ℕ) (more : List ℕ) → in_blocks format prbs shape method symbol at (prb + 1) (left - 1) more ≡ resumed format prbs shape next at more)
+      → resumed format prbs shape phase start (take there held ++ (xs ++ rest)) ≡ after (blocks method prb 1 kept) (resumed format prbs shape next (start + size) rest)
+  joined_tells phase next method symbol start prb left size there held xs behind kept rest is some size_is len kept_is leads =
+      let front = take there held ++ xs in
+      let first : take (length_of method) kept ≡ front = ap (take (length_of method)) kept_is ∙ take_at front behind (length_of method) (len ∙ size_is) in
+      let all : length kept ≡ length front + length behind = ap length kept_is ∙ length-append front behind in
+      let room : length_of method ≤ length kept = omega arith in
+      rw (le-ltb (length kept) (length_of method) room, first) (block_tells phase next method symbol start prb left size there held xs rest is some size_is len leads)
 
 -- as many whole PRBs as the bytes have
 pub run_within : (n left size len : ℕ) → 0 < size → n ≡ min (len / size) left → n * size ≤ len

@@ -1,5 +1,5 @@
 -- What a walker tells of the bytes that come.
-use Rattle.std.specs.Prelude.{◌≡◌, ℕ, ◌+◌, ◌/◌, ◌<◌, ◌==◌, min, if◌then◌else◌, List, [], ◌++◌, length, take, false, Option, Some, None, Result, Ok, Err}
+use Rattle.std.specs.Prelude.{◌≡◌, ℕ, ◌+◌, ◌/◌, ◌<◌, ◌==◌, min, if◌then◌else◌, List, [], ◌∷◌, ◌++◌, length, take, false, Option, Some, None, Result, Ok, Err}
 use Rattle.fh_time.specs.declared.values.Shape.{Shape}
 use Rattle.bfp_codec.specs.declared.methods.Format.{Format}
 use Rattle.bfp_codec.specs.Layout.{length_of}
@@ -8,12 +8,16 @@ use Rattle.uplane_sections.specs.declared.values.URefusal.{URefusal}
 use Rattle.uplane_sections.specs.declared.values.UWhy.TheVariants.{Truncated}
 use Rattle.uplane_sections.specs.declared.steps.UFeed.{UFeed}
 use Rattle.uplane_sections.specs.declared.steps.UFeed.TheVariants as feed
-use Rattle.uplane_sections.specs.Messages.{Item, Telling, refused, after, told}
+use Rattle.uplane_sections.specs.Messages.{Item, Block, Telling, refused, after, told}
 use Rattle.uplane_sections.specs.Phases.{resumed, is_cut, method_in_phase, prbs_to_come}
 
 -- how many bytes it has used
 abbrev pub used_by : UWalker → ℕ
 used_by w = w.start + w.there
+
+-- the bytes that it keeps: those of the unit that was joined last, until more come
+abbrev pub held_by : UWalker → List ℕ
+held_by w = w.held
 
 -- what it tells of the bytes that come, up to the end of the message
 abbrev pub tells : UWalker → List ℕ → Telling
@@ -49,6 +53,15 @@ UsesAll piece used _ = Unit {0}
 -- nothing that comes changes what it tells
 abbrev pub IsOver : UWalker → Type 0
 IsOver w = (rest : List ℕ) → tells w rest ≡ tells w []
+
+-- the first of these items, if there is one, is no PRB
+abbrev pub BeginsWithout : List Item → Type 0
+BeginsWithout (Block prb samples ∷ items) = ⊥
+BeginsWithout _ = Unit {0}
+
+-- whatever comes, no PRB is told next
+abbrev pub BeginsOtherwise : UWalker → Type 0
+BeginsOtherwise w = (rest : List ℕ) → BeginsWithout (tells w rest).items
 
 -- Of these bytes old tells some items, and of any that come after what new tells; so over all of them it tells the
 -- refusal that new tells over those that come after.

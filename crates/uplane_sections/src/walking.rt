@@ -47,7 +47,7 @@ impl UWalker {
     ghost use Rattle.bfp_codec.specs.declared.methods.Format.{Format as SpecFormat};
     ghost use Rattle.uplane_sections.specs.Messages.{told, after, blocks};
     ghost use Rattle.uplane_sections.specs.Phases.{Stops, feed_told, resumed, is_cut};
-    ghost use Rattle.uplane_sections.specs.States.{used_by, tells, refusal_of, run_of, Tells, Passes, IsOver, Answers, UsesAll, StandsBehind};
+    ghost use Rattle.uplane_sections.specs.States.{used_by, tells, held_by, refusal_of, run_of, Tells, Passes, IsOver, Answers, UsesAll, StandsBehind, BeginsOtherwise};
 
     /// A walker at the start of a message in this format, on a carrier of `prbs` PRBs, where `shape`
     /// says how many symbols a slot and how many slots a subframe has.
@@ -260,6 +260,80 @@ impl UWalker {
             }
             _ => none,
         }
+    }
+
+    /// Takes what the packed PRB of a section that comes next still wants, or all that is there. Where it is complete then, one is
+    /// counted, and `joined` lends its bytes: it is not unpacked. None is used where another unit comes next.
+    pub fn join(&mut self, piece: &[u8]) -> URun
+        requires some { 0 < length piece.now }
+        requires fits { used_by self.old + length piece.now ≤ usize.MAX }
+        ensures most { result.count ≤ 1 }
+        ensures width { HasWidth result.method }
+        ensures within { result.used ≤ length piece.now }
+        ensures used { used_by self.new ≡ used_by self.old + result.used }
+        ensures tells { Tells self.old self.new (take result.used piece.now) (blocks result.method result.prb result.count (held_by self.new)) }
+        ensures other { result.used ≡ 0 → BeginsOtherwise self.old }
+    {
+        match self.phase {
+            Phase::Inside {
+                method,
+                symbol,
+                prb,
+                left,
+            } => self.join_block(method, symbol, prb, left, piece),
+            _ => URun {
+                method: Method::Plain,
+                prb: 0,
+                count: 0,
+                used: 0,
+            },
+        }
+    }
+
+    /// The same where a PRB comes next.
+    fn join_block(&mut self, method: Method, symbol: u8, prb: u16, left: u16, piece: &[u8]) -> URun
+        requires some { 0 < length piece.now }
+        requires fits { used_by self.old + length piece.now ≤ usize.MAX }
+        requires inside { self.old.phase ≡ Phase.Inside method symbol prb left }
+        ensures most { result.count ≤ 1 }
+        ensures method { result.method ≡ method }
+        ensures some { 0 < result.used }
+        ensures within { result.used ≤ length piece.now }
+        ensures used { used_by self.new ≡ used_by self.old + result.used }
+        ensures tells { Tells self.old self.new (take result.used piece.now) (blocks result.method result.prb result.count (held_by self.new)) }
+    {
+        let there = self.there;
+        let unit = block_len(method);
+        let want = unit - there;
+        if piece.len() < want {
+            self.hold(piece);
+            return URun {
+                method,
+                prb,
+                count: 0,
+                used: piece.len(),
+            };
+        }
+        write_at(&mut self.held, there, &piece[..want]);
+        let next = prb + 1;
+        self.phase = inside(method, symbol, next, left - 1);
+        self.start += unit;
+        self.there = 0;
+        URun {
+            method,
+            prb,
+            count: 1,
+            used: want,
+        }
+    }
+
+    /// The bytes of the packed PRB that `join` counted last, by its method, until more bytes come.
+    pub fn joined(&self, method: Method) -> &[u8]
+        requires { HasWidth method }
+        ensures bytes { result.now ≡ take (length_of method) (held_by self.now) }
+        ensures len { length result.now ≡ length_of method }
+    {
+        &self.held[..block_len(method)]
     }
 
     /// Goes over the next bytes of the message as `feed` does, and tells nothing of them: no PRB is
