@@ -3,9 +3,10 @@ use Rattle.std.proofs.Common.{◌≡◌, ◌≢◌, subst, ℕ, zero, suc, ◌+�
 use Rattle.std.proofs.lemmas.List.{take-append-drop, take_all, drop-drop, length-take, get_or_past}
 use Rattle.std.proofs.Math.Seq.{drop-cons}
 use Rattle.std.proofs.Math.ListN.{drop_of_length-le}
+use Rattle.bfp_codec.specs.declared.methods.Method.{Method}
 use Rattle.uplane_sections.specs.declared.walking.UWalker.{UWalker}
 use Rattle.uplane_sections.specs.declared.values.URefusal.{URefusal}
-use Rattle.uplane_sections.specs.Messages.{Item, Telling, after, refused}
+use Rattle.uplane_sections.specs.Messages.{Item, Telling, after, blocks, refused}
 use Rattle.uplane_sections.specs.declared.steps.UFeed.{UFeed}
 use Rattle.uplane_sections.specs.declared.steps.UFeed.TheVariants as feed
 use Rattle.uplane_sections.specs.Phases.{feed_told}
@@ -146,6 +147,11 @@ nothing_ends before new rest is none =
       refusal = ap (λ (t : Telling). t.refusal) (sym is);
       end = e;
     }
+
+-- where no PRB became complete nothing was told
+pub none_joined : (method : Method) (prb n : ℕ) (kept : List ℕ) (before t : Telling) → n ≡ 0 → before ≡ after (blocks method prb n kept) t → before ≡ t
+none_joined method prb zero kept before t none is = is
+none_joined method prb (suc n) kept before t none is = absurd (omega arith)
 
 -- any other answer that tells something tells one item
 pub one_told : (what : UFeed) → what ≢ feed.More → ((r : URefusal) → what ≢ feed.Refused r) → length (feed_told what) ≡ 1

@@ -1,13 +1,14 @@
 -- What a walk over a message has left to tell.
-use Rattle.std.specs.Prelude.{◌≡◌, ℕ, ◌+◌, List, [], ◌∷◌, ◌++◌, length, drop, Option, MatchOption}
+use Rattle.std.specs.Prelude.{◌≡◌, ℕ, ◌+◌, List, [], ◌∷◌, ◌++◌, length, drop, Option, Some, None, MatchOption}
 use Rattle.uplane_sections.specs.declared.values.URefusal.{URefusal}
 use Rattle.uplane_sections.specs.declared.steps.UFeed.{UFeed}
 use Rattle.uplane_sections.specs.Messages.{Item, Telling, blocks}
 use Rattle.uplane_sections.specs.Phases.{feed_told}
-use Rattle.uplane_sections.specs.States.{tells, run_of}
+use Rattle.uplane_sections.specs.States.{tells, held_by, run_of}
 use Rattle.ecpri_fragments.specs.declared.assembly.Lease.{Lease}
 use Rattle.uplane_messages.specs.declared.walk.DataWalk.{DataWalk}
 use Rattle.uplane_messages.specs.declared.run.DataRun.{DataRun}
+use Rattle.uplane_messages.specs.declared.run.JoinedPrb.{JoinedPrb}
 use Rattle.uplane_messages.specs.Joined.{pieces_of, piece_of, bytes_from}
 
 -- the message that it goes over
@@ -65,5 +66,20 @@ run_in walk = run_of walk.walker (length (next_part walk))
 -- same refusal
 pub record GivesRun (s : DataWalk) (r : DataRun) (t : DataWalk) : Type 0 where
   pub first : left_of s ≡ blocks r.method r.prb r.count r.packed.now ++ left_of t
+  pub refusal : refusal_of t ≡ refusal_of s
+  pub lease : lease_of t ≡ lease_of s
+
+-- the bytes that it keeps: those of the PRB that was joined last
+abbrev pub kept_by : DataWalk → List ℕ
+kept_by walk = held_by walk.walker
+
+-- what a joined PRB tells, where the bytes that are kept begin with its own
+abbrev pub joined_told : Option JoinedPrb → List ℕ → List Item
+joined_told None kept = []
+joined_told (Some joined) kept = blocks joined.method joined.prb 1 kept
+
+-- a call from s gave this PRB, which was left first, or none, and led to t, which goes over the same message to the same refusal
+pub record GivesJoined (s : DataWalk) (r : Option JoinedPrb) (t : DataWalk) : Type 0 where
+  pub first : left_of s ≡ joined_told r (kept_by t) ++ left_of t
   pub refusal : refusal_of t ≡ refusal_of s
   pub lease : lease_of t ≡ lease_of s

@@ -1,4 +1,4 @@
-//! A run of packed PRBs.
+//! Packed PRBs of a section.
 use bfp_codec::Method;
 
 /// The packed PRBs of a section that come next and lie whole in one piece of the message, one behind the other.
@@ -12,4 +12,13 @@ pub struct DataRun<'a> {
     pub count: u16,
     /// All their bytes, where they stand in the piece.
     pub packed: &'a [u8],
+}
+
+/// A packed PRB of a section that the pieces cut.
+#[derive(Clone, Copy)]
+pub struct JoinedPrb {
+    /// How it is packed.
+    pub method: Method,
+    /// Its number on the carrier.
+    pub prb: u16,
 }

@@ -5,7 +5,7 @@ ghost use Rattle.uplane_sections.specs.States.{used_by};
 ghost use Rattle.uplane_sections.specs.Messages.{told};
 ghost use Rattle.uplane_messages.specs.Joined.{pieces_of, piece_of, bytes_from};
 
-use crate::run::DataRun;
+use crate::run::{DataRun, JoinedPrb};
 use bfp_codec::{Format, Method};
 use ecpri_fragments::Lease;
 use fh_time::Shape;
@@ -27,8 +27,9 @@ pub struct DataWalk<'a> {
 
 impl<'a> DataWalk<'a> {
     ghost use Rattle.uplane_messages.specs.Joined.{message_bytes};
-    ghost use Rattle.std.specs.Prelude.{IfNone};
-    ghost use Rattle.uplane_messages.specs.Left.{lease_of, left_of, next_part, refusal_of, run_in, telling_of, GivesItem, GivesRun, IsAtEnd};
+    ghost use Rattle.std.specs.Prelude.{take, IfNone, IfSome};
+    ghost use Rattle.uplane_messages.specs.Left.{lease_of, left_of, next_part, refusal_of, run_in, telling_of, kept_by, GivesItem, GivesJoined, GivesRun, IsAtEnd};
+    ghost use Rattle.uplane_sections.specs.States.{BeginsWithout};
 
     /// A walk from the start of the message, in this format, on a carrier of `prbs` PRBs, where
     /// `shape` says how many symbols a slot and how many slots a subframe has.
@@ -116,6 +117,44 @@ impl<'a> DataWalk<'a> {
             count: run.count,
             packed: &piece[from..from + run.used],
         }
+    }
+
+    /// The packed PRB of a section that comes next, wherever the pieces cut it: it is given by this call, and `joined` lends its
+    /// bytes. None where another item comes next, which `next` gives, and where the message ends inside of it.
+    pub fn join(&mut self) -> Option<JoinedPrb>
+        ensures gives { GivesJoined self.old result self.new }
+        ensures width { IfSome result (λ joined. HasWidth joined.method) }
+        ensures none { IfNone result (BeginsWithout (left_of self.old)) }
+    {
+        while self.piece < self.lease.count() {
+            let piece = self.lease.piece(self.piece);
+            if self.at < piece.len() {
+                let step = self.walker.join(&piece[self.at..]);
+                self.at += step.used;
+                if step.count > 0 {
+                    return Some(JoinedPrb {
+                        method: step.method,
+                        prb: step.prb,
+                    });
+                }
+                if step.used == 0 {
+                    return None;
+                }
+            } else {
+                self.piece += 1;
+                self.at = 0;
+            }
+        }
+        None
+    }
+
+    /// The bytes of the PRB that `join` gave last, packed by its method, until the walk goes on.
+    pub fn joined(&self, method: Method) -> &[u8]
+        requires { HasWidth method }
+        ensures bytes { result.now ≡ take (length_of method) (kept_by self.now) }
+        ensures len { length result.now ≡ length_of method }
+    {
+        self.walker.joined(method)
     }
 
     /// The next item, from the piece at hand or a later one.
