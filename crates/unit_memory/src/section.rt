@@ -21,9 +21,8 @@ use fault_counters::Counters;
 use unit_cells::{DataHeading, UnitCells};
 use unit_model::data_counter;
 use uplane_messages::DataWalk;
-use uplane_sections::UFeed;
 
-/// Gives the cell of PRB number `k` of a section its block, which comes next.
+/// Gives the cell of PRB number `k` of a section its block, which comes next and which the pieces cut.
 fn fill_one(cells: &mut UnitCells, heading: &DataHeading, k: u16, walk: &mut DataWalk<'_>)
     requires heading { IsProperHeading cells.old.side (endpoints_of cells.old) heading.now }
     requires within { k < data_prb_count (data_under heading.now []) }
@@ -34,9 +33,9 @@ fn fill_one(cells: &mut UnitCells, heading: &DataHeading, k: u16, walk: &mut Dat
     ensures delays { cells.new.delays ≡ cells.old.delays }
     ensures endpoints { endpoints_of cells.new ≡ endpoints_of cells.old }
 {
-    match walk.next() {
-        Some(UFeed::Block { samples, .. }) => cells.fill(heading, k, &samples),
-        _ => unreachable!(),
+    match walk.join() {
+        Some(prb) => cells.fill_run(heading, k, prb.method, 1, walk.joined(prb.method)),
+        None => unreachable!(),
     }
 }
 
