@@ -22,6 +22,7 @@ pub(crate) struct Told {
 }
 
 /// A test fails, but not for the end of the message.
+#[inline(always)]
 fn refused(place: usize, why: UWhy) -> Told
     requires { is_cut why ≡ false }
     ensures what { result.what ≡ UFeed.Refused (record { place = place; why = why }) }
@@ -35,6 +36,7 @@ fn refused(place: usize, why: UWhy) -> Told
 }
 
 /// The message's header.
+#[inline(always)]
 pub(crate) fn head(shape: Shape, at: usize, bytes: &[u8]) -> Told
     requires { length bytes.now ≡ 4 }
     ensures tells { (format : SpecFormat) (prbs : ℕ) (rest : List ℕ) → resumed format prbs shape Phase.Start at (bytes.now ++ rest)
@@ -57,6 +59,7 @@ pub(crate) fn head(shape: Shape, at: usize, bytes: &[u8]) -> Told
 }
 
 /// The first four bytes of a section.
+#[inline(always)]
 pub(crate) fn section(
     format: Format,
     prbs: u16,
@@ -96,6 +99,7 @@ pub(crate) fn section(
 }
 
 /// The compression header of a section.
+#[inline(always)]
 pub(crate) fn compression(prbs: u16, s: USection, at: usize, bytes: &[u8]) -> Told
     requires two { length bytes.now ≡ 2 }
     requires behind { 4 ≤ at }

@@ -134,6 +134,7 @@ impl UWalker {
     /// Takes the next bytes of the message, one or more, and answers how many it used and what they
     /// tell. At least one is used unless the message is refused. The caller feeds the rest of the
     /// piece, and what comes after, in further calls.
+    #[inline(always)]
     pub fn feed(&mut self, piece: &[u8]) -> UStep
         requires some { 0 < length piece.now }
         requires fits { used_by self.old + length piece.now ≤ usize.MAX }
@@ -154,6 +155,7 @@ impl UWalker {
 
     /// Steps until something is told or all is used: behind the first four bytes of a section nothing
     /// is told before its compression header.
+    #[inline(always)]
     fn advance(&mut self, piece: &[u8]) -> UStep
         requires some { 0 < length piece.now }
         requires fits { used_by self.old + length piece.now ≤ usize.MAX }
