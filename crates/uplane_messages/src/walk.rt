@@ -158,6 +158,7 @@ impl<'a> DataWalk<'a> {
     }
 
     /// The next item, from the piece at hand or a later one.
+    #[inline(always)]
     fn advance(&mut self) -> Option<UFeed>
         ensures gives { GivesItem self.old result self.new }
         ensures end { IfNone result (IsAtEnd self.new) }
@@ -191,6 +192,7 @@ impl<'a> Iterator for DataWalk<'a> {
 
     ghost remaining = { item_count left_of };
 
+    #[inline(always)]
     fn next(&mut self) -> Option<UFeed> {
         self.advance()
     }
