@@ -1,20 +1,23 @@
 -- The words that are kept of a line.
-use Rattle.std.proofs.Common.{◌≡◌, ◌↔◌, ℕ, ◌<◌, ◌≤◌, List, [], ◌∷◌, ◌++◌, length, map, take, get_or, refl, sym, ap, ◌∙◌, arith, min, inl, inr, append_assoc}
-use Rattle.std.specs.Prelude.{Result, Ok, Err, IsOk, OnOk, OnErr}
-use Rattle.std.proofs.lemmas.Bool.{cases_lt}
-use Rattle.std.proofs.lemmas.List.{get_or-map, get_or-take, get_or_past, length-map, length-take, map-append, take-append-le, take_all, length_push, append-nil}
+use Rattle.std.proofs.Common.{◌≡◌, ℕ, ◌+◌, ◌<◌, ◌≤◌, List, [], ◌∷◌, ◌++◌, length, map, take, get_or, sym, ap, ◌∙◌, arith, min, append_assoc}
+use Rattle.std.specs.Prelude.{slice_set}
+use Rattle.std.proofs.lemmas.List.{get_or-map, get_or-take, get_or_past, length-map, length-take, map-append, take-append-le, take_all, take_more_set, append-nil}
 use Rattle.line_words.specs.declared.words.TheConstants.{KEPT}
 use Rattle.fh_base.specs.Numbers.{word_at}
 
 few_kept : {A : Type 0} (v : A → List ℕ) (xs : List A) (ws : List (List ℕ)) → map v xs ≡ take KEPT ws → length xs ≡ min KEPT (length ws)
 few_kept v xs ws is = sym (length-map xs v) ∙ ap length is ∙ length-take KEPT ws
 
-pub kept_word : {A : Type 0} (v : A → List ℕ) (xs : List A) (ws : List (List ℕ)) (i : ℕ) (d : A) → map v xs ≡ take KEPT ws → i < length xs → v (get_or xs i d) ≡ word_at ws i
-kept_word v xs ws i d is lt =
-    sym (get_or-map v xs i d [] lt) ∙ ap (λ l. get_or l i []) is ∙ get_or-take KEPT ws i [] (omega (arith, few_kept v xs ws is))
+pub kept_word : {A : Type 0} (v : A → List ℕ) (kept : List A) (count : ℕ) (ws : List (List ℕ)) (i : ℕ) (d : A) → count ≡ length ws → map v (take count kept) ≡ take KEPT ws
+    → i < count → i < KEPT → v (get_or kept i d) ≡ word_at ws i
+kept_word v kept count ws i d counted is lt low =
+    ap v (sym (get_or-take count kept i d lt))
+    ∙ sym (get_or-map v (take count kept) i d [] (omega (arith, few_kept v (take count kept) ws is, counted, lt, low)))
+    ∙ ap (λ l. get_or l i []) is
+    ∙ get_or-take KEPT ws i [] low
 
-pub no_word : {A : Type 0} (v : A → List ℕ) (xs : List A) (ws : List (List ℕ)) (i : ℕ) → map v xs ≡ take KEPT ws → i < KEPT → length xs ≤ i → [] ≡ word_at ws i
-no_word v xs ws i is low past = sym (get_or_past ws i [] (omega (arith, few_kept v xs ws is)))
+pub no_word : (count : ℕ) (ws : List (List ℕ)) (i : ℕ) → count ≡ length ws → count ≤ i → [] ≡ word_at ws i
+no_word count ws i counted past = sym (get_or_past ws i [] (omega (arith, counted, past)))
 
 -- ---- one word more
 
@@ -26,20 +29,18 @@ full_more v kept xs ys ge =
     let long : KEPT ≤ length (map v kept) = omega (arith, length-map kept v) in
     take-append-le KEPT (map v kept) xs long ∙ sym (take-append-le KEPT (map v kept) ys long)
 
-pub push_more : {A V T E : Type 0} (v : A → List ℕ) (items : V → List A) (kept next : V) (y : A) (r : Result T E) (ws : List (List ℕ))
-    → IsOk r ↔ (length (items kept) < KEPT) → OnOk r (items next ≡ items kept ++ y ∷ []) → OnErr r (next ≡ kept)
-    → take KEPT (map v (items next) ++ ws) ≡ take KEPT (map v (items kept) ++ v y ∷ ws)
-push_more v items kept next y (Ok t) ws when ok err = ap (λ l. take KEPT (map v l ++ ws)) ok ∙ ap (take KEPT) (room_more v (items kept) y ws)
-push_more v items kept next y (Err e) ws when ok err =
-    elim (cases_lt (length (items kept)) KEPT) [
-      | inl lt ↦ absurd (cc (when.1 lt))
-      | inr ge ↦ ap (λ k. take KEPT (map v (items k) ++ ws)) err ∙ full_more v (items kept) ws (v y ∷ ws) ge
-    ]
+-- where there is room
+pub set_more : {A : Type 0} (v : A → List ℕ) (kept : List A) (y : A) (count : ℕ) (ws : List (List ℕ)) → count < length kept
+    → take KEPT (map v (take (count + 1) (slice_set kept count y)) ++ ws) ≡ take KEPT (map v (take count kept) ++ v y ∷ ws)
+set_more v kept y count ws lt = ap (λ l. take KEPT (map v l ++ ws)) (take_more_set kept count y lt) ∙ ap (take KEPT) (room_more v (take count kept) y ws)
 
-pub push_few : {A V T E : Type 0} (items : V → List A) (kept next : V) (y : A) (r : Result T E) → length (items kept) ≤ KEPT
-    → IsOk r ↔ (length (items kept) < KEPT) → OnOk r (items next ≡ items kept ++ y ∷ []) → OnErr r (next ≡ kept) → length (items next) ≤ KEPT
-push_few items kept next y (Ok t) few when ok err = let lt : length (items kept) < KEPT = when.0 refl in omega (arith, ap length ok, length_push (items kept) y)
-push_few items kept next y (Err e) few when ok err = omega (arith, ap (λ k. length (items k)) err)
+-- where there is none
+pub none_more : {A : Type 0} (v : A → List ℕ) (kept : List A) (y : A) (count : ℕ) (ws : List (List ℕ)) → length kept ≡ KEPT → KEPT ≤ count
+    → take KEPT (map v (take (count + 1) kept) ++ ws) ≡ take KEPT (map v (take count kept) ++ v y ∷ ws)
+none_more v kept y count ws is ge =
+    ap (λ l. take KEPT (map v l ++ ws)) (take_all (count + 1) kept (omega (arith, is, ge)))
+    ∙ full_more v kept ws (v y ∷ ws) (omega (arith, is))
+    ∙ ap (λ l. take KEPT (map v l ++ v y ∷ ws)) (sym (take_all count kept (omega (arith, is, ge))))
 
 -- ---- all words
 

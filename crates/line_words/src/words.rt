@@ -1,28 +1,38 @@
 // The words of a line.
-ghost use Rattle.std.specs.Prelude.{◌≡◌, ℕ, ◌<◌, length, map, take, List};
+ghost use Rattle.std.specs.Prelude.{◌≡◌, ℕ, ◌+◌, ◌<◌, ◌∷◌, ◌++◌, length, map, take, List};
 ghost use Rattle.line_words.specs.Words.{words_of};
 ghost use Rattle.fh_base.specs.Numbers.{word_at};
 
 use crate::parts::cut_near;
-use arrayvec::ArrayVec;
 use std::marker::Model;
 
 /// How many words of a line are kept.
 pub const KEPT: usize = 20;
 
+/// Keeps a word behind so many others, where there is room for it.
+#[inline(always)]
+fn keep_word<'a>(word: &'a [u8], count: usize, kept: &mut [&'a [u8]; KEPT])
+    ensures size { length kept.new ≡ KEPT }
+    ensures word { (ws : List (List ℕ)) → take KEPT (map (λ x. x.now) (take (count + 1) kept.new) ++ ws)
+        ≡ take KEPT (map (λ x. x.now) (take count kept.old) ++ word.entry.now ∷ ws) }
+{
+    if count < KEPT {
+        kept[count] = word;
+    }
+}
+
 /// Keeps the first words of a line, in place of those that were kept, and answers how many words the line has.
 #[inline(always)]
-fn keep<'a>(line: &'a [u8], kept: &mut ArrayVec<&'a [u8], KEPT>) -> usize
+fn keep<'a>(line: &'a [u8], kept: &mut [&'a [u8]; KEPT]) -> usize
     ensures count { result ≡ length (words_of line.entry.now) }
-    ensures first { map (λ x. x.now) kept.new.items ≡ take KEPT (words_of line.entry.now) }
+    ensures first { map (λ x. x.now) (take result kept.new) ≡ take KEPT (words_of line.entry.now) }
 {
-    kept.clear();
     let mut count: usize = 0;
     let mut rest = Some(line);
     'words: while let Some(text) = rest {
         let (word, behind) = cut_near(b' ', text);
         if !word.is_empty() {
-            let _ = kept.try_push(word);
+            keep_word(word, count, kept);
             count += 1;
         }
         rest = behind;
@@ -37,8 +47,8 @@ fn keep<'a>(line: &'a [u8], kept: &mut ArrayVec<&'a [u8], KEPT>) -> usize
 #[derive(Drop)]
 pub struct Words<'a> {
     line: &'a [u8],
-    /// The first words.
-    kept: ArrayVec<&'a [u8], KEPT>,
+    /// The first words; what stands after the last of them is none.
+    kept: [&'a [u8]; KEPT],
     /// How many words there are.
     count: usize,
 }
@@ -53,7 +63,7 @@ impl<'a> Model for Words<'a> {
     ghost view = { λ w. words_of w.line.now };
 
     ghost invariant = { λ w. (w.count ≡ length (words_of w.line.now))
-        × (map (λ x. x.now) w.kept.items ≡ take KEPT (words_of w.line.now)) };
+        × (map (λ x. x.now) (take w.count w.kept) ≡ take KEPT (words_of w.line.now)) };
 }
 
 impl<'a> Words<'a> {
@@ -66,7 +76,7 @@ impl<'a> Words<'a> {
     {
         Words {
             line: &[],
-            kept: ArrayVec::new(),
+            kept: [&[]; KEPT],
             count: 0,
         }
     }
@@ -76,7 +86,7 @@ impl<'a> Words<'a> {
     pub fn of(line: &'a [u8]) -> Words<'a>
         ensures { result ≡ words_of line.entry.now }
     {
-        let mut kept = ArrayVec::new();
+        let mut kept: [&[u8]; KEPT] = [&[]; KEPT];
         let count = keep(line, &mut kept);
         Words { line, kept, count }
     }
@@ -104,8 +114,7 @@ impl<'a> Words<'a> {
         requires { i < KEPT }
         ensures { result.now ≡ word_at self.now i }
     {
-        let kept = self.kept.as_slice();
-        if i < kept.len() { kept[i] } else { b"" }
+        if i < self.count { self.kept[i] } else { b"" }
     }
 }
 

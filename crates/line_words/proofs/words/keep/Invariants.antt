@@ -8,8 +8,8 @@ abbrev pub invariant-words : goal.invariant-words
 invariant-words l = record {
   counted : l.count + length (words_left l.rest) ≡ length (words_of l.line);
   fits : l.count + left_length l.rest ≤ length l.line + 1;
-  kept : take KEPT (map (λ x. x.now) l.kept.items ++ words_left l.rest) ≡ take KEPT (words_of l.line);
-  few : length l.kept.items ≤ KEPT;
+  kept : take KEPT (map (λ x. x.now) (take l.count l.kept) ++ words_left l.rest) ≡ take KEPT (words_of l.line);
+  size : length l.kept ≡ KEPT;
 }
 
 abbrev pub decreases-words : goal.decreases-words
