@@ -43,6 +43,9 @@ fn generated_documents_are_read(rt: HostRuntime) -> Result<(), Fail> {
     assert_eq!(rt; d.deliveries.len(), 400);
     let delivery = d.deliveries.get(399).expect(&rt, "last");
     assert_eq!(rt; delivery.k, 4_000);
-    assert_eq!(rt; delivery.copies.as_slice(), [50_000, 60_000].as_slice());
+    assert_eq!(rt;
+        delivery.copies.times().as_slice(),
+        [50_000, 60_000].as_slice()
+    );
     Ok(())
 }

@@ -62,7 +62,7 @@ fn deliver_lines_say_what_becomes_of_a_frame(rt: HostRuntime) {
         (Side::Du, TrafficClass::M, 9_999_999)
     );
     assert_eq!(rt;
-        all.copies.as_slice(),
+        all.copies.times().as_slice(),
         [1, 2, 3, 4, 5, 6, 7, 3_000_000_000].as_slice()
     );
     let none = d.deliveries.get(1).expect(&rt, "second");
@@ -70,7 +70,7 @@ fn deliver_lines_say_what_becomes_of_a_frame(rt: HostRuntime) {
         (none.side, none.class, none.k),
         (Side::Ru, TrafficClass::U, 5)
     );
-    assert_eq!(rt; none.copies.as_slice().len(), 0);
+    assert_eq!(rt; none.copies.times().len(), 0);
 }
 
 #[test]
@@ -110,7 +110,7 @@ fn plans_and_deliveries_stand_in_their_order(rt: HostRuntime) {
         (copies.side, copies.class, copies.k),
         (Side::Du, TrafficClass::U, 7)
     );
-    assert_eq!(rt; copies.copies.as_slice(), [5, 6].as_slice());
+    assert_eq!(rt; copies.copies.times().as_slice(), [5, 6].as_slice());
     assert_eq!(rt; d.measures.len(), 0);
 }
 

@@ -53,7 +53,7 @@ fn times_of(words: &Words<'_>, low: u64) -> Option<Copies>
     let mut copies = Copies::new();
     for i in 4..words.len() {
         let ns = number_in(words.word(i), low, MOST_TRANSIT)?;
-        let _ = copies.push(ns as i64);
+        let _ = copies.push(ns as u32);
     }
     Some(copies)
 }

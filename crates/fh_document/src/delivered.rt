@@ -29,47 +29,69 @@ pub struct ListFull;
 /// How long each copy of a frame is on its way, in nanoseconds: at most eight times. Contracts see them as a list.
 #[derive(Drop)]
 pub struct Copies {
-    times: ArrayVec<i64, 8>,
+    /// The times; what stands after the last of them is none.
+    times: [u32; 8],
+    /// How many times there are.
+    count: u8,
 }
 
 impl Model for Copies {
-    ghost use Rattle.std.specs.Prelude.{ℤ, List as Items};
+    ghost use Rattle.std.specs.Prelude.{◌≡◌, ◌≤◌, ℤ, pos, List as Items, length, map, take};
 
     ghost Value = { Items ℤ };
 
-    ghost view = { λ c. c.times.items };
+    ghost view = { λ c. map pos (take c.count c.times) };
+
+    ghost invariant = { λ c. (c.count ≤ 8) × (length c.times ≡ 8) };
 }
 
 impl Copies {
-    ghost use Rattle.std.specs.Prelude.{◌≤◌, ◌↔◌, [], ◌∷◌, ◌++◌, length, IsErr, OnOk, OnErr};
+    ghost use Rattle.std.specs.Prelude.{◌↔◌, pos, [], ◌∷◌, ◌++◌, length, IsErr, OnOk, OnErr};
 
     /// No copy: the frame is lost.
     pub fn new() -> Copies
         ensures { result ≡ [] }
     {
         Copies {
-            times: ArrayVec::new(),
+            times: [0; 8],
+            count: 0,
         }
     }
 
     /// Appends a copy. An error exactly where eight are there, and nothing changes then.
-    pub fn push(&mut self, ns: i64) -> Result<(), ListFull>
+    pub fn push(&mut self, ns: u32) -> Result<(), ListFull>
         ensures full { IsErr result ↔ (length self.old ≡ 8) }
-        ensures ok { OnOk result (self.new ≡ self.old ++ ns ∷ []) }
+        ensures ok { OnOk result (self.new ≡ self.old ++ pos ns ∷ []) }
         ensures err { OnErr result (self.new ≡ self.old) }
     {
-        match self.times.try_push(ns) {
-            Ok(()) => Ok(()),
-            Err(_) => Err(ListFull),
+        let count = usize::from(self.count);
+        if count >= self.times.len() {
+            return Err(ListFull);
+        }
+        self.times[count] = ns;
+        self.count += 1;
+        Ok(())
+    }
+
+    /// The same times.
+    pub fn copied(&self) -> Copies
+        ensures { result ≡ self.now }
+    {
+        Copies {
+            times: self.times,
+            count: self.count,
         }
     }
 
     /// The times, in the order in which they were appended.
-    pub fn as_slice(&self) -> &[i64]
-        ensures times { result.now ≡ self.now }
-        ensures few { length result.now ≤ 8 }
+    pub fn times(&self) -> ArrayVec<i64, 8>
+        ensures { result.items ≡ self.now }
     {
-        self.times.as_slice()
+        let mut times = ArrayVec::new();
+        for ns in &self.times[..usize::from(self.count)] {
+            times.push(i64::from(*ns));
+        }
+        times
     }
 }
 

@@ -120,7 +120,8 @@ impl<'a> Way<'a> {
             return Err(NoMemory);
         };
         let k = self.tally.count(class);
-        let delays = self.deliveries.copies(class, k);
+        let copies = self.deliveries.copies(class, k);
+        let delays = copies.as_slice();
         let departure = Departure {
             side: self.deliveries.side(),
             at,

@@ -1,5 +1,5 @@
 // What is told of a frame, and its copies.
-ghost use Rattle.std.specs.Prelude.{◌≡◌, ◌≢◌, ◌≤◌, min, length, slice_index};
+ghost use Rattle.std.specs.Prelude.{◌≡◌, ◌≢◌, min, slice_index};
 ghost use Rattle.document_traffic.specs.Sending.{class_of};
 ghost use Rattle.fh_document.specs.Proper.{IsDocument};
 ghost use Rattle.fh_document.specs.declared.delivered.TrafficClass.TheVariants.{M};
@@ -10,6 +10,7 @@ ghost use Rattle.sent_text.specs.Frames.{IsTabled, IsTurnFor};
 ghost use Rattle.sent_text.specs.Rows.{line_for};
 
 use crate::sizes::{line_at, piece_of};
+use arrayvec::ArrayVec;
 use du_scheduler::{PlacedLine, Table};
 use fh_base::List;
 use fh_document::{Document, TrafficClass};
@@ -86,14 +87,13 @@ fn capped(number: u64) -> u32
 
 /// How many nanoseconds each copy of the frame with this number in its class is on its way. No line of a document names a number of
 /// more than 32 bits.
-pub(crate) fn copies_of<'a>(
-    deliveries: &FrameDeliveries<'a>,
+pub(crate) fn copies_of(
+    deliveries: &FrameDeliveries<'_>,
     class: TrafficClass,
     number: u64,
-) -> &'a [i64]
+) -> ArrayVec<i64, 8>
     requires { IsDocument deliveries.now.document }
-    ensures times { result.now ≡ copies_in deliveries.now.document deliveries.now.side class number }
-    ensures few { length result.now ≤ 8 }
+    ensures { result.items ≡ copies_in deliveries.now.document deliveries.now.side class number }
 {
     deliveries.copies(class, capped(number))
 }

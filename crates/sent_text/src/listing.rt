@@ -1,5 +1,5 @@
 //! The list of what is sent.
-ghost use Rattle.std.specs.Prelude.{◌≡◌, ◌≤◌, ◌++◌, length, map, OnErr, OnOk};
+ghost use Rattle.std.specs.Prelude.{◌≡◌, ◌++◌, map, OnErr, OnOk};
 ghost use Rattle.std.specs.Io.KnownBytes.{append_known};
 ghost use Rattle.std.specs.List.{flat_map};
 ghost use Rattle.air_source.specs.declared.events.Side.TheVariants.{Ru};
@@ -21,6 +21,7 @@ ghost use Rattle.sent_text.specs.Text.{row_text, sent_text};
 use crate::frames::{class_of, copies_of, told};
 use crate::tally::Tally;
 use air_source::Side;
+use arrayvec::ArrayVec;
 use du_scheduler::{Table, planned_lines};
 use fh_base::{Line, OwedBytes, Sink, SinkFault};
 use fh_document::Document;
@@ -32,17 +33,16 @@ use std::alloc::Global;
 /// Tells the line of a frame.
 fn tell_line<K: Sink>(
     frame: &FrameLine,
-    copies: &[i64],
+    copies: ArrayVec<i64, 8>,
     owed: &mut OwedBytes,
     out: &mut K,
 ) -> Result<(), SinkFault>
-    requires few { length copies.now ≤ 8 }
-    ensures carried { OnOk result (Carried (K.written out.old) owed.old (frame_line_text frame.now copies.now) (K.written out.new) owed.new) }
-    ensures front { OnErr result (WritesFront (K.written out.old) (K.written out.new) (owed.old ++ frame_line_text frame.now copies.now)) }
+    ensures carried { OnOk result (Carried (K.written out.old) owed.old (frame_line_text frame.now copies.items) (K.written out.new) owed.new) }
+    ensures front { OnErr result (WritesFront (K.written out.old) (K.written out.new) (owed.old ++ frame_line_text frame.now copies.items)) }
     ensures cause { HasSinkCause (K.faults out.old) (K.faults out.new) (K.refusals out.old) (K.refusals out.new) result }
 {
     let mut line = Line::new();
-    put_frame_line(&mut line, frame, copies);
+    put_frame_line(&mut line, frame, copies.as_slice());
     owed.tell(line.as_slice(), out)
 }
 

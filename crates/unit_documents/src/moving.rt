@@ -1,5 +1,5 @@
 // Downlink frames that are longer on their way.
-ghost use Rattle.std.specs.Prelude.{◌≡◌, ◌<◌, ◌^◌, All, IfOk, map};
+ghost use Rattle.std.specs.Prelude.{◌≡◌, ◌<◌, ◌^◌, pos, All, IfOk, map};
 ghost use Rattle.fh_document.specs.Proper.{IsDelivery, IsFrom};
 ghost use Rattle.fh_document.specs.declared.config_lines.TheConstants.{MOST_TRANSIT};
 ghost use Rattle.unit_documents.specs.Units.{moved, moves, moved_delivery};
@@ -25,30 +25,28 @@ fn moves(side: Side, class: TrafficClass) -> bool
     side == Side::Ru && class != TrafficClass::M
 }
 
+/// The same as a number of 32 bits.
+fn moved_time(ns: i64, more: u64) -> u32
+    requires ns { IsFrom 0 MOST_TRANSIT ns }
+    requires more { more < 2 ^ 48 }
+    ensures { pos result ≡ moved more ns }
+{
+    moved(ns, more) as u32
+}
+
 /// The same copies, each longer on its way.
 fn moved_copies(copies: &Copies, more: u64) -> Copies
     requires times { All (IsFrom 0 MOST_TRANSIT) copies.now }
     requires more { more < 2 ^ 48 }
     ensures { result ≡ map (moved more) copies.now }
 {
-    let times = copies.as_slice();
+    let copied = copies.times();
+    let times = copied.as_slice();
     let mut longer = Copies::new();
     for k in 0..times.len() {
-        let _ = longer.push(moved(times[k], more));
+        let _ = longer.push(moved_time(times[k], more));
     }
     longer
-}
-
-/// The same copies.
-fn same_copies(copies: &Copies) -> Copies
-    ensures { result ≡ copies.now }
-{
-    let times = copies.as_slice();
-    let mut same = Copies::new();
-    for k in 0..times.len() {
-        let _ = same.push(times[k]);
-    }
-    same
 }
 
 /// What becomes of a frame at a unit.
@@ -60,7 +58,7 @@ fn moved_delivery(delivery: &Delivery, more: u64) -> Delivery
     let copies = if moves(delivery.side, delivery.class) {
         moved_copies(&delivery.copies, more)
     } else {
-        same_copies(&delivery.copies)
+        delivery.copies.copied()
     };
     Delivery {
         side: delivery.side,

@@ -40,7 +40,7 @@ fn copies_are_those_of_the_line(rt: HostRuntime) -> Result<(), Fail> {
             Side::Ru => &down,
             Side::Du => &up,
         };
-        assert_eq!(rt; deliveries.copies(class, k), times);
+        assert_eq!(rt; deliveries.copies(class, k).as_slice(), times);
     }
     Ok(())
 }
@@ -51,7 +51,7 @@ fn a_frame_comes_once_where_no_line_stands(rt: HostRuntime) -> Result<(), Fail> 
     for side in [Side::Ru, Side::Du] {
         let deliveries = FrameDeliveries::make(rt.alloc(), &document, side)?;
         for class in [TrafficClass::C, TrafficClass::U, TrafficClass::M] {
-            assert_eq!(rt; deliveries.copies(class, 1), [50_000].as_slice());
+            assert_eq!(rt; deliveries.copies(class, 1).as_slice(), [50_000].as_slice());
         }
     }
     Ok(())

@@ -34,7 +34,7 @@ loop-turn-preserved g c =
     let s = c.loop-turn.invariant.told in
     let gives = c.in-Some.ensures.gives (map turn_of s.left) s.stands in
     let text = text_told c.args.document.now c.requires.document c.requires.valid _ _ _ _ _ _ s c.in-Some.turn _ gives c.class_of-class.result c.count-number.new.self c.count-number.result c.told-frame.result
-    c.args.deliveries.now c.copies_of.result.now c.class_of-class.ensures.value c.count-number.ensures.number c.told-frame.ensures c.requires.deliveries c.copies_of.ensures.times in
+    c.args.deliveries.now c.copies_of.result.items c.class_of-class.ensures.value c.count-number.ensures.number c.told-frame.ensures c.requires.deliveries c.copies_of.ensures in
     record {
       queue = c.in-Some.ensures.queue;
       told = told_next c.args.document.now c.requires.document c.requires.valid _ _ _ _ _ _ s c.in-Some.turn _ gives c.class_of-class.result c.count-number.new.self c.count-number.result _ _ _
@@ -48,7 +48,7 @@ returns-in_err-tell_line-clause-front g c =
     let s = c.loop-turn.invariant.told in
     let gives = c.in-Some.ensures.gives (map turn_of s.left) s.stands in
     let text = text_told c.args.document.now c.requires.document c.requires.valid _ _ _ _ _ _ s c.in-Some.turn _ gives c.class_of-class.result c.count-number.new.self c.count-number.result c.told-frame.result
-    c.args.deliveries.now c.copies_of.result.now c.class_of-class.ensures.value c.count-number.ensures.number c.told-frame.ensures c.requires.deliveries c.copies_of.ensures.times in
+    c.args.deliveries.now c.copies_of.result.items c.class_of-class.ensures.value c.count-number.ensures.number c.told-frame.ensures c.requires.deliveries c.copies_of.ensures in
     anyhow c.from_residual.result
     (told_cut c.args.document.now c.requires.document c.requires.valid _ _ _ _ _ _ s c.in-Some.turn _ gives _ _ text c.in_err-tell_line.ensures.front)
 
