@@ -22,8 +22,8 @@ use fh_base::NoMemory;
 use fh_time::{CARRIER_PRBS, FIRST_CLOCK, Ticks, of_ns};
 use plan_model::PlannedLine;
 use std::alloc::Global;
-use unit_memory::UnitMemory;
-use unit_model::{Delivered, TakesFrames};
+use unit_memory::{Arrived, TakesFrames, UnitMemory};
+use unit_model::Delivered;
 use window_config::Config;
 
 /// How long after the start of its symbol a cell is reported.
@@ -69,6 +69,7 @@ pub struct Intake {
 impl Intake {
     ghost use Rattle.du_intake.specs.Calls.{IsIntakeDue, IsReportedBefore, MayTakeAt, IntakeStandsFor, intake_clock};
     ghost use Rattle.plan_model.specs.Lines.{uplink_allocations};
+    ghost use Rattle.unit_memory.specs.Control.{has_delay};
 
     /// Takes all memory of the unit, for the lines of a plan at their endpoints. Its clock stands one frame before 0.
     ///
@@ -132,8 +133,23 @@ impl Intake {
         ensures messages { result.messages ≡ min (length (whole_messages frame.now)) (2 ^ 32 - 1) }
         ensures refusal { result.refusal ≡ (pdu frame.now).refusal }
     {
+        self.arrive(at, frame).delivered
+    }
+
+    /// The same, with what else the unit's memory answers of the frame.
+    fn arrive(&mut self, at: Ticks, frame: &[u8]) -> Arrived
+        requires unit { MayTakeAt at.0 self.old }
+        requires order { (intake_clock self.old).0 ≤ℤ at.0 }
+        requires time { IsTime at.0 }
+        ensures stands { (c : SpecConfig) (planned : List SpecAllocation) (h : History) → IntakeStandsFor c planned self.old h → IsReportedBefore c planned h at.0
+            → IntakeStandsFor c planned self.new (arrived (at_clock h at.0) frame.now) }
+        ensures clock { intake_clock self.new ≡ at }
+        ensures messages { result.delivered.messages ≡ min (length (whole_messages frame.now)) (2 ^ 32 - 1) }
+        ensures refusal { result.delivered.refusal ≡ (pdu frame.now).refusal }
+        ensures delay { result.delay ≡ has_delay frame.now }
+    {
         self.clock = at;
-        self.memory.arrive(at, frame).delivered
+        self.memory.arrive(at, frame)
     }
 }
 
@@ -142,7 +158,7 @@ impl TakesFrames for Intake {
 
     ghost may_take = { λ u c planned at h. IntakeMayTake u c planned at h };
 
-    fn take(&mut self, at: Ticks, frame: &[u8]) {
-        self.deliver(at, frame);
+    fn take(&mut self, at: Ticks, frame: &[u8]) -> bool {
+        self.arrive(at, frame).delay
     }
 }

@@ -53,6 +53,12 @@ pub standing_with : (c : Config) (u : Ru) (h : History) → RadioStands c u.memo
     → IsNextMessage u.memory.cells u.cursor u.message → StandsFor c u h
 standing_with c u h all symbol message = record { answers = all.answers; kept = all.kept; symbol = symbol; message = message }
 
+-- where only what comes next may be another
+pub standing_next : (c : Config) (u : Ru) (m : UnitMemory) (clock : Ticks) (cursor : JobCursor) (h : History) → u.memory ≡ m → u.clock ≡ clock → u.cursor ≡ cursor
+    → RadioStands c m clock.0 cursor h → IsNextSymbol m.cells clock.0 u.symbol → IsNextMessage m.cells cursor u.message → StandsFor c u h
+standing_next c u m clock cursor h same at stays all symbol message =
+    standing_with c u h (rw (same, at, stays) all) (rw (same, at) symbol) (rw (same, stays) message)
+
 later_none : (to : ℤ) (o : Option SymbolStart) → o ≡ None → StartsLater to o
 later_none to o e = subst (StartsLater to) (sym e) tt
 

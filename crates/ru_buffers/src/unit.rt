@@ -12,8 +12,8 @@ use fault_counters::Counters;
 use fh_base::NoMemory;
 use fh_time::{FIRST_CLOCK, Ticks};
 use std::alloc::Global;
-use unit_memory::UnitMemory;
-use unit_model::{Delivered, SymbolStart, TakesFrames};
+use unit_memory::{Arrived, TakesFrames, UnitMemory};
+use unit_model::{Delivered, SymbolStart};
 use unit_symbols::{JobCursor, NextJob};
 use window_config::Config;
 
@@ -35,6 +35,7 @@ pub struct Ru {
 
 impl Ru {
     ghost use Rattle.ru_buffers.specs.Calls.{HasGivenPast, IsNextMessage, IsNextSymbol, StandsFor, StandsForSome, radio_clock};
+    ghost use Rattle.unit_memory.specs.Control.{has_delay};
     ghost use Rattle.unit_model.specs.Counts.{StandAt, cells_counted};
     ghost use Rattle.unit_model.specs.Reports.{arrivals_counted};
     ghost use Rattle.std.specs.Prelude.{◌++◌};
@@ -88,34 +89,39 @@ impl Ru {
         ensures messages { result.messages ≡ min (length (whole_messages frame.now)) (2 ^ 32 - 1) }
         ensures refusal { result.refusal ≡ (pdu frame.now).refusal }
     {
+        self.arrive(frame).delivered
+    }
+
+    /// The same, with what else the unit's memory answers of the frame.
+    fn arrive(&mut self, frame: &[u8]) -> Arrived
+        requires unit { StandsForSome self.old }
+        requires given { HasGivenPast self.old }
+        ensures stands { (c : SpecConfig) (h : History) → StandsFor c self.old h → StandsFor c self.new (arrived h frame.now) }
+        ensures given { HasGivenPast self.new }
+        ensures clock { radio_clock self.new ≡ radio_clock self.old }
+        ensures messages { result.delivered.messages ≡ min (length (whole_messages frame.now)) (2 ^ 32 - 1) }
+        ensures refusal { result.delivered.refusal ≡ (pdu frame.now).refusal }
+        ensures delay { result.delay ≡ has_delay frame.now }
+    {
         self.cursor = self.cursor.settled(self.clock);
         let arrival = self.memory.arrive(self.clock, frame);
-        self.symbol = self.next_symbol(arrival.control);
-        self.message = self.next_job(arrival.control);
-        arrival.delivered
+        self.look(arrival.control);
+        arrival
     }
 
-    /// The next symbol of which something is left: looked for anew, or the one that is kept.
-    fn next_symbol(&self, anew: bool) -> Option<SymbolStart>
-        ensures found { anew ≡ true → IsNextSymbol self.now.memory.cells self.now.clock.0 result }
-        ensures kept { anew ≡ false → result ≡ self.now.symbol }
+    /// Looks anew for the next symbol and the next message, where a frame had a command; else those that are kept are the next.
+    fn look(&mut self, anew: bool)
+        ensures symbol { anew ≡ true → IsNextSymbol self.old.memory.cells self.old.clock.0 self.new.symbol }
+        ensures message { anew ≡ true → IsNextMessage self.old.memory.cells self.old.cursor self.new.message }
+        ensures same_symbol { anew ≡ false → self.new.symbol ≡ self.old.symbol }
+        ensures same_message { anew ≡ false → self.new.message ≡ self.old.message }
+        ensures memory { self.new.memory ≡ self.old.memory }
+        ensures clock { self.new.clock ≡ self.old.clock }
+        ensures cursor { self.new.cursor ≡ self.old.cursor }
     {
         if anew {
-            find_symbol(&self.memory.cells, self.clock)
-        } else {
-            self.symbol
-        }
-    }
-
-    /// The next message: looked for anew, or the one that is kept.
-    fn next_job(&self, anew: bool) -> Option<NextJob>
-        ensures found { anew ≡ true → IsNextMessage self.now.memory.cells self.now.cursor result }
-        ensures kept { anew ≡ false → result ≡ self.now.message }
-    {
-        if anew {
-            find_message(&self.memory.cells, &self.cursor)
-        } else {
-            self.message
+            self.symbol = find_symbol(&self.memory.cells, self.clock);
+            self.message = find_message(&self.memory.cells, &self.cursor);
         }
     }
 }
@@ -125,7 +131,7 @@ impl TakesFrames for Ru {
 
     ghost may_take = { λ u c planned at h. RadioMayTake u c planned at h };
 
-    fn take(&mut self, at: Ticks, frame: &[u8]) {
-        self.deliver(frame);
+    fn take(&mut self, at: Ticks, frame: &[u8]) -> bool {
+        self.arrive(frame).delay
     }
 }

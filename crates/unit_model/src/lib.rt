@@ -17,7 +17,6 @@ mod samples;
 mod slots;
 mod spans;
 mod symbol_start;
-mod takes_frames;
 mod uplink;
 mod verdicts;
 
@@ -32,6 +31,5 @@ pub use meeting::{Met, meet};
 pub use samples::samples_under;
 pub use slots::{allocation_of, same_slot};
 pub use symbol_start::{SymbolStart, comes_before};
-pub use takes_frames::TakesFrames;
 pub use uplink::{SLOT_SECTIONS, is_from, place_of, sends_in};
 pub use verdicts::{CommandVerdict, DataVerdict};

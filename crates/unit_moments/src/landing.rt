@@ -24,9 +24,10 @@ use fh_base::NoMemory;
 use fh_time::Ticks;
 use frame_network::FramePool;
 use frame_ways::{Landed, Way};
-use unit_model::TakesFrames;
+use unit_memory::TakesFrames;
 
-/// Gives a frame that arrives to the unit, and then to its meter: the unit has it also where memory runs out in the meter.
+/// Gives a frame that arrives to the unit, and then to its meter, which is told it where it has a message of delay measurement: the unit
+/// has it also where memory runs out in the meter.
 fn take_in<U: TakesFrames, C: Fn(Edge) -> i64>(
     at: Ticks,
     bytes: &[u8],
@@ -41,8 +42,12 @@ fn take_in<U: TakesFrames, C: Fn(Edge) -> i64>(
         → U.may_take unit.new k planned at.0 (arrived (at_clock h at.0) bytes.now) }
     ensures made { OnOk result ((c : Compensation) (x : Doings) → HasDoings C.pre C.post c x meter.old → HasDoings C.pre C.post c (with_frame c at.0 x bytes.now) meter.new) }
 {
-    unit.take(at, bytes);
-    meter.tell(at, bytes)
+    if unit.take(at, bytes) {
+        meter.tell(at, bytes)
+    } else {
+        meter.pass();
+        Ok(())
+    }
 }
 
 /// Tells the air of a frame that arrives, and then gives it to the unit and to its meter; the delays that it makes known are told behind it.

@@ -1,7 +1,7 @@
 use Rattle.std.proofs.Common.{length}
 use Rattle.air_source.specs.declared.events.Side.TheVariants.{Du}
 use Rattle.du_intake.proofs.UnitLemmas.{holds_some, stands_delivered}
-use Rattle.du_intake.proofs.unit.Intake.deliver.Goals as goal
+use Rattle.du_intake.proofs.unit.Intake.arrive.Goals as goal
 
 pub arrive-requires-clause-unit : goal.arrive-requires-clause-unit
 arrive-requires-clause-unit c =

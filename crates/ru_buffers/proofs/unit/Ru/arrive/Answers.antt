@@ -1,8 +1,8 @@
 use Rattle.air_source.specs.declared.events.Side.TheVariants.{Ru as AtRu}
 use Rattle.ru_buffers.proofs.CallLemmas.{holds_some, ready_settled, settled_is, stands_delivered}
 use Rattle.ru_buffers.proofs.DeliverLemmas.{message_then, symbol_then}
-use Rattle.ru_buffers.proofs.LoopLemmas.{standing, standing_with}
-use Rattle.ru_buffers.proofs.unit.Ru.deliver.Goals as goal
+use Rattle.ru_buffers.proofs.LoopLemmas.{standing, standing_next}
+use Rattle.ru_buffers.proofs.unit.Ru.arrive.Goals as goal
 
 pub arrive-arrival-requires-clause-unit : goal.arrive-arrival-requires-clause-unit
 arrive-arrival-requires-clause-unit c =
@@ -20,11 +20,15 @@ returns-clause-stands c k h all =
     let then = stands_delivered k u.memory u.clock.0 u.cursor next h own c.requires.given c.settled-self.ensures m frame
     (c.arrive-arrival.ensures.holds AtRu k) (c.arrive-arrival.ensures.reports AtRu k all.kept.holds.of) in
     let was = (settled_is k u.memory u.clock.0 u.cursor next h own c.requires.given c.settled-self.ensures).kept in
-    standing_with k _ _ then
-    (symbol_then k u.memory m u.clock.0 next h frame was then.kept c.arrive-arrival.result.control c.arrive-arrival.ensures.control u.symbol c.next_symbol-self.result all.symbol
-    c.next_symbol-self.ensures.found c.next_symbol-self.ensures.kept)
+    let look = c.look.ensures in
+    standing_next k c.look.new.self m u.clock next _ look.memory look.clock look.cursor then
+    (symbol_then k u.memory m u.clock.0 next h frame was then.kept c.arrive-arrival.result.control c.arrive-arrival.ensures.control u.symbol c.look.new.self.symbol all.symbol
+    look.symbol look.same_symbol)
     (message_then k u.memory m u.clock.0 u.cursor next h frame all.kept c.requires.given c.settled-self.ensures was then.kept c.arrive-arrival.result.control c.arrive-arrival.ensures.control u.message
-    c.next_job-self.result all.message c.next_job-self.ensures.found c.next_job-self.ensures.kept)
+    c.look.new.self.message all.message look.message look.same_message)
 
 pub returns-clause-given : goal.returns-clause-given
-returns-clause-given c = ready_settled c.arrive-arrival.new.self.cells c.args.self.now.clock.0 c.args.self.now.cursor c.settled-self.result c.settled-self.ensures
+returns-clause-given c =
+    let look = c.look.ensures in
+    rw (look.memory, look.clock, look.cursor)
+    (ready_settled c.arrive-arrival.new.self.cells c.args.self.now.clock.0 c.args.self.now.cursor c.settled-self.result c.settled-self.ensures)
