@@ -42,7 +42,7 @@ ids_same f g from (suc n) same = ap₂ id_or (same from) (ids_same f g (from + 1
 -- ---- what is reported of a claim
 
 abbrev cell_claims_of : PlannedClaim → CellClaims
-cell_claims_of m = record { id = m.section; claimed = m.mask; idle = 0 }
+cell_claims_of m = record { id = m.section; claimed = m.mask; idle = 0; reported = false }
 
 same_claim : (m : PlannedClaim) (re : ℕ) → claim_of_planned m re ≡ claim_in (cell_claims_of m) re
 same_claim m re = ap (λ (b : Bool). let o : Option Claim = if in_mask m.mask re then Some (record { id = m.section; idle = b }) else None in o) (sym (in_none re))

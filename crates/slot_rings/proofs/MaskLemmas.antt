@@ -186,7 +186,7 @@ further false true d e f i id idle h e_is f_in f_out =
     turned false h = cc
 
 pub with_idle : (s : CellClaims) (id mask : ℕ) → is_overlapped id mask (claim_in s) ≡ false → (re : ℕ) → re < 12
-    → claim_in (record { id = id; claimed = bit_or s.claimed mask; idle = bit_or s.idle mask }) re
+    → claim_in (record { id = id; claimed = bit_or s.claimed mask; idle = bit_or s.idle mask; reported = s.reported }) re
     ≡ (let o : Option Claim = if in_mask mask re then Some (record { id = id; idle = true }) else claim_in s re in o)
 with_idle s id mask free re below = further (in_mask mask re) (in_mask s.claimed re) (in_mask s.idle re) _ _ s.id id true
     (some_at 0 12 _ re free (omega arith) (omega arith)) (in_either s.claimed mask re)
@@ -198,7 +198,7 @@ with_idle s id mask free re below = further (in_mask mask re) (in_mask s.claimed
     or_true false = refl
 
 pub with_used : (s : CellClaims) (id mask : ℕ) → mask < 2 ^ 16 → is_overlapped id mask (claim_in s) ≡ false → (re : ℕ) → re < 12
-    → claim_in (record { id = id; claimed = bit_or s.claimed mask; idle = bit_and s.idle (65535 - mask) }) re
+    → claim_in (record { id = id; claimed = bit_or s.claimed mask; idle = bit_and s.idle (65535 - mask); reported = s.reported }) re
     ≡ (let o : Option Claim = if in_mask mask re then Some (record { id = id; idle = false }) else claim_in s re in o)
 with_used s id mask fits free re below = further (in_mask mask re) (in_mask s.claimed re) (in_mask s.idle re) _ _ s.id id false
     (some_at 0 12 _ re free (omega arith) (omega arith)) (in_either s.claimed mask re)

@@ -1,5 +1,5 @@
 -- Where the flag of a symbol is not set, none of its cells is due.
-use Rattle.std.proofs.Common.{◌≡◌, ◌≢◌, ℕ, zero, suc, ◌+◌, ◌*◌, ◌<◌, ◌≤◌, inl, inr, Bool, true, false, not, ◌&&◌, ◌==◌, if◌then◌else◌, List, [], ◌∷◌, ◌++◌, length, get_or, set, refl, ap, ap₂, sym, ◌∙◌, subst, arith, length-set, get_or-set_same, get_or-set_other, Option, Some, None}
+use Rattle.std.proofs.Common.{◌≡◌, ◌≢◌, ℕ, zero, suc, ◌+◌, ◌*◌, ◌<◌, ◌≤◌, inl, inr, Bool, true, false, not, ◌&&◌, ◌==◌, if◌then◌else◌, List, [], ◌∷◌, ◌++◌, length, get_or, set, refl, ap, sym, ◌∙◌, subst, arith, length-set, get_or-set_same, get_or-set_other, Option, Some, None}
 use Rattle.std.specs.Prelude.{◌||◌}
 use Rattle.std.proofs.lemmas.Bool.{cases_eq, cases_Bool, and_parts, eq-eqb, eqb-true}
 use Rattle.std.proofs.lemmas.List.{get_or_read}
@@ -12,7 +12,7 @@ use Rattle.unit_model.specs.declared.cells.Cell.{Cell}
 use Rattle.unit_model.specs.declared.cells.Claim.{Claim}
 use Rattle.unit_model.specs.declared.verdicts.CommandVerdict.TheVariants.{Accepted}
 use Rattle.slot_rings.specs.Pending.{IsFlagged, due_in, flag_at}
-use Rattle.slot_rings.specs.Places.{PlaceValue, blank, cell_number, claim_in, empty_place, is_due, is_in_use, is_place_of, reported_seen, claims_seen, no_claims, opened, place_claim}
+use Rattle.slot_rings.specs.Places.{PlaceValue, blank, cell_number, claim_in, empty_place, is_due, is_in_use, is_place_of, is_reported, claims_seen, no_claims, unreported, opened, place_claim}
 use Rattle.slot_rings.specs.Rings.{IsRing, RingValue, has_slot, place_index, place_of}
 use Rattle.slot_rings.specs.Starts.{ring_due}
 use Rattle.slot_rings.specs.Verdicts.{claim_after}
@@ -62,9 +62,9 @@ pub due_empty : (prbs s : ℕ) (p : PlaceValue) → p.down ≡ [] → due_in prb
 due_empty prbs s p e = some_from 0 prbs _ (λ n low high.
     no_due _ _ (λ re below. ap (λ (l : List CellClaims). claim_in (get_or l (cell_number prbs s 0 + n) no_claims) re) e ∙ no_claim re))
 
-pub filled_quiet : (prbs s : ℕ) (p q : PlaceValue) → q.down ≡ p.down → q.reported ≡ p.reported → due_in prbs p s ≡ false → due_in prbs q s ≡ false
-filled_quiet prbs s p q down reported off = some_same 0 prbs _ _ (λ n low high.
-    ap₂ (λ (ms : List CellClaims) (ds : List Bool). is_due (claim_in (get_or ms (cell_number prbs s 0 + n) no_claims)) (get_or ds (cell_number prbs s 0 + n) false)) down reported) ∙ off
+pub filled_quiet : (prbs s : ℕ) (p q : PlaceValue) → q.down ≡ p.down → due_in prbs p s ≡ false → due_in prbs q s ≡ false
+filled_quiet prbs s p q down off = some_same 0 prbs _ _ (λ n low high.
+    ap (λ (ms : List CellClaims). is_due (claim_in (get_or ms (cell_number prbs s 0 + n) no_claims)) (is_reported ms (cell_number prbs s 0 + n))) down) ∙ off
 
 pub opened_quiet : (prbs s : ℕ) (slot : Slot) (p q : PlaceValue) → q ≡ opened slot p → due_in prbs p s ≡ false → due_in prbs q s ≡ false
 opened_quiet prbs s slot p q is off = elim (cases_Bool (is_place_of p.slot slot)) [
@@ -85,12 +85,12 @@ unused_due g c d off more = parts (is_in_use g) c d off more
     parts true false d off more = cc
 
 -- what is reported stays reported
-pub reported_quiet : (prbs s : ℕ) (p q : PlaceValue) → q.down ≡ p.down → ((i : ℕ) → get_or p.reported i false ≡ true → get_or q.reported i false ≡ true)
+pub reported_quiet : (prbs s : ℕ) (p q : PlaceValue) → ((i : ℕ) → unreported (get_or q.down i no_claims) ≡ unreported (get_or p.down i no_claims)) → ((i : ℕ) → is_reported p.down i ≡ true → is_reported q.down i ≡ true)
     → due_in prbs p s ≡ false → due_in prbs q s ≡ false
-reported_quiet prbs s p q down more off = some_from 0 prbs _ (λ n low high.
-    ap (λ (ms : List CellClaims). is_due (claim_in (get_or ms (cell_number prbs s 0 + n) no_claims)) (get_or q.reported (cell_number prbs s 0 + n) false)) down
-    ∙ unused_due (claim_in (get_or p.down (cell_number prbs s 0 + n) no_claims)) (get_or p.reported (cell_number prbs s 0 + n) false) (get_or q.reported (cell_number prbs s 0 + n) false)
-    (some_at 0 prbs (λ n. is_due (claim_in (get_or p.down (cell_number prbs s 0 + n) no_claims)) (get_or p.reported (cell_number prbs s 0 + n) false)) n off low high)
+reported_quiet prbs s p q same more off = some_from 0 prbs _ (λ n low high.
+    ap (λ (m : CellClaims). is_due (claim_in m) (is_reported q.down (cell_number prbs s 0 + n))) (same (cell_number prbs s 0 + n))
+    ∙ unused_due (claim_in (get_or p.down (cell_number prbs s 0 + n) no_claims)) (is_reported p.down (cell_number prbs s 0 + n)) (is_reported q.down (cell_number prbs s 0 + n))
+    (some_at 0 prbs (λ n. is_due (claim_in (get_or p.down (cell_number prbs s 0 + n) no_claims)) (is_reported p.down (cell_number prbs s 0 + n))) n off low high)
     (more (cell_number prbs s 0 + n)))
 
 reported_due : (g : ℕ → Option Claim) (c d : Bool) → d ≡ (c || is_in_use g) → is_due g d ≡ false
@@ -102,13 +102,13 @@ reported_due g c d is = ap (is_due g) is ∙ parts (is_in_use g) c
     parts true false = refl
 
 -- all cells in use of a symbol are reported
-pub all_quiet : (prbs s : ℕ) (p q : PlaceValue) → q.down ≡ p.down
-    → ((k : ℕ) → k < prbs → get_or q.reported (cell_number prbs s 0 + k) false
-    ≡ (get_or p.reported (cell_number prbs s 0 + k) false || is_in_use (claim_in (get_or p.down (cell_number prbs s 0 + k) no_claims))))
+pub all_quiet : (prbs s : ℕ) (p q : PlaceValue) → ((i : ℕ) → unreported (get_or q.down i no_claims) ≡ unreported (get_or p.down i no_claims))
+    → ((k : ℕ) → k < prbs → is_reported q.down (cell_number prbs s 0 + k)
+    ≡ (is_reported p.down (cell_number prbs s 0 + k) || is_in_use (claim_in (get_or p.down (cell_number prbs s 0 + k) no_claims))))
     → due_in prbs q s ≡ false
-all_quiet prbs s p q down here = some_from 0 prbs _ (λ n low high.
-    ap (λ (ms : List CellClaims). is_due (claim_in (get_or ms (cell_number prbs s 0 + n) no_claims)) (get_or q.reported (cell_number prbs s 0 + n) false)) down
-    ∙ reported_due (claim_in (get_or p.down (cell_number prbs s 0 + n) no_claims)) (get_or p.reported (cell_number prbs s 0 + n) false) (get_or q.reported (cell_number prbs s 0 + n) false)
+all_quiet prbs s p q same here = some_from 0 prbs _ (λ n low high.
+    ap (λ (m : CellClaims). is_due (claim_in m) (is_reported q.down (cell_number prbs s 0 + n))) (same (cell_number prbs s 0 + n))
+    ∙ reported_due (claim_in (get_or p.down (cell_number prbs s 0 + n) no_claims)) (is_reported p.down (cell_number prbs s 0 + n)) (is_reported q.down (cell_number prbs s 0 + n))
     (here n (omega (arith, high))))
 
 -- ---- a claim
@@ -142,7 +142,7 @@ place_claims prbs p ep slot s n re own =
     let at : cell_number prbs s n ≡ cell_number prbs s 0 + n = omega arith in
     rw own (ap (λ (k : ℕ). claim_in (get_or p.down k no_claims) re) at)
 
-pub claimed_quiet : (prbs m s : ℕ) (p q : PlaceValue) (a : Allocation) → m ≡ prbs → is_place_of p.slot a.slot ≡ true → q.slot ≡ p.slot → q.reported ≡ p.reported
+pub claimed_quiet : (prbs m s : ℕ) (p q : PlaceValue) (a : Allocation) → m ≡ prbs → is_place_of p.slot a.slot ≡ true → q.slot ≡ p.slot → ((k : ℕ) → is_reported q.down k ≡ is_reported p.down k)
     → ((cell : Cell) (re : ℕ) → cell.ep ≡ a.ep → cell.slot ≡ a.slot → cell.prb < m → re < 12
     → place_claim m q cell re ≡ claim_after Accepted a cell re (place_claim m p cell re))
     → (a.down ≡ true → a.idle ≡ false → is_from a.symbol a.num_symbol s ≡ true → ⊥) → due_in prbs p s ≡ false → due_in prbs q s ≡ false
@@ -154,14 +154,14 @@ claimed_quiet prbs m s p q a same own slot reported claims never off =
 
     go : due_in m p s ≡ false → due_in m q s ≡ false
     go off = some_from 0 m _ (λ n low high.
-        ap (λ (ds : List Bool). is_due (claim_in (get_or q.down (cell_number m s 0 + n) no_claims)) (get_or ds (cell_number m s 0 + n) false)) reported
+        ap (is_due (claim_in (get_or q.down (cell_number m s 0 + n) no_claims))) (reported (cell_number m s 0 + n))
         ∙ due_less (claim_in (get_or p.down (cell_number m s 0 + n) no_claims)) (claim_in (get_or q.down (cell_number m s 0 + n) no_claims))
-        (get_or p.reported (cell_number m s 0 + n) false)
+        (is_reported p.down (cell_number m s 0 + n))
         (λ re below unused.
         let cell = cell_at a.ep true a.slot s n in
         ap is_used (sym (place_claims m q a.ep a.slot s n re q_own) ∙ claims cell re refl refl (omega (arith, high)) below)
         ∙ used_after a cell re _ refl never (ap is_used (place_claims m p a.ep a.slot s n re own) ∙ unused))
-        (some_at 0 m (λ n. is_due (claim_in (get_or p.down (cell_number m s 0 + n) no_claims)) (get_or p.reported (cell_number m s 0 + n) false)) n off low high))
+        (some_at 0 m (λ n. is_due (claim_in (get_or p.down (cell_number m s 0 + n) no_claims)) (is_reported p.down (cell_number m s 0 + n))) n off low high))
 
 -- ---- the flags of all places
 
@@ -184,9 +184,9 @@ flagged_put r flags new i p q flagged within read size kept changed = record {
 -- cells set as reported in a place, and the flag of a symbol cleared if all of its cells are reported
 pub flagged_told : (r : RingValue) (flags new : List (List Bool)) (i symbol : ℕ) (p q : PlaceValue) (all : Bool) → IsFlagged r flags → i < length r.places
     → p ≡ get_or r.places i p → length new ≡ length flags → ((j s : ℕ) → (all ≡ true → j ≡ i → s ≢ symbol) → flag_at new j s ≡ flag_at flags j s)
-    → q.down ≡ p.down → ((k : ℕ) → get_or p.reported k false ≡ true → get_or q.reported k false ≡ true) → (all ≡ true → due_in r.endpoint.prbs q symbol ≡ false)
+    → ((i : ℕ) → unreported (get_or q.down i no_claims) ≡ unreported (get_or p.down i no_claims)) → ((k : ℕ) → is_reported p.down k ≡ true → is_reported q.down k ≡ true) → (all ≡ true → due_in r.endpoint.prbs q symbol ≡ false)
     → IsFlagged (put r i q) new
-flagged_told r flags new i symbol p q all flagged within read size others down more settled = record {
+flagged_told r flags new i symbol p q all flagged within read size others claims more settled = record {
   size = size ∙ flagged.size ∙ sym (length-set r.places i q);
   quiet = λ j s off. elim (cases_eq j i) [
     | inr ne ↦
@@ -209,7 +209,7 @@ flagged_told r flags new i symbol p q all flagged within read size others down m
     there = get_or_read r.places i p within read blank
 
     still : (s : ℕ) → flag_at flags i s ≡ false → due_in r.endpoint.prbs q s ≡ false
-    still s off = reported_quiet r.endpoint.prbs s p q down more (ap (λ (x : PlaceValue). due_in r.endpoint.prbs x s) there ∙ flagged.quiet i s off)
+    still s off = reported_quiet r.endpoint.prbs s p q claims more (ap (λ (x : PlaceValue). due_in r.endpoint.prbs x s) there ∙ flagged.quiet i s off)
 
 pub flagged_empty : (r : RingValue) (flags : List (List Bool)) → length flags ≡ length r.places → ((i : ℕ) → (get_or r.places i blank).down ≡ []) → IsFlagged r flags
 flagged_empty r flags size empty = record {
@@ -239,7 +239,7 @@ unflagged r ep slot s quiet = sym (elim (cases_Bool (has_slot r slot)) [
 -- a symbol of a slot that has its place
 pub due_has : (r : RingValue) (ep : ℕ) (slot : Slot) (s : ℕ) → has_slot r slot ≡ true → ring_due r ep slot s ≡ due_in r.endpoint.prbs (place_of r slot) s
 due_has r ep slot s has =
-    sym (due_seen r slot s (cell_number r.endpoint.prbs s 0) ep (claims_seen (place_of r slot) slot true) (reported_seen (place_of r slot) slot) refl refl refl)
+    sym (due_seen r slot s (cell_number r.endpoint.prbs s 0) ep (claims_seen (place_of r slot) slot true) refl refl)
     ∙ rw has refl
 
 quiet_has : (r : RingValue) (ep : ℕ) (slot : Slot) (s : ℕ) → has_slot r slot ≡ true → due_in r.endpoint.prbs (place_of r slot) s ≡ false → ring_due r ep slot s ≡ false

@@ -23,36 +23,36 @@ true_or a b e = rw e refl
 
 -- ---- one cell more
 
-module _ (old mid new : List Bool) (uses : ℕ → Bool) (from k : ℕ)
-    (same : (i : ℕ) → is_from from k i ≡ false → get_or mid i false ≡ get_or old i false)
-    (others : (i : ℕ) → i ≢ from + k → get_or new i false ≡ get_or mid i false) where
-  pub reported_just : ((j : ℕ) → j < k → get_or mid (from + j) false ≡ (get_or old (from + j) false || uses (from + j)))
-      → get_or new (from + k) false ≡ (get_or mid (from + k) false || uses (from + k))
-      → (j : ℕ) → j < k + 1 → get_or new (from + j) false ≡ (get_or old (from + j) false || uses (from + j))
+module _ (old mid new : ℕ → Bool) (uses : ℕ → Bool) (from k : ℕ)
+    (same : (i : ℕ) → is_from from k i ≡ false → mid i ≡ old i)
+    (others : (i : ℕ) → i ≢ from + k → new i ≡ mid i) where
+  pub reported_just : ((j : ℕ) → j < k → mid (from + j) ≡ (old (from + j) || uses (from + j)))
+      → new (from + k) ≡ (mid (from + k) || uses (from + k))
+      → (j : ℕ) → j < k + 1 → new (from + j) ≡ (old (from + j) || uses (from + j))
   reported_just here step j below = elim (cases_eq j k) [
     | inl e ↦
-        subst (λ (x : ℕ). get_or new (from + x) false ≡ (get_or old (from + x) false || uses (from + x))) (sym e)
+        subst (λ (x : ℕ). new (from + x) ≡ (old (from + x) || uses (from + x))) (sym e)
         (step ∙ ap (λ (b : Bool). b || uses (from + k)) (same (from + k) (behind_all from k)))
     | inr ne ↦ others (from + j) (λ e. ne (omega (arith, e))) ∙ here j (omega (arith, ne))
   ]
 
-  pub reported_others : (i : ℕ) → is_from from (k + 1) i ≡ false → get_or new i false ≡ get_or old i false
+  pub reported_others : (i : ℕ) → is_from from (k + 1) i ≡ false → new i ≡ old i
   reported_others i h = others i (not_last from k i h) ∙ same i (not_before from k i h)
 
 -- ---- what is reported stays reported
 
-pub still_reported : (old new : List Bool) (uses : ℕ → Bool) (from count : ℕ)
-    → ((k : ℕ) → k < count → get_or new (from + k) false ≡ (get_or old (from + k) false || uses (from + k)))
-    → ((i : ℕ) → is_from from count i ≡ false → get_or new i false ≡ get_or old i false)
-    → (i : ℕ) → get_or old i false ≡ true → get_or new i false ≡ true
+pub still_reported : (old new : ℕ → Bool) (uses : ℕ → Bool) (from count : ℕ)
+    → ((k : ℕ) → k < count → new (from + k) ≡ (old (from + k) || uses (from + k)))
+    → ((i : ℕ) → is_from from count i ≡ false → new i ≡ old i)
+    → (i : ℕ) → old i ≡ true → new i ≡ true
 still_reported old new uses from count here others i was = elim (cases_Bool (is_from from count i)) [
   | inr outside ↦ others i outside ∙ was
   | inl inside ↦
       let low = from_low from count i inside in
       let high = from_high from count i inside in
       let at : from + (i - from) ≡ i = omega (arith, low) in
-      subst (λ (j : ℕ). get_or old j false ≡ true → get_or new j false ≡ true) at
-      (λ was. here (i - from) (omega (arith, low, high)) ∙ true_or (get_or old (from + (i - from)) false) (uses (from + (i - from))) was) was
+      subst (λ (j : ℕ). old j ≡ true → new j ≡ true) at
+      (λ was. here (i - from) (omega (arith, low, high)) ∙ true_or (old (from + (i - from))) (uses (from + (i - from))) was) was
 ]
 
 -- a PRB behind the first so many is none of them
@@ -65,26 +65,26 @@ or_none : (b u : Bool) → u ≡ false → b ≡ (b || u)
 or_none true u e = refl
 or_none false u e = sym e
 
-module _ (old new : List Bool) (uses : ℕ → Bool) (from first end count : ℕ) (order : first ≤ end) (within : end ≤ count)
-    (here : (k : ℕ) → k < end - first → get_or new (from + first + k) false ≡ (get_or old (from + first + k) false || uses (from + first + k)))
-    (others : (i : ℕ) → is_from (from + first) (end - first) i ≡ false → get_or new i false ≡ get_or old i false) where
+module _ (old new : ℕ → Bool) (uses : ℕ → Bool) (from first end count : ℕ) (order : first ≤ end) (within : end ≤ count)
+    (here : (k : ℕ) → k < end - first → new (from + first + k) ≡ (old (from + first + k) || uses (from + first + k)))
+    (others : (i : ℕ) → is_from (from + first) (end - first) i ≡ false → new i ≡ old i) where
   pub span_here : ((k : ℕ) → k < count → (first ≤ k → end ≤ k) → uses (from + k) ≡ false)
-      → (k : ℕ) → k < count → get_or new (from + k) false ≡ (get_or old (from + k) false || uses (from + k))
+      → (k : ℕ) → k < count → new (from + k) ≡ (old (from + k) || uses (from + k))
   span_here none k below = elim (cases_lt k first) [
     | inl before ↦
         others (from + k) (from_below (from + first) (end - first) (from + k) (omega (arith, before)))
-        ∙ or_none (get_or old (from + k) false) (uses (from + k)) (none k below (λ after. absurd (omega (arith, before, after))))
+        ∙ or_none (old (from + k)) (uses (from + k)) (none k below (λ after. absurd (omega (arith, before, after))))
     | inr after ↦ elim (cases_lt k end) [
       | inl inside ↦
           let at : from + first + (k - first) ≡ from + k = omega (arith, after) in
-          subst (λ (j : ℕ). get_or new j false ≡ (get_or old j false || uses j)) at (here (k - first) (omega (arith, after, inside)))
+          subst (λ (j : ℕ). new j ≡ (old j || uses j)) at (here (k - first) (omega (arith, after, inside)))
       | inr past ↦
           others (from + k) (from_above (from + first) (end - first) (from + k) (omega (arith, order, past)))
-          ∙ or_none (get_or old (from + k) false) (uses (from + k)) (none k below (λ low. omega (arith, past)))
+          ∙ or_none (old (from + k)) (uses (from + k)) (none k below (λ low. omega (arith, past)))
     ]
   ]
 
-  pub span_others : (i : ℕ) → is_from from count i ≡ false → get_or new i false ≡ get_or old i false
+  pub span_others : (i : ℕ) → is_from from count i ≡ false → new i ≡ old i
   span_others i out = others i (elim (cases_lt i from) [
     | inl before ↦ from_below (from + first) (end - first) i (omega (arith, before))
     | inr low ↦ elim (cases_lt i (from + count)) [

@@ -1,5 +1,5 @@
 -- The ring: a call changes one place.
-use Rattle.std.proofs.Common.{◌≡◌, ℕ, ℤ, pos, negsuc, zero, suc, ◌+◌, ◌<◌, ◌≤◌, inl, inr, Bool, true, false, List, [], ◌∷◌, ◌++◌, length, get_or, set, refl, ap, ap₂, not, ◌==◌, sym, ◌∙◌, subst, arith, length-set, get_or-set_same, get_or-set_other, Option, Some, None}
+use Rattle.std.proofs.Common.{◌≡◌, ℕ, ℤ, pos, negsuc, zero, suc, ◌+◌, ◌<◌, ◌≤◌, inl, inr, Bool, true, false, List, [], ◌∷◌, ◌++◌, length, get_or, set, refl, ap, ap₂, not, ◌==◌, sym, ◌∙◌, subst, arith, length-set, get_or-set_same, get_or-set_other, Option, Some, None, if◌then◌else◌}
 use Rattle.std.specs.Int.{int_gap, int_rem_euclid}
 use Rattle.std.specs.Prelude.{◌||◌}
 use Rattle.std.proofs.lemmas.Bool.{cases_eq, cases_Bool, false_from_ne_true}
@@ -15,7 +15,8 @@ use Rattle.unit_model.specs.Claims.{cell_at}
 use Rattle.unit_model.specs.Proper.{IsSlot}
 use Rattle.unit_model.specs.declared.allocations.Allocation.{Allocation}
 use Rattle.unit_model.specs.declared.cells.Cell.{Cell}
-use Rattle.slot_rings.specs.Places.{PlaceValue, blank, empty_place, opened, is_in_use, is_place_of, claims_of, claims_seen, claim_in, no_claims, place_claim, place_block, place_reported, place_uplink, cell_number}
+use Rattle.unit_model.specs.declared.cells.Claim.{Claim}
+use Rattle.slot_rings.specs.Places.{PlaceValue, blank, empty_place, opened, is_in_use, is_reported, unreported, is_place_of, claims_of, claims_seen, claim_in, no_claims, place_claim, place_block, place_reported, place_uplink, cell_number}
 use Rattle.slot_rings.specs.Rings.{RingValue, IsRing, SharePlace, SameClaims, SameBlocks, SameSlotReported, SameUplink, place_index, place_of, with_place, ring_claim, ring_block, ring_reported, ring_uplink, has_slot}
 use Rattle.slot_rings.specs.declared.claims.CellClaims.{CellClaims}
 use Rattle.unit_model.specs.declared.verdicts.CommandVerdict.TheVariants.{Accepted}
@@ -144,7 +145,7 @@ own_block r cell slot at own =
     ap (λ (p : PlaceValue). place_block r.endpoint.prbs p cell) there ∙ rw owner refl
 
 own_reported : (r : RingValue) (cell : Cell) (slot : Slot) → cell.slot ≡ slot → has_slot r slot ≡ true
-    → ring_reported r cell ≡ get_or (place_of r slot).reported (cell_number r.endpoint.prbs cell.symbol cell.prb) false
+    → ring_reported r cell ≡ is_reported (place_of r slot).down (cell_number r.endpoint.prbs cell.symbol cell.prb)
 own_reported r cell slot at own =
     let there : place_of r cell.slot ≡ place_of r slot = ap (λ (s : Slot). place_of r s) at in
     let owner : is_place_of (place_of r slot).slot cell.slot ≡ true = ap (λ (s : Slot). is_place_of (place_of r slot).slot s) at ∙ own in
@@ -167,12 +168,32 @@ block_other old new slot cell k endpoint was is at apart others = block_still ol
 
 pub reported_still : (old new : RingValue) (slot : Slot) (cell : Cell) → new.endpoint ≡ old.endpoint
     → has_slot old slot ≡ true → has_slot new slot ≡ true → cell.slot ≡ slot
-    → get_or (place_of new slot).reported (cell_number old.endpoint.prbs cell.symbol cell.prb) false ≡ get_or (place_of old slot).reported (cell_number old.endpoint.prbs cell.symbol cell.prb) false
+    → is_reported (place_of new slot).down (cell_number old.endpoint.prbs cell.symbol cell.prb) ≡ is_reported (place_of old slot).down (cell_number old.endpoint.prbs cell.symbol cell.prb)
     → ring_reported new cell ≡ ring_reported old cell
 reported_still old new slot cell endpoint was is at same =
     own_reported new cell slot at is
-    ∙ ap (λ (n : ℕ). get_or (place_of new slot).reported (cell_number n cell.symbol cell.prb) false) (ap (λ e. e.prbs) endpoint)
+    ∙ ap (λ (n : ℕ). is_reported (place_of new slot).down (cell_number n cell.symbol cell.prb)) (ap (λ e. e.prbs) endpoint)
     ∙ same ∙ sym (own_reported old cell slot at was)
+
+-- claims, where cells are set as reported
+claim_still : (prbs : ℕ) (p q : PlaceValue) (cell : Cell) (re : ℕ) → q ≡ record p { down = q.down }
+    → ((i : ℕ) → unreported (get_or q.down i no_claims) ≡ unreported (get_or p.down i no_claims)) → place_claim prbs q cell re ≡ place_claim prbs p cell re
+claim_still prbs p q cell re kept same =
+    ap (λ (x : PlaceValue). place_claim prbs x cell re) kept
+    ∙ ap (λ (o : Option Claim). let all : Option Claim = if is_place_of p.slot cell.slot then o else None in all) (way cell.down)
+  where
+    way : (b : Bool) → claim_in (get_or (claims_of (record p { down = q.down }) b) (cell_number prbs cell.symbol cell.prb) no_claims) re
+        ≡ claim_in (get_or (claims_of p b) (cell_number prbs cell.symbol cell.prb) no_claims) re
+    way true = ap (λ (m : CellClaims). claim_in m re) (same (cell_number prbs cell.symbol cell.prb))
+    way false = refl
+
+pub claims_still : (old new : RingValue) (slot : Slot) → new.endpoint ≡ old.endpoint → place_of new slot ≡ record (place_of old slot) { down = (place_of new slot).down }
+    → ((i : ℕ) → unreported (get_or (place_of new slot).down i no_claims) ≡ unreported (get_or (place_of old slot).down i no_claims)) → SameClaims slot old new
+claims_still old new slot endpoint kept same cell re at =
+    ap (λ (s : Slot). place_claim new.endpoint.prbs (place_of new s) cell re) at
+    ∙ claim_still new.endpoint.prbs (place_of old slot) (place_of new slot) cell re kept same
+    ∙ ap (λ (n : ℕ). place_claim n (place_of old slot) cell re) (ap (λ e. e.prbs) endpoint)
+    ∙ ap (λ (s : Slot). place_claim old.endpoint.prbs (place_of old s) cell re) (sym at)
 
 -- a cell of a row, by the number of its first one
 row_cell : (prbs symbol prb : ℕ) → cell_number prbs symbol prb ≡ cell_number prbs symbol 0 + prb
@@ -180,8 +201,8 @@ row_cell prbs symbol prb = omega arith
 
 -- a cell that is set as reported if it is in use
 pub used_reported : (old new : RingValue) (slot : Slot) (symbol ep prb : ℕ) → new.endpoint ≡ old.endpoint → has_slot old slot ≡ true → has_slot new slot ≡ true
-    → get_or (place_of new slot).reported (cell_number old.endpoint.prbs symbol 0 + prb) false
-    ≡ (get_or (place_of old slot).reported (cell_number old.endpoint.prbs symbol 0 + prb) false
+    → is_reported (place_of new slot).down (cell_number old.endpoint.prbs symbol 0 + prb)
+    ≡ (is_reported (place_of old slot).down (cell_number old.endpoint.prbs symbol 0 + prb)
     || is_in_use (claim_in (get_or (place_of old slot).down (cell_number old.endpoint.prbs symbol 0 + prb) no_claims)))
     → ring_reported new (cell_at ep true slot symbol prb) ≡ (ring_reported old (cell_at ep true slot symbol prb) || is_in_use (ring_claim old (cell_at ep true slot symbol prb)))
 used_reported old new slot symbol ep prb endpoint was is step =
@@ -191,11 +212,11 @@ used_reported old new slot symbol ep prb endpoint was is step =
     ≡ get_or (claims_seen (place_of old slot) slot true) (cell_number old.endpoint.prbs symbol prb) no_claims =
     rw was (ap (λ (k : ℕ). get_or (place_of old slot).down k no_claims) (sym at)) in
     own_reported new cell slot refl is
-    ∙ ap (λ (n : ℕ). get_or (place_of new slot).reported (cell_number n symbol prb) false) (ap (λ e. e.prbs) endpoint)
-    ∙ ap (λ (k : ℕ). get_or (place_of new slot).reported k false) at
+    ∙ ap (λ (n : ℕ). is_reported (place_of new slot).down (cell_number n symbol prb)) (ap (λ e. e.prbs) endpoint)
+    ∙ ap (λ (k : ℕ). is_reported (place_of new slot).down k) at
     ∙ step
     ∙ ap₂ (λ (d : Bool) (u : ℕ). d || not (u == 0))
-    (ap (λ (k : ℕ). get_or (place_of old slot).reported k false) (sym at) ∙ sym (own_reported old cell slot refl was))
+    (ap (λ (k : ℕ). is_reported (place_of old slot).down k) (sym at) ∙ sym (own_reported old cell slot refl was))
     (mask_seen old slot symbol prb ep _ m_is)
 
 -- ---- a slot that is given its place

@@ -5,7 +5,7 @@ use Rattle.unit_model.specs.Claims.{claim_of, first_prb, in_mask, is_claimed, is
 use Rattle.unit_model.specs.Lists.{every, some}
 use Rattle.unit_model.specs.declared.allocations.Allocation.{Allocation}
 use Rattle.unit_model.specs.declared.cells.Claim.{Claim}
-use Rattle.slot_rings.specs.Places.{cell_number, claim_in, no_claims}
+use Rattle.slot_rings.specs.Places.{cell_number, claim_in, no_claims, unreported}
 use Rattle.slot_rings.specs.Rows.{AreRows, Grows, IsRow, IsRun, empty_row, claim_id, id_with, row_claims, row_at, run_claims, claimed_run}
 use Rattle.slot_rings.specs.declared.claims.CellClaims.{CellClaims}
 use Rattle.slot_rings.specs.declared.rows.Row.{Row}
@@ -245,3 +245,19 @@ note_others was rows first k x low others s out = elim (cases_eq s k) [
   where
     differ : (b : Bool) → b ≡ true → b ≡ false → ⊥
     differ b p q = cc
+
+-- ---- what is reported is no matter of the claims
+
+row_same : (prbs : ℕ) (old new : List CellClaims) (symbol : ℕ) (row : Row)
+    → ((i : ℕ) → unreported (get_or new i no_claims) ≡ unreported (get_or old i no_claims)) → IsRow prbs old symbol row → IsRow prbs new symbol row
+row_same prbs old new symbol (Known r) same is = record {
+  each = λ n re below under.
+      ap (λ (m : CellClaims). claim_id (claim_in m re)) (same (cell_number prbs symbol n)) ∙ is.each n re below under;
+}
+row_same prbs old new symbol Mixed same is = tt
+
+pub rows_same : (prbs : ℕ) (old new : List CellClaims) (rows : List Row)
+    → ((i : ℕ) → unreported (get_or new i no_claims) ≡ unreported (get_or old i no_claims)) → AreRows prbs old rows → AreRows prbs new rows
+rows_same prbs old new rows same are = record {
+  each = λ symbol. row_same prbs old new symbol (row_at rows symbol) same (are.each symbol);
+}

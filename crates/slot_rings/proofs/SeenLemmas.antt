@@ -11,7 +11,7 @@ use Rattle.unit_model.specs.declared.cells.Block.{Block}
 use Rattle.unit_model.specs.declared.cells.Cell.{Cell}
 use Rattle.unit_model.specs.declared.cells.Claim.{Claim}
 use Rattle.slot_rings.specs.Blocks.{block_lent}
-use Rattle.slot_rings.specs.Places.{PlaceValue, claim_in, no_claims, is_place_of, is_due, is_in_use, claims_seen, blocks_seen, reported_seen, place_claim, place_block, place_reported, place_uplink, cell_number}
+use Rattle.slot_rings.specs.Places.{PlaceValue, claim_in, no_claims, is_place_of, is_due, is_in_use, claims_seen, blocks_seen, is_reported, place_claim, place_block, place_reported, place_uplink, cell_number}
 use Rattle.slot_rings.specs.Rings.{RingValue, place_of, ring_claim, ring_block, ring_reported, ring_uplink}
 use Rattle.slot_rings.specs.Symbols.{AreCellsOf, lent_claim}
 use Rattle.slot_rings.specs.Verdicts.{verdict_by}
@@ -32,9 +32,9 @@ block_seen prbs p cell = elim (cases_Bool (is_place_of p.slot cell.slot)) [
   | inr other ↦ rw other refl
 ]
 
-flag_seen : (prbs : ℕ) (p : PlaceValue) (cell : Cell) → get_or (reported_seen p cell.slot) (cell_number prbs cell.symbol cell.prb) false ≡ place_reported prbs p cell
-flag_seen prbs p cell = elim (cases_Bool (is_place_of p.slot cell.slot)) [
-  | inl own ↦ rw own refl
+flag_seen : (prbs : ℕ) (p : PlaceValue) (cell : Cell) → cell.down ≡ true → is_reported (claims_seen p cell.slot cell.down) (cell_number prbs cell.symbol cell.prb) ≡ place_reported prbs p cell
+flag_seen prbs p cell down = elim (cases_Bool (is_place_of p.slot cell.slot)) [
+  | inl own ↦ rw (own, down) refl
   | inr other ↦ rw other refl
 ]
 
@@ -50,16 +50,15 @@ row_at : (prbs symbol base n : ℕ) → base ≡ cell_number prbs symbol 0 → b
 row_at prbs symbol base n e = omega (arith, e)
 
 -- the cells of a symbol, lent as what its place's lists have from the first of them on
-pub cells_lent : (r : RingValue) (slot : Slot) (symbol base : ℕ) (cells : SymbolCells) (ms : List CellClaims) (ds : List Bool)
+pub cells_lent : (r : RingValue) (slot : Slot) (symbol base : ℕ) (cells : SymbolCells) (ms : List CellClaims)
     → base ≡ cell_number r.endpoint.prbs symbol 0
-    → ms ≡ claims_seen (place_of r slot) slot true → ds ≡ reported_seen (place_of r slot) slot
+    → ms ≡ claims_seen (place_of r slot) slot true
     → ((k : ℕ) → get_or cells.claims.now k no_claims ≡ get_or ms (base + k) no_claims)
     → ((k : ℕ) → block_lent cells.blocks k ≡ get_or (blocks_seen (place_of r slot) slot) (base + k) None)
-    → ((k : ℕ) → get_or cells.reported.now k false ≡ get_or ds (base + k) false)
     → cells.span.end ≤ r.endpoint.prbs
     → ((prb : ℕ) → prb < r.endpoint.prbs → (cells.span.first ≤ prb → cells.span.end ≤ prb) → is_in_use (lent_claim cells prb) ≡ false)
     → AreCellsOf r slot symbol cells
-cells_lent r slot symbol base cells ms ds base_is ms_is ds_is claims blocks reported within unused = record {
+cells_lent r slot symbol base cells ms base_is ms_is claims blocks within unused = record {
   claims = λ ep prb re.
       one_seen r slot symbol prb ep (get_or cells.claims.now prb no_claims)
       (claims prb ∙ ap (λ (l : List CellClaims). get_or l (base + prb) no_claims) ms_is
@@ -69,24 +68,24 @@ cells_lent r slot symbol base cells ms ds base_is ms_is ds_is claims blocks repo
       ∙ ap (λ (k : ℕ). get_or (blocks_seen (place_of r slot) slot) k None) (row_at r.endpoint.prbs symbol base prb base_is)
       ∙ block_seen r.endpoint.prbs (place_of r slot) (cell_at ep true slot symbol prb);
   reported = λ ep prb.
-      reported prb ∙ ap (λ (l : List Bool). get_or l (base + prb) false) ds_is
-      ∙ ap (λ (k : ℕ). get_or (reported_seen (place_of r slot) slot) k false) (row_at r.endpoint.prbs symbol base prb base_is)
-      ∙ flag_seen r.endpoint.prbs (place_of r slot) (cell_at ep true slot symbol prb);
+      ap (λ (m : CellClaims). m.reported) (claims prb) ∙ ap (λ (l : List CellClaims). is_reported l (base + prb)) ms_is
+      ∙ ap (λ (k : ℕ). is_reported (claims_seen (place_of r slot) slot true) k) (row_at r.endpoint.prbs symbol base prb base_is)
+      ∙ flag_seen r.endpoint.prbs (place_of r slot) (cell_at ep true slot symbol prb) refl;
   within = within;
   unused = unused;
 }
 
-pub due_seen : (r : RingValue) (slot : Slot) (symbol base ep : ℕ) (ms : List CellClaims) (ds : List Bool) → base ≡ cell_number r.endpoint.prbs symbol 0
-    → ms ≡ claims_seen (place_of r slot) slot true → ds ≡ reported_seen (place_of r slot) slot
-    → some 0 r.endpoint.prbs (λ n. is_due (claim_in (get_or ms (base + n) no_claims)) (get_or ds (base + n) false))
+pub due_seen : (r : RingValue) (slot : Slot) (symbol base ep : ℕ) (ms : List CellClaims) → base ≡ cell_number r.endpoint.prbs symbol 0
+    → ms ≡ claims_seen (place_of r slot) slot true
+    → some 0 r.endpoint.prbs (λ n. is_due (claim_in (get_or ms (base + n) no_claims)) (is_reported ms (base + n)))
     ≡ some 0 r.endpoint.prbs (λ prb. is_due (ring_claim r (cell_at ep true slot symbol prb)) (ring_reported r (cell_at ep true slot symbol prb)))
-due_seen r slot symbol base ep ms ds base_is ms_is ds_is = some_same 0 r.endpoint.prbs _ _ (λ n low high.
+due_seen r slot symbol base ep ms base_is ms_is = some_same 0 r.endpoint.prbs _ _ (λ n low high.
     let at = row_at r.endpoint.prbs symbol base n base_is in
     let m_is : get_or ms (base + n) no_claims ≡ get_or (claims_seen (place_of r slot) slot true) (cell_number r.endpoint.prbs symbol n) no_claims =
     ap (λ (l : List CellClaims). get_or l (base + n) no_claims) ms_is ∙ ap (λ (k : ℕ). get_or (claims_seen (place_of r slot) slot true) k no_claims) at in
-    let d_is : get_or ds (base + n) false ≡ ring_reported r (cell_at ep true slot symbol n) =
-    ap (λ (l : List Bool). get_or l (base + n) false) ds_is ∙ ap (λ (k : ℕ). get_or (reported_seen (place_of r slot) slot) k false) at
-    ∙ flag_seen r.endpoint.prbs (place_of r slot) (cell_at ep true slot symbol n) in
+    let d_is : is_reported ms (base + n) ≡ ring_reported r (cell_at ep true slot symbol n) =
+    ap (λ (l : List CellClaims). is_reported l (base + n)) ms_is ∙ ap (λ (k : ℕ). is_reported (claims_seen (place_of r slot) slot true) k) at
+    ∙ flag_seen r.endpoint.prbs (place_of r slot) (cell_at ep true slot symbol n) refl in
     ap₂ (λ (u : ℕ) (d : Bool). not (u == 0) && not d) (mask_seen r slot symbol n ep _ m_is) d_is)
 
 -- the block of a cell, and whether each of some cells has one, of what a place lends

@@ -15,11 +15,19 @@ claim_in m re = if in_mask m.claimed re then Some (record { id = m.id; idle = in
 
 -- a cell of which nothing is claimed
 abbrev pub no_claims : CellClaims
-no_claims = record { id = 0; claimed = 0; idle = 0 }
+no_claims = record { id = 0; claimed = 0; idle = 0; reported = false }
 
--- What a place of the ring keeps: whose slot it is, and of that slot the claims of both directions, the blocks of the downlink, which
--- downlink cells were reported, and the accepted uplink sections, the newest first. A list may end early: what it does not
--- reach is as nothing.
+-- whether the cell with a number was reported
+abbrev pub is_reported : List CellClaims → ℕ → Bool
+is_reported claims k = (get_or claims k no_claims).reported
+
+-- the claims of a cell, reported or not
+abbrev pub unreported : CellClaims → CellClaims
+unreported m = record m { reported = false }
+
+-- What a place of the ring keeps: whose slot it is, and of that slot the claims of both directions with which downlink cells were
+-- reported, the blocks of the downlink, and the accepted uplink sections, the newest first. A list may end early: what it does
+-- not reach is as nothing.
 pub record PlaceValue : Type 0 where
   pub slot : Option Slot
   -- of a symbol: its lists hold the cells of 14 symbols without asking for memory
@@ -27,12 +35,11 @@ pub record PlaceValue : Type 0 where
   pub down : List CellClaims
   pub up : List CellClaims
   pub blocks : List (Option Block)
-  pub reported : List Bool
   pub uplink : List Allocation
 
 -- a place that keeps nothing
 abbrev pub empty_place : Option Slot → ℕ → PlaceValue
-empty_place slot prbs = record { slot = slot; prbs = prbs; down = []; up = []; blocks = []; reported = []; uplink = [] }
+empty_place slot prbs = record { slot = slot; prbs = prbs; down = []; up = []; blocks = []; uplink = [] }
 
 abbrev pub blank : PlaceValue
 blank = empty_place None 0
@@ -59,9 +66,6 @@ claims_seen p slot down = if is_place_of p.slot slot then claims_of p down else 
 abbrev pub blocks_seen : PlaceValue → Slot → List (Option Block)
 blocks_seen p slot = if is_place_of p.slot slot then p.blocks else []
 
-abbrev pub reported_seen : PlaceValue → Slot → List Bool
-reported_seen p slot = if is_place_of p.slot slot then p.reported else []
-
 -- the claims on the cells of one slot and direction, as its place keeps them
 abbrev pub claims_in : ℕ → List CellClaims → Cell → ℕ → Option Claim
 claims_in prbs claims cell re = claim_in (get_or claims (cell_number prbs cell.symbol cell.prb) no_claims) re
@@ -76,7 +80,7 @@ place_block prbs p cell =
 
 abbrev pub place_reported : ℕ → PlaceValue → Cell → Bool
 place_reported prbs p cell =
-    if is_place_of p.slot cell.slot then get_or p.reported (cell_number prbs cell.symbol cell.prb) false else false
+    if is_place_of p.slot cell.slot then is_reported p.down (cell_number prbs cell.symbol cell.prb) else false
 
 abbrev pub place_uplink : PlaceValue → Slot → List Allocation
 place_uplink p slot = if is_place_of p.slot slot then p.uplink else []

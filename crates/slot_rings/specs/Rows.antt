@@ -1,5 +1,5 @@
 -- What is known of the claims of a symbol, so that an allocation is judged by one test for each symbol: this project's means.
-use Rattle.std.specs.Prelude.{◌≡◌, ℕ, ◌<◌, ◌≤◌, ◌&&◌, nat_lt, if◌then◌else◌, List, get_or, Option, Some, None}
+use Rattle.std.specs.Prelude.{◌≡◌, ℕ, ◌<◌, ◌≤◌, ◌&&◌, false, nat_lt, if◌then◌else◌, List, get_or, Option, Some, None}
 use Rattle.unit_model.specs.Claims.{first_prb, in_mask, is_from, prb_count}
 use Rattle.unit_model.specs.declared.allocations.Allocation.{Allocation}
 use Rattle.unit_model.specs.declared.cells.Claim.{Claim}
@@ -16,7 +16,7 @@ claim_id None = None
 claim_id (Some c) = Some c.id
 
 abbrev pub run_claims : Run → CellClaims
-run_claims r = record { id = r.id; claimed = r.claimed; idle = 0 }
+run_claims r = record { id = r.id; claimed = r.claimed; idle = 0; reported = false }
 
 -- the claims of a cell of the symbol, but for what is idle
 abbrev pub row_claims : Run → ℕ → CellClaims

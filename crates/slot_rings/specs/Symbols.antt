@@ -5,7 +5,7 @@ use Rattle.unit_model.specs.Claims.{cell_at}
 use Rattle.unit_model.specs.declared.cells.Block.{Block}
 use Rattle.unit_model.specs.declared.cells.Claim.{Claim}
 use Rattle.slot_rings.specs.Blocks.{block_lent}
-use Rattle.slot_rings.specs.Places.{claim_in, is_in_use, no_claims}
+use Rattle.slot_rings.specs.Places.{claim_in, is_in_use, is_reported, no_claims}
 use Rattle.slot_rings.specs.Rings.{RingValue, ring_block, ring_claim, ring_reported}
 use Rattle.slot_rings.specs.declared.symbol_cells.SymbolCells.{SymbolCells}
 
@@ -18,7 +18,7 @@ abbrev pub lent_block : SymbolCells → ℕ → Option Block
 lent_block cells prb = block_lent cells.blocks prb
 
 abbrev pub lent_reported : SymbolCells → ℕ → Bool
-lent_reported cells prb = get_or cells.reported.now prb false
+lent_reported cells prb = is_reported cells.claims.now prb
 
 -- these are the downlink cells of a symbol
 pub record AreCellsOf (r : RingValue) (slot : Slot) (symbol : ℕ) (cells : SymbolCells) : Type 0 where

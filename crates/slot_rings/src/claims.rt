@@ -13,7 +13,7 @@ fn without(mask: u16, gone: u16) -> u16
     mask & !gone & ALL
 }
 
-/// The claimed elements of a cell, all under one section id.
+/// The claimed elements of a cell, all under one section id, and whether the cell was reported.
 #[derive(Clone, Copy, Debug, PartialEq, Eq)]
 pub struct CellClaims {
     pub id: u16,
@@ -21,6 +21,8 @@ pub struct CellClaims {
     pub claimed: u16,
     /// Those of them that are idle.
     pub idle: u16,
+    /// Whether the cell was reported. Without claims it never is.
+    pub reported: bool,
 }
 
 /// No claims.
@@ -28,6 +30,7 @@ pub(crate) const NONE: CellClaims = CellClaims {
     id: 0,
     claimed: 0,
     idle: 0,
+    reported: false,
 };
 
 impl CellClaims {
@@ -58,10 +61,11 @@ impl CellClaims {
         }
     }
 
-    /// The claims with those of a further mask.
+    /// The claims with those of a further mask, of a cell that was reported or not.
     pub(crate) fn with(self, id: u16, mask: u16, idle: bool) -> CellClaims
         requires { is_overlapped id mask (claim_in self) ≡ false }
-        ensures { (re : ℕ) → re < 12 → claim_in result re ≡ (if in_mask mask re then Some (record { id = id; idle = idle }) else claim_in self re) }
+        ensures each { (re : ℕ) → re < 12 → claim_in result re ≡ (if in_mask mask re then Some (record { id = id; idle = idle }) else claim_in self re) }
+        ensures reported { result.reported ≡ self.reported }
     {
         CellClaims {
             id,
@@ -71,6 +75,7 @@ impl CellClaims {
             } else {
                 self.idle & !mask
             },
+            reported: self.reported,
         }
     }
 

@@ -4,7 +4,7 @@ ghost use Rattle.fh_time.specs.Carrier.{is_outside};
 ghost use Rattle.unit_model.specs.Claims.{first_prb, prb_count, cell_of, in_mask, is_from, is_claimed, is_overlapped, claim_of};
 ghost use Rattle.unit_model.specs.Commands.{is_uplink};
 ghost use Rattle.unit_model.specs.Lists.{every, some};
-ghost use Rattle.slot_rings.specs.Places.{claim_in, claims_in, no_claims};
+ghost use Rattle.slot_rings.specs.Places.{claim_in, claims_in, is_reported, no_claims};
 ghost use Rattle.slot_rings.specs.Rows.{AreRows};
 ghost use Rattle.slot_rings.specs.Verdicts.{repeats_by, overlaps_by, verdict_by};
 ghost use Rattle.fh_time.specs.declared.symbols.TheConstants.{SLOT_SYMBOLS};
@@ -172,6 +172,7 @@ fn claim_fresh(claims: &mut Vec<CellClaims>, from: usize, count: usize, a: &Allo
     requires small { from + count < 2 ^ 32 }
     ensures each { (k re : ℕ) → re < 12 → claim_in (get_or claims.new.items k no_claims) re
         ≡ (if is_from from count k && in_mask a.now.mask re then Some (claim_of a.now) else claim_in (get_or claims.old.items k no_claims) re) }
+    ensures reported { (k : ℕ) → is_reported claims.new.items k ≡ is_reported claims.old.items k }
     ensures capacity { vec_capacity claims.old ≤ vec_capacity claims.new }
 {
     let one = NONE.with(a.section, a.mask, a.idle);
@@ -186,6 +187,7 @@ fn claim_more(claims: &mut Vec<CellClaims>, from: usize, count: usize, a: &Alloc
         → is_overlapped a.now.section a.now.mask (claim_in (get_or claims.old.items k no_claims)) ≡ false }
     ensures each { (k re : ℕ) → re < 12 → claim_in (get_or claims.new.items k no_claims) re
         ≡ (if is_from from count k && in_mask a.now.mask re then Some (claim_of a.now) else claim_in (get_or claims.old.items k no_claims) re) }
+    ensures reported { (k : ℕ) → is_reported claims.new.items k ≡ is_reported claims.old.items k }
     ensures capacity { vec_capacity claims.old ≤ vec_capacity claims.new }
 {
     reach(claims, from + count, NONE);
@@ -202,6 +204,7 @@ fn claim_row(claims: &mut Vec<CellClaims>, from: usize, count: usize, a: &Alloca
         → is_overlapped a.now.section a.now.mask (claim_in (get_or claims.old.items k no_claims)) ≡ false }
     ensures each { (k re : ℕ) → re < 12 → claim_in (get_or claims.new.items k no_claims) re
         ≡ (if is_from from count k && in_mask a.now.mask re then Some (claim_of a.now) else claim_in (get_or claims.old.items k no_claims) re) }
+    ensures reported { (k : ℕ) → is_reported claims.new.items k ≡ is_reported claims.old.items k }
     ensures capacity { vec_capacity claims.old ≤ vec_capacity claims.new }
 {
     if claims.len() <= from {
@@ -221,6 +224,7 @@ fn claim_cells(claims: &mut Vec<CellClaims>, a: &Allocation)
         → claim_in (get_or claims.new.items (symbol * a.now.endpoint.prbs + prb) no_claims) re
         ≡ (if (is_from a.now.symbol a.now.num_symbol symbol && is_from (first_prb a.now) (prb_count a.now) prb) && in_mask a.now.mask re then Some (claim_of a.now)
         else claim_in (get_or claims.old.items (symbol * a.now.endpoint.prbs + prb) no_claims) re) }
+    ensures reported { (k : ℕ) → is_reported claims.new.items k ≡ is_reported claims.old.items k }
     ensures capacity { vec_capacity claims.old ≤ vec_capacity claims.new }
 {
     let prbs = a.endpoint.prbs as usize;
@@ -242,6 +246,7 @@ pub(crate) fn claim(claims: &mut Vec<CellClaims>, rows: &mut [Row; SLOT_SYMBOLS]
         → claim_in (get_or claims.new.items (symbol * a.now.endpoint.prbs + prb) no_claims) re
         ≡ (if (is_from a.now.symbol a.now.num_symbol symbol && is_from (first_prb a.now) (prb_count a.now) prb) && in_mask a.now.mask re then Some (claim_of a.now)
         else claim_in (get_or claims.old.items (symbol * a.now.endpoint.prbs + prb) no_claims) re) }
+    ensures reported { (k : ℕ) → is_reported claims.new.items k ≡ is_reported claims.old.items k }
     ensures capacity { vec_capacity claims.old ≤ vec_capacity claims.new }
 {
     claim_cells(claims, a);

@@ -1,5 +1,5 @@
 // The memory of one slot.
-ghost use Rattle.std.specs.Prelude.{◌≡◌, ◌≢◌, ℕ, ◌+◌, ◌*◌, ◌<◌, ◌≤◌, ◌||◌, true, false, length, get_or, reverse, if◌then◌else◌, IfOk, None, Some, vec_capacity, vec_len};
+ghost use Rattle.std.specs.Prelude.{◌≡◌, ◌≢◌, ℕ, ◌+◌, ◌*◌, ◌<◌, ◌≤◌, ◌||◌, true, false, List, length, get_or, reverse, if◌then◌else◌, IfOk, None, Some, vec_capacity, vec_len};
 ghost use Rattle.fh_time.specs.Carrier.{is_outside};
 ghost use Rattle.bfp_codec.specs.Layout.{HasWidth};
 ghost use Rattle.unit_model.specs.Claims.{is_from, same_slot};
@@ -8,15 +8,17 @@ ghost use Rattle.unit_model.specs.Lists.{or_else};
 ghost use Rattle.unit_model.specs.declared.cells.Cell.{Cell};
 ghost use Rattle.unit_model.specs.declared.verdicts.CommandVerdict.TheVariants.{Accepted};
 ghost use Rattle.slot_rings.specs.Verdicts.{uplink_after};
-ghost use Rattle.slot_rings.specs.Places.{claim_in, is_in_use, is_place_of, no_claims};
+ghost use Rattle.slot_rings.specs.Places.{claim_in, is_in_use, is_place_of, is_reported, no_claims, unreported};
+ghost use Rattle.slot_rings.specs.Rows.{AreRows};
+ghost use Rattle.slot_rings.specs.declared.rows.Row.{Row};
 ghost use Rattle.slot_rings.specs.Runs.{packed_block, packed_samples};
 ghost use Rattle.fh_time.specs.declared.carrier.TheConstants.{CARRIER_PRBS};
 ghost use Rattle.fh_time.specs.declared.symbols.TheConstants.{SLOT_SYMBOLS};
 ghost use Rattle.unit_model.specs.declared.uplink.TheConstants.{SLOT_SECTIONS};
 
 use crate::blocks::{Blocks, LentBlocks};
-use crate::claims::CellClaims;
-use crate::judging::{claim, claims_at, is_uplink, verdict};
+use crate::claims::{CellClaims, NONE};
+use crate::judging::{claim, is_uplink, verdict};
 use crate::lists::reach;
 use crate::packed::PackedRun;
 use crate::rows::{EMPTY, Row, Span, row_at, span_of};
@@ -40,7 +42,6 @@ pub(crate) struct Place {
     down_rows: [Row; SLOT_SYMBOLS],
     up_rows: [Row; SLOT_SYMBOLS],
     blocks: Blocks,
-    reported: Vec<bool>,
     // the newest last
     uplink: Vec<Allocation>,
 }
@@ -54,10 +55,10 @@ impl Model for Place {
 
     ghost Value = { PlaceValue };
 
-    ghost view = { λ p. record { slot = p.slot; prbs = p.prbs; down = p.down.items; up = p.up.items; blocks = p.blocks.items; reported = p.reported.items; uplink = reverse p.uplink.items } };
+    ghost view = { λ p. record { slot = p.slot; prbs = p.prbs; down = p.down.items; up = p.up.items; blocks = p.blocks.items; uplink = reverse p.uplink.items } };
 
     ghost invariant = { λ p. (SLOT_SYMBOLS * p.prbs ≤ vec_capacity p.down) × (SLOT_SYMBOLS * p.prbs ≤ vec_capacity p.up) × (SLOT_SYMBOLS * p.prbs ≤ p.blocks.cells)
-        × (SLOT_SYMBOLS * p.prbs ≤ vec_capacity p.reported) × (SLOT_SECTIONS ≤ vec_capacity p.uplink) × (length p.uplink.items ≤ SLOT_SECTIONS)
+        × (SLOT_SECTIONS ≤ vec_capacity p.uplink) × (length p.uplink.items ≤ SLOT_SECTIONS)
         × AreRows p.prbs p.down.items p.down_rows × AreRows p.prbs p.up.items p.up_rows };
 }
 
@@ -93,38 +94,48 @@ fn keep(uplink: &mut Vec<Allocation>, a: &Allocation)
     }
 }
 
+/// Whether a cell is in use.
+fn is_used(claims: &Vec<CellClaims>, k: usize) -> bool
+    requires { k < vec_len claims.now }
+    ensures { result ≡ is_in_use (claim_in (get_or claims.now.items k no_claims)) }
+{
+    claims[k].used() != 0
+}
+
 /// Sets one cell as reported, if it is in use.
-fn set_reported(reported: &mut Vec<bool>, k: usize, used: bool)
-    requires { k < vec_len reported.old }
-    ensures here { get_or reported.new.items k false ≡ (get_or reported.old.items k false || used) }
-    ensures others { (i : ℕ) → i ≢ k → get_or reported.new.items i false ≡ get_or reported.old.items i false }
-    ensures len { vec_len reported.new ≡ vec_len reported.old }
-    ensures capacity { vec_capacity reported.old ≤ vec_capacity reported.new }
+fn set_reported(claims: &mut Vec<CellClaims>, k: usize, used: bool)
+    requires { k < vec_len claims.old }
+    ensures here { is_reported claims.new.items k ≡ (is_reported claims.old.items k || used) }
+    ensures others { (i : ℕ) → i ≢ k → is_reported claims.new.items i ≡ is_reported claims.old.items i }
+    ensures claims { (i : ℕ) → unreported (get_or claims.new.items i no_claims) ≡ unreported (get_or claims.old.items i no_claims) }
+    ensures len { vec_len claims.new ≡ vec_len claims.old }
+    ensures capacity { vec_capacity claims.old ≤ vec_capacity claims.new }
 {
     if used {
-        reported[k] = true;
+        claims[k].reported = true;
     }
 }
 
 /// Sets as reported those of so many cells, from number `from` on, that are in use.
-fn set_used_reported(reported: &mut Vec<bool>, claims: &[CellClaims], from: usize, count: usize)
-    requires { from + count ≤ vec_capacity reported.old }
-    ensures here { (k : ℕ) → k < count → get_or reported.new.items (from + k) false
-        ≡ (get_or reported.old.items (from + k) false || is_in_use (claim_in (get_or claims.now (from + k) no_claims))) }
-    ensures others { (i : ℕ) → is_from from count i ≡ false → get_or reported.new.items i false ≡ get_or reported.old.items i false }
-    ensures capacity { vec_capacity reported.old ≤ vec_capacity reported.new }
+fn set_used_reported(claims: &mut Vec<CellClaims>, from: usize, count: usize)
+    requires { from + count ≤ vec_capacity claims.old }
+    ensures here { (k : ℕ) → k < count → is_reported claims.new.items (from + k)
+        ≡ (is_reported claims.old.items (from + k) || is_in_use (claim_in (get_or claims.old.items (from + k) no_claims))) }
+    ensures others { (i : ℕ) → is_from from count i ≡ false → is_reported claims.new.items i ≡ is_reported claims.old.items i }
+    ensures claims { (i : ℕ) → unreported (get_or claims.new.items i no_claims) ≡ unreported (get_or claims.old.items i no_claims) }
+    ensures rows { (prbs : ℕ) (rows : List Row) → AreRows prbs claims.old.items rows → AreRows prbs claims.new.items rows }
+    ensures capacity { vec_capacity claims.old ≤ vec_capacity claims.new }
 {
-    reach(reported, from + count, false);
+    reach(claims, from + count, NONE);
     for k in 0..count {
-        let used = claims_at(claims, from + k).used() != 0;
-        set_reported(reported, from + k, used);
+        let used = is_used(claims, from + k);
+        set_reported(claims, from + k, used);
     }
 }
 
 impl Place {
     ghost use Rattle.slot_rings.specs.Blocks.{block_lent};
-    ghost use Rattle.slot_rings.specs.Places.{cell_number, claim_in, no_claims, empty_place, opened, claims_seen, blocks_seen, reported_seen, place_claim, place_uplink};
-    ghost use Rattle.slot_rings.specs.Rows.{AreRows};
+    ghost use Rattle.slot_rings.specs.Places.{cell_number, claim_in, no_claims, empty_place, opened, claims_seen, blocks_seen, place_claim, place_uplink};
     ghost use Rattle.slot_rings.specs.Verdicts.{overlaps_by, verdict_by, claim_after};
 
     /// Takes all memory, for so many PRBs.
@@ -136,7 +147,6 @@ impl Place {
         let down = Vec::with_capacity(alloc, room)?;
         let up = Vec::with_capacity(alloc, room)?;
         let blocks = Blocks::make(alloc, room as u16)?;
-        let reported = Vec::with_capacity(alloc, room)?;
         let uplink = Vec::with_capacity(alloc, SLOT_SECTIONS)?;
         Ok(Place {
             slot: None,
@@ -146,7 +156,6 @@ impl Place {
             down_rows: [EMPTY; SLOT_SYMBOLS],
             up_rows: [EMPTY; SLOT_SYMBOLS],
             blocks,
-            reported,
             uplink,
         })
     }
@@ -175,7 +184,6 @@ impl Place {
         self.down_rows = [EMPTY; SLOT_SYMBOLS];
         self.up_rows = [EMPTY; SLOT_SYMBOLS];
         self.blocks.clear();
-        self.reported.clear();
         self.uplink.clear();
     }
 
@@ -267,6 +275,7 @@ impl Place {
         requires free { overlaps_by (place_claim a.now.endpoint.prbs self.old) a.now ≡ false }
         ensures claims { (cell : Cell) (re : ℕ) → cell.ep ≡ a.now.ep → cell.slot ≡ a.now.slot → cell.prb < a.now.endpoint.prbs → re < 12
             → place_claim a.now.endpoint.prbs self.new cell re ≡ claim_after Accepted a.now cell re (place_claim a.now.endpoint.prbs self.old cell re) }
+        ensures reported { (k : ℕ) → is_reported self.new.down k ≡ is_reported self.old.down k }
         ensures kept { self.new ≡ record self.old { down = self.new.down; up = self.new.up } }
     {
         if a.down {
@@ -293,6 +302,7 @@ impl Place {
         ensures claims { (cell : Cell) (re : ℕ) → cell.ep ≡ a.now.ep → cell.slot ≡ a.now.slot → cell.prb < a.now.endpoint.prbs → re < 12
             → place_claim a.now.endpoint.prbs self.new cell re ≡ claim_after Accepted a.now cell re (place_claim a.now.endpoint.prbs self.old cell re) }
         ensures uplink { self.new.uplink ≡ uplink_after Accepted a.now self.old.uplink }
+        ensures reported { (k : ℕ) → is_reported self.new.down k ≡ is_reported self.old.down k }
         ensures kept { self.new ≡ record self.old { down = self.new.down; up = self.new.up; uplink = self.new.uplink } }
     {
         self.claim_elements(a);
@@ -307,17 +317,6 @@ impl Place {
             self.blocks.lend()
         } else {
             LentBlocks::none()
-        }
-    }
-
-    /// Which downlink cells of a slot were reported.
-    pub(crate) fn reported(&self, slot: Slot) -> &[bool]
-        ensures { result.now ≡ reported_seen self.now slot }
-    {
-        if self.has(slot) {
-            self.reported.as_slice()
-        } else {
-            &[]
         }
     }
 
@@ -348,10 +347,11 @@ impl Place {
         requires symbol { symbol < SLOT_SYMBOLS }
         requires from { from ≡ cell_number self.old.prbs symbol 0 }
         requires count { count ≤ self.old.prbs }
-        ensures here { (k : ℕ) → k < count → get_or self.new.reported (from + k) false
-            ≡ (get_or self.old.reported (from + k) false || is_in_use (claim_in (get_or self.old.down (from + k) no_claims))) }
-        ensures others { (i : ℕ) → is_from from count i ≡ false → get_or self.new.reported i false ≡ get_or self.old.reported i false }
-        ensures kept { self.new ≡ record self.old { reported = self.new.reported } }
+        ensures here { (k : ℕ) → k < count → is_reported self.new.down (from + k)
+            ≡ (is_reported self.old.down (from + k) || is_in_use (claim_in (get_or self.old.down (from + k) no_claims))) }
+        ensures others { (i : ℕ) → is_from from count i ≡ false → is_reported self.new.down i ≡ is_reported self.old.down i }
+        ensures claims { (i : ℕ) → unreported (get_or self.new.down i no_claims) ≡ unreported (get_or self.old.down i no_claims) }
+        ensures kept { self.new ≡ record self.old { down = self.new.down } }
     {
         let row = row_at(&self.down_rows, symbol as usize);
         let span = span_of(row, self.prbs);
@@ -363,11 +363,12 @@ impl Place {
     /// Sets as reported those of so many downlink cells, from number `from` on, that are in use.
     fn set_cells_reported(&mut self, from: usize, count: usize)
         requires { from + count ≤ SLOT_SYMBOLS * self.old.prbs }
-        ensures here { (k : ℕ) → k < count → get_or self.new.reported (from + k) false
-            ≡ (get_or self.old.reported (from + k) false || is_in_use (claim_in (get_or self.old.down (from + k) no_claims))) }
-        ensures others { (i : ℕ) → is_from from count i ≡ false → get_or self.new.reported i false ≡ get_or self.old.reported i false }
-        ensures kept { self.new ≡ record self.old { reported = self.new.reported } }
+        ensures here { (k : ℕ) → k < count → is_reported self.new.down (from + k)
+            ≡ (is_reported self.old.down (from + k) || is_in_use (claim_in (get_or self.old.down (from + k) no_claims))) }
+        ensures others { (i : ℕ) → is_from from count i ≡ false → is_reported self.new.down i ≡ is_reported self.old.down i }
+        ensures claims { (i : ℕ) → unreported (get_or self.new.down i no_claims) ≡ unreported (get_or self.old.down i no_claims) }
+        ensures kept { self.new ≡ record self.old { down = self.new.down } }
     {
-        set_used_reported(&mut self.reported, self.down.as_slice(), from, count);
+        set_used_reported(&mut self.down, from, count);
     }
 }

@@ -8,7 +8,7 @@ ghost use Rattle.unit_model.specs.Lists.{every, some, or_else};
 ghost use Rattle.unit_model.specs.Proper.{IsSlot};
 ghost use Rattle.unit_model.specs.declared.cells.Cell.{Cell};
 ghost use Rattle.unit_model.specs.declared.verdicts.CommandVerdict.TheVariants.{Accepted};
-ghost use Rattle.slot_rings.specs.Places.{blank, claim_in, no_claims, is_place_of, is_due, is_in_use, opened, place_claim, place_uplink, cell_number};
+ghost use Rattle.slot_rings.specs.Places.{blank, claim_in, no_claims, is_place_of, is_due, is_in_use, is_reported, unreported, opened, place_claim, place_uplink, cell_number};
 ghost use Rattle.slot_rings.specs.Runs.{packed_block, packed_samples};
 ghost use Rattle.slot_rings.specs.Verdicts.{verdict_by, claim_after, uplink_after};
 ghost use Rattle.fh_time.specs.declared.symbols.TheConstants.{SLOT_SYMBOLS};
@@ -181,7 +181,6 @@ impl SlotRing {
         SymbolCells {
             claims: items_from(place.claims(slot, true), base),
             blocks: place.blocks(slot).behind(base),
-            reported: items_from(place.reported(slot), base),
             span: place.span(slot, symbol),
         }
     }
@@ -259,7 +258,6 @@ impl SlotRing {
         let place = self.place(slot);
         any_due(
             place.claims(slot, true),
-            place.reported(slot),
             base,
             self.endpoint.prbs,
             place.span(slot, symbol),
@@ -313,7 +311,7 @@ impl SlotRing {
         ensures uplink { (place_of self.new a.now.slot).uplink ≡ uplink_after Accepted a.now (place_of self.old a.now.slot).uplink }
         ensures slot { (place_of self.new a.now.slot).slot ≡ (place_of self.old a.now.slot).slot }
         ensures blocks { (place_of self.new a.now.slot).blocks ≡ (place_of self.old a.now.slot).blocks }
-        ensures reported { (place_of self.new a.now.slot).reported ≡ (place_of self.old a.now.slot).reported }
+        ensures reported { (k : ℕ) → is_reported (place_of self.new a.now.slot).down k ≡ is_reported (place_of self.old a.now.slot).down k }
     {
         let index = self.index(a.slot);
         let place = &mut self.places[index];
@@ -360,12 +358,13 @@ impl SlotRing {
         requires symbol { symbol < SLOT_SYMBOLS }
         requires count { count ≤ self.old.endpoint.prbs }
         ensures only { self.new ≡ with_place self.old slot (place_of self.new slot) }
-        ensures here { (k : ℕ) → k < count → get_or (place_of self.new slot).reported (cell_number self.old.endpoint.prbs symbol 0 + k) false
-            ≡ (get_or (place_of self.old slot).reported (cell_number self.old.endpoint.prbs symbol 0 + k) false
+        ensures here { (k : ℕ) → k < count → is_reported (place_of self.new slot).down (cell_number self.old.endpoint.prbs symbol 0 + k)
+            ≡ (is_reported (place_of self.old slot).down (cell_number self.old.endpoint.prbs symbol 0 + k)
             || is_in_use (claim_in (get_or (place_of self.old slot).down (cell_number self.old.endpoint.prbs symbol 0 + k) no_claims))) }
         ensures others { (i : ℕ) → is_from (cell_number self.old.endpoint.prbs symbol 0) count i ≡ false
-            → get_or (place_of self.new slot).reported i false ≡ get_or (place_of self.old slot).reported i false }
-        ensures kept { place_of self.new slot ≡ record (place_of self.old slot) { reported = (place_of self.new slot).reported } }
+            → is_reported (place_of self.new slot).down i ≡ is_reported (place_of self.old slot).down i }
+        ensures claims { (i : ℕ) → unreported (get_or (place_of self.new slot).down i no_claims) ≡ unreported (get_or (place_of self.old slot).down i no_claims) }
+        ensures kept { place_of self.new slot ≡ record (place_of self.old slot) { down = (place_of self.new slot).down } }
     {
         let number = self.number(symbol, 0);
         let index = self.index(slot);
@@ -401,12 +400,13 @@ impl SlotRing {
         requires symbol { symbol < SLOT_SYMBOLS }
         requires count { count ≤ self.old.endpoint.prbs }
         ensures only { self.new ≡ with_place self.old slot (place_of self.new slot) }
-        ensures here { (k : ℕ) → k < count → get_or (place_of self.new slot).reported (cell_number self.old.endpoint.prbs symbol 0 + k) false
-            ≡ (get_or (place_of self.old slot).reported (cell_number self.old.endpoint.prbs symbol 0 + k) false
+        ensures here { (k : ℕ) → k < count → is_reported (place_of self.new slot).down (cell_number self.old.endpoint.prbs symbol 0 + k)
+            ≡ (is_reported (place_of self.old slot).down (cell_number self.old.endpoint.prbs symbol 0 + k)
             || is_in_use (claim_in (get_or (place_of self.old slot).down (cell_number self.old.endpoint.prbs symbol 0 + k) no_claims))) }
         ensures others { (i : ℕ) → is_from (cell_number self.old.endpoint.prbs symbol 0) count i ≡ false
-            → get_or (place_of self.new slot).reported i false ≡ get_or (place_of self.old slot).reported i false }
-        ensures kept { place_of self.new slot ≡ record (place_of self.old slot) { reported = (place_of self.new slot).reported } }
+            → is_reported (place_of self.new slot).down i ≡ is_reported (place_of self.old slot).down i }
+        ensures claims { (i : ℕ) → unreported (get_or (place_of self.new slot).down i no_claims) ≡ unreported (get_or (place_of self.old slot).down i no_claims) }
+        ensures kept { place_of self.new slot ≡ record (place_of self.old slot) { down = (place_of self.new slot).down } }
     {
         self.set_place_reported(slot, symbol, count);
         self.renew_start(slot);

@@ -70,6 +70,7 @@ impl Run {
             id: self.id,
             claimed: self.claimed,
             idle: 0,
+            reported: false,
         }
     }
 

@@ -6,7 +6,6 @@ use crate::blocks::LentBlocks;
 use crate::claims::CellClaims;
 use crate::judging::claims_at;
 use crate::rows::Span;
-use crate::scans::reported_here;
 use unit_model::Block;
 
 /// What a report needs of a downlink cell besides its block.
@@ -24,12 +23,10 @@ pub struct Use {
 /// the cells behind.
 #[derive(Clone, Copy)]
 pub struct SymbolCells<'a> {
-    /// What is claimed of them.
+    /// What is claimed of them, and which were reported.
     pub claims: &'a [CellClaims],
     /// The blocks that came for them.
     pub blocks: LentBlocks<'a>,
-    /// Which of them were reported.
-    pub reported: &'a [bool],
     /// The PRBs of the symbol outside of which no cell is in use.
     pub span: Span,
 }
@@ -43,12 +40,11 @@ impl<'a> SymbolCells<'a> {
         ensures section { result.section ≡ cell_id (lent_claim self.now prb) }
         ensures reported { result.reported ≡ lent_reported self.now prb }
     {
-        let prb = prb as usize;
-        let claims = claims_at(self.claims, prb);
+        let claims = claims_at(self.claims, prb as usize);
         Use {
             mask: claims.used(),
             section: claims.section(),
-            reported: reported_here(self.reported, prb),
+            reported: claims.reported,
         }
     }
 

@@ -1,4 +1,4 @@
-use Rattle.std.proofs.Common.{◌+◌, ◌*◌, arith}
+use Rattle.std.proofs.Common.{◌+◌, ◌*◌, ◌∙◌, arith}
 use Rattle.unit_model.specs.Claims.{first_prb, prb_count}
 use Rattle.slot_rings.proofs.JudgeLemmas.{inside, row_fits, row_free, row_claimed}
 use Rattle.slot_rings.proofs.judging.claim_cells.Goals as goal
@@ -20,6 +20,7 @@ claim_row-requires-clause-free c k left right =
 pub loop-symbol-preserved : goal.loop-symbol-preserved
 loop-symbol-preserved c = record {
   capacity = omega (arith, c.loop-symbol.invariant.capacity, c.claim_row.ensures.capacity);
+  reported = λ k. c.claim_row.ensures.reported k ∙ c.loop-symbol.invariant.reported k;
   each = λ z n re below under.
       let f = c.first_prb.ensures in
       let count = c.prb_count.ensures in

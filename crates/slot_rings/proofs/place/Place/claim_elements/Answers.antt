@@ -18,10 +18,10 @@ down_same p q b b_is e = rw b_is e
 
 -- the place afterwards
 abbrev then_is : goal.After-claim → PlaceValue
-then_is c = record { slot = c.self.inside.slot; prbs = c.self.inside.prbs; down = c.claim.new.claims.items; up = c.self.inside.up.items; blocks = c.self.inside.blocks.items; reported = c.self.inside.reported.items; uplink = reverse c.self.inside.uplink.items }
+then_is c = record { slot = c.self.inside.slot; prbs = c.self.inside.prbs; down = c.claim.new.claims.items; up = c.self.inside.up.items; blocks = c.self.inside.blocks.items; uplink = reverse c.self.inside.uplink.items }
 
 abbrev else_is : goal.After-claim-else-a → PlaceValue
-else_is c = record { slot = c.self.inside.slot; prbs = c.self.inside.prbs; down = c.self.inside.down.items; up = c.claim-else-a.new.claims.items; blocks = c.self.inside.blocks.items; reported = c.self.inside.reported.items; uplink = reverse c.self.inside.uplink.items }
+else_is c = record { slot = c.self.inside.slot; prbs = c.self.inside.prbs; down = c.self.inside.down.items; up = c.claim-else-a.new.claims.items; blocks = c.self.inside.blocks.items; uplink = reverse c.self.inside.uplink.items }
 
 pub claim-requires-clause-free : goal.claim-requires-clause-free
 claim-requires-clause-free c = free_seen c.args.a.now.endpoint.prbs c.args.self.now c.args.a.now _ c.requires.slot

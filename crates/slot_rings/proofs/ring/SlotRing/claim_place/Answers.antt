@@ -36,7 +36,7 @@ invariant_of-self c =
     → due_in r.endpoint.prbs c.index_mut-place.result.now s ≡ false → due_in r.endpoint.prbs c.claim.new.self s ≡ false =
     λ s. claimed_quiet r.endpoint.prbs c.args.a.now.endpoint.prbs s c.index_mut-place.result.now c.claim.new.self c.args.a.now
     (ap (λ (e : EndpointConfig). e.prbs) c.requires.endpoint ∙ ap (λ (x : RingValue). x.endpoint.prbs) (sym c.self.view_is)) own
-    (ap (λ (p : PlaceValue). p.slot) c.claim.ensures.kept) (ap (λ (p : PlaceValue). p.reported) c.claim.ensures.kept) c.claim.ensures.claims in (
+    (ap (λ (p : PlaceValue). p.slot) c.claim.ensures.kept) c.claim.ensures.reported c.claim.ensures.claims in (
       put_kept r c.index-index.result c.index_mut-place.result.now c.claim.new.self c.self.invariant.0
           within c.index_mut-place.ensures.value
           (ap (λ (p : PlaceValue). p.slot) c.claim.ensures.kept) (ap (λ (p : PlaceValue). p.prbs) c.claim.ensures.kept),

@@ -16,9 +16,9 @@ invariant_of-self c =
           (ap (λ (p : PlaceValue). p.slot) c.fill.ensures.kept) (ap (λ (p : PlaceValue). p.prbs) c.fill.ensures.kept),
       flagged_put r c.self.inside.pending c.self.inside.pending c.index-index.result c.index_mut.result.now c.fill.new.self c.self.invariant.1 within c.index_mut.ensures.value
           refl (λ j s off. off)
-          (λ s off. filled_quiet r.endpoint.prbs s c.index_mut.result.now c.fill.new.self (ap (λ (p : PlaceValue). p.down) c.fill.ensures.kept) (ap (λ (p : PlaceValue). p.reported) c.fill.ensures.kept)),
+          (λ s off. filled_quiet r.endpoint.prbs s c.index_mut.result.now c.fill.new.self (ap (λ (p : PlaceValue). p.down) c.fill.ensures.kept)),
       sections_kept r c.self.inside.sections c.index-index.result c.index_mut.result.now c.fill.new.self c.self.invariant.2 within c.index_mut.ensures.value (ap (λ (p : PlaceValue). p.uplink) c.fill.ensures.kept),
       starts_kept r c.self.inside.starts c.index-index.result c.index_mut.result.now c.fill.new.self c.self.invariant.3 within c.index_mut.ensures.value
           (ap (λ (p : PlaceValue). p.slot) c.fill.ensures.kept)
-          (λ s. filled_quiet r.endpoint.prbs s c.index_mut.result.now c.fill.new.self (ap (λ (p : PlaceValue). p.down) c.fill.ensures.kept) (ap (λ (p : PlaceValue). p.reported) c.fill.ensures.kept)),
+          (λ s. filled_quiet r.endpoint.prbs s c.index_mut.result.now c.fill.new.self (ap (λ (p : PlaceValue). p.down) c.fill.ensures.kept)),
     )

@@ -1,7 +1,7 @@
-use Rattle.std.proofs.Common.{◌≡◌, ℕ, ◌+◌, ◌<◌, ◌∙◌, Bool, ap, sym, subst, arith, false, length, get_or}
+use Rattle.std.proofs.Common.{◌≡◌, ℕ, ◌+◌, ◌<◌, ◌∙◌, Bool, ap, sym, subst, arith, length, get_or}
 use Rattle.std.specs.Prelude.{◌||◌}
 use Rattle.std.proofs.lemmas.Bool.{eqb-true}
-use Rattle.slot_rings.specs.Places.{PlaceValue, cell_number, claim_in, is_in_use, no_claims}
+use Rattle.slot_rings.specs.Places.{PlaceValue, cell_number, claim_in, is_in_use, is_reported, no_claims}
 use Rattle.slot_rings.specs.Rings.{RingValue}
 use Rattle.slot_rings.proofs.ReportedLemmas.{still_reported}
 use Rattle.slot_rings.proofs.PendingLemmas.{all_quiet, flagged_told, reported_quiet}
@@ -28,22 +28,22 @@ invariant_of-self c =
     let within : c.index-index.result < length r.places = subst (λ (x : RingValue). c.index-index.result < length x.places) (sym c.self.view_is) c.index-index.ensures.within in
     let p = c.index_mut.result.now in
     let q = c.set_used_reported.new.self in
-    let down = ap (λ (x : PlaceValue). x.down) c.set_used_reported.ensures.kept in
+    let claims = c.set_used_reported.ensures.claims in
     let number : c.number-number.result ≡ cell_number r.endpoint.prbs c.args.symbol 0 =
     c.number-number.ensures.value ∙ ap (λ (x : RingValue). cell_number x.endpoint.prbs c.args.symbol 0) (sym c.self.view_is) in
     let uses : ℕ → Bool = λ n. is_in_use (claim_in (get_or p.down n no_claims)) in (
       put_kept r c.index-index.result p q c.self.invariant.0 within c.index_mut.ensures.value
           (ap (λ (x : PlaceValue). x.slot) c.set_used_reported.ensures.kept) (ap (λ (x : PlaceValue). x.prbs) c.set_used_reported.ensures.kept),
       flagged_told r c.self.inside.pending c.clear_reported.new.self c.index-index.result c.args.symbol p q _ c.self.invariant.1 within c.index_mut.ensures.value
-          c.clear_reported.ensures.size c.clear_reported.ensures.others down
-          (still_reported p.reported q.reported uses c.number-number.result c.args.count c.set_used_reported.ensures.here c.set_used_reported.ensures.others)
+          c.clear_reported.ensures.size c.clear_reported.ensures.others claims
+          (still_reported (is_reported p.down) (is_reported q.down) uses c.number-number.result c.args.count c.set_used_reported.ensures.here c.set_used_reported.ensures.others)
           (λ told. let all = eqb-true c.args.count r.endpoint.prbs told in
-          all_quiet r.endpoint.prbs c.args.symbol p q down (λ k below.
-          subst (λ (n : ℕ). get_or q.reported (n + k) false ≡ (get_or p.reported (n + k) false || uses (n + k))) number
+          all_quiet r.endpoint.prbs c.args.symbol p q claims (λ k below.
+          subst (λ (n : ℕ). is_reported q.down (n + k) ≡ (is_reported p.down (n + k) || uses (n + k))) number
           (c.set_used_reported.ensures.here k (omega (arith, all, below))))),
       sections_kept r c.self.inside.sections c.index-index.result p q c.self.invariant.2 within c.index_mut.ensures.value (ap (λ (x : PlaceValue). x.uplink) c.set_used_reported.ensures.kept),
       starts_kept r c.self.inside.starts c.index-index.result p q c.self.invariant.3 within c.index_mut.ensures.value
           (ap (λ (x : PlaceValue). x.slot) c.set_used_reported.ensures.kept)
-          (λ s. reported_quiet r.endpoint.prbs s p q down
-          (still_reported p.reported q.reported uses c.number-number.result c.args.count c.set_used_reported.ensures.here c.set_used_reported.ensures.others)),
+          (λ s. reported_quiet r.endpoint.prbs s p q claims
+          (still_reported (is_reported p.down) (is_reported q.down) uses c.number-number.result c.args.count c.set_used_reported.ensures.here c.set_used_reported.ensures.others)),
     )

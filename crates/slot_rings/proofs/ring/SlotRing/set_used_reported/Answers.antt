@@ -4,7 +4,7 @@ use Rattle.slot_rings.specs.Places.{PlaceValue, cell_number, is_place_of}
 use Rattle.slot_rings.specs.Rings.{RingValue, has_slot}
 use Rattle.slot_rings.proofs.ReportedLemmas.{prb_behind}
 use Rattle.slot_rings.proofs.RunLemmas.{cells_outside}
-use Rattle.slot_rings.proofs.RingLemmas.{symbols_are, reported_still, used_reported}
+use Rattle.slot_rings.proofs.RingLemmas.{claims_still, symbols_are, reported_still, used_reported}
 use Rattle.slot_rings.proofs.ring.SlotRing.set_used_reported.Goals as goal
 use Rattle.slot_rings.proofs.ring.SlotRing.set_used_reported.Goals.{After-report_place}
 
@@ -31,3 +31,6 @@ returns-clause-others c cell is at behind =
     (λ same. prb_behind c.args.count cell.prb (behind same)) in
     reported_still c.args.self.now c.report_place.new.self c.args.slot cell (endpoint_is c) c.requires.has (has_still c ∙ c.requires.has) at
     (c.report_place.ensures.others (cell_number prbs cell.symbol cell.prb) outside)
+
+pub returns-clause-claims : goal.returns-clause-claims
+returns-clause-claims c = claims_still c.args.self.now c.report_place.new.self c.args.slot (endpoint_is c) c.report_place.ensures.kept c.report_place.ensures.claims

@@ -1,5 +1,5 @@
-use Rattle.std.proofs.Common.{◌≡◌, ℕ, ◌+◌, ◌∙◌, ap, arith, sym, true, false, get_or, None}
-use Rattle.slot_rings.specs.Places.{PlaceValue, blocks_seen, cell_number, reported_seen, claims_seen, no_claims}
+use Rattle.std.proofs.Common.{ℕ, ◌+◌, ◌∙◌, ap, arith, sym, true, get_or, None}
+use Rattle.slot_rings.specs.Places.{PlaceValue, blocks_seen, cell_number, claims_seen, no_claims}
 use Rattle.slot_rings.proofs.SeenLemmas.{cells_lent}
 use Rattle.slot_rings.proofs.SpanLemmas.{none_lent}
 use Rattle.slot_rings.proofs.ring.SlotRing.symbol_cells.Goals as goal
@@ -9,14 +9,12 @@ returns c =
     let place = c.place-place.ensures.value in
     let prbs = c.place-place.ensures.prbs in
     cells_lent c.args.self.now c.args.slot c.args.symbol c.number-base.result
-    (record { claims = c.items_from.result; blocks = c.behind.result; reported = c.items_from-2.result; span = c.span.result })
-    c.claims.result.now c.reported.result.now c.number-base.ensures.value
+    (record { claims = c.items_from.result; blocks = c.behind.result; span = c.span.result })
+    c.claims.result.now c.number-base.ensures.value
     (c.claims.ensures ∙ ap (λ (p : PlaceValue). claims_seen p c.args.slot true) place)
-    (c.reported.ensures ∙ ap (λ (p : PlaceValue). reported_seen p c.args.slot) place)
     (λ k. c.items_from.ensures k no_claims)
     (λ k. c.behind.ensures k ∙ c.blocks-2.ensures (c.number-base.result + k)
     ∙ ap (λ (p : PlaceValue). get_or (blocks_seen p c.args.slot) (c.number-base.result + k) None) place)
-    (λ k. c.items_from-2.ensures k false)
     (omega (arith, c.span.ensures.within, prbs))
     (λ n below outside. none_lent c.place-place.result.now.prbs c.args.symbol c.number-base.result n c.items_from.result.now c.claims.result.now
     (claims_seen c.place-place.result.now c.args.slot true)
