@@ -1,5 +1,5 @@
 // The commands by their words: of a list of words, and of what a parse found.
-ghost use Rattle.std.specs.Prelude.{◌≡◌, ◌≤◌, IfSome, map, option_map};
+ghost use Rattle.std.specs.Prelude.{◌≡◌, ◌≤◌, None, Some, IfSome, map, option_map};
 ghost use Rattle.command_words.specs.Words.{IsProper, address_in, bare_command, command_of, command_with_four, command_with_one, command_with_three, command_with_two, frame_in, least_in, seed_in, slots_in, start_in, way_in, whose_in};
 ghost use Rattle.command_words.specs.Parsed.{spelled, spelled_plainly, spelled_with};
 ghost use Rattle.fh_time.specs.declared.nanoseconds.TheConstants.{LAST_TIME};
@@ -230,6 +230,36 @@ pub(crate) fn command_in(words: &[&str]) -> Option<Command>
     }
 }
 
+/// The command that one or two words spell.
+fn spelled_shortly(word: &str, first: Option<&str>) -> Option<Command>
+    ensures command { result ≡ spelled_plainly (Some word.now) (option_map (λ w. w.now) first.entry) None None None }
+    ensures proper { IfSome result IsProper }
+{
+    match first {
+        None => bare_command(word),
+        Some(first) => command_with_one(word, first),
+    }
+}
+
+/// The command that three, four or five words spell.
+fn spelled_at_length(
+    word: &str,
+    first: &str,
+    second: &str,
+    third: Option<&str>,
+    fourth: Option<&str>,
+) -> Option<Command>
+    ensures command { result ≡ spelled_plainly (Some word.now) (Some first.now) (Some second.now) (option_map (λ w. w.now) third.entry) (option_map (λ w. w.now) fourth.entry) }
+    ensures proper { IfSome result IsProper }
+{
+    match (third, fourth) {
+        (None, None) => command_with_two(word, first, second),
+        (Some(third), None) => command_with_three(word, first, second, third),
+        (Some(third), Some(fourth)) => command_with_four(word, first, second, third, fourth),
+        (None, Some(_)) => None,
+    }
+}
+
 /// The command that words without a flag spell.
 fn spelled_plainly(
     word: Option<&str>,
@@ -241,18 +271,14 @@ fn spelled_plainly(
     ensures command { result ≡ spelled_plainly (option_map (λ w. w.now) word.entry) (option_map (λ w. w.now) first.entry) (option_map (λ w. w.now) second.entry) (option_map (λ w. w.now) third.entry) (option_map (λ w. w.now) fourth.entry) }
     ensures proper { IfSome result IsProper }
 {
-    match (word, first, second, third, fourth) {
-        (Some(word), None, None, None, None) => bare_command(word),
-        (Some(word), Some(first), None, None, None) => command_with_one(word, first),
-        (Some(word), Some(first), Some(second), None, None) => command_with_two(
-            word, first, second,
-        ),
-        (Some(word), Some(first), Some(second), Some(third), None) => {
-            command_with_three(word, first, second, third)
+    match (word, first, second) {
+        (Some(word), Some(first), Some(second)) => {
+            spelled_at_length(word, first, second, third, fourth)
         }
-        (Some(word), Some(first), Some(second), Some(third), Some(fourth)) => {
-            command_with_four(word, first, second, third, fourth)
-        }
+        (Some(word), first, None) => match (third, fourth) {
+            (None, None) => spelled_shortly(word, first),
+            _ => None,
+        },
         _ => None,
     }
 }
