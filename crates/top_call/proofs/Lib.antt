@@ -2,6 +2,7 @@ mod Parts
 pub mod Written
 pub mod Documents
 pub mod Plans
+pub mod Planned
 pub mod Captures
 pub mod Trials
 pub mod Runs

@@ -8,6 +8,7 @@
 mod commands;
 mod endings;
 mod messages;
+mod planning;
 mod running;
 mod status;
 

@@ -9,13 +9,13 @@ ghost use Rattle.top_call.specs.Answers.{explained, of_document, of_planned};
 ghost use Rattle.top_call.specs.Run.{Performs};
 ghost use Rattle.top_call.specs.declared.status.Status.TheVariants.{Done};
 
-use crate::endings::{text_status, unplanned_status, unread_status};
+use crate::endings::text_status;
+use crate::planning::read_planned;
 use crate::status::Status;
 use du_scheduler::Plan;
 use explain_text::explain;
 use fh_base::Sink;
-use fh_document::{Document, read};
-use fronthaul_replay::check_plan;
+use fh_document::Document;
 use std::alloc::Global;
 
 /// Reads a document and explains it: all of it, or its faults alone.
@@ -28,21 +28,9 @@ pub(crate) fn write_explanation<K: Sink>(
     ensures does { Performs (of_document (of_planned (explained faults)) (document_of bytes.now)) (K.written out.old) (K.written out.new) (K.faults out.old) (K.faults out.new) result }
     ensures few { result ≡ Done → IfOk (document_of bytes.now) HasFewFrames }
 {
-    match read(alloc, bytes) {
-        Ok(document) => explain_planned(alloc, faults, &document, out),
-        Err(fault) => unread_status(fault),
-    }
-}
-
-/// Tests the plan of a document and explains it.
-fn explain_planned<K: Sink>(alloc: Global, faults: bool, document: &Document, out: &mut K) -> Status
-    requires { IsDocument document.now }
-    ensures does { Performs (of_planned (explained faults) document.now) (K.written out.old) (K.written out.new) (K.faults out.old) (K.faults out.new) result }
-    ensures few { result ≡ Done → HasFewFrames document.now }
-{
-    match check_plan(alloc, document) {
-        Ok(plan) => put_explanation(alloc, faults, document, plan, out),
-        Err(refusal) => unplanned_status(document, refusal),
+    match read_planned(alloc, bytes) {
+        Ok((document, plan)) => put_explanation(alloc, faults, &document, plan, out),
+        Err(status) => status,
     }
 }
 

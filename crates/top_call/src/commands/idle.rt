@@ -8,12 +8,12 @@ ghost use Rattle.idle_spans.specs.Tables.{AreFrames};
 ghost use Rattle.top_call.specs.Answers.{idled, of_document, of_planned};
 ghost use Rattle.top_call.specs.Run.{Performs};
 
-use crate::endings::{text_status, unplanned_status, unread_status};
+use crate::endings::text_status;
+use crate::planning::read_planned;
 use crate::status::Status;
 use du_scheduler::Plan;
 use fh_base::Sink;
-use fh_document::{Document, read};
-use fronthaul_replay::check_plan;
+use fh_document::Document;
 use idle_replay::write_idle;
 use std::alloc::Global;
 
@@ -30,29 +30,9 @@ pub(crate) fn write_idle_spans<K: Sink>(
     requires min { 1 ≤ min }
     ensures { Performs (of_document (of_planned (idled first last min)) (document_of bytes.now)) (K.written out.old) (K.written out.new) (K.faults out.old) (K.faults out.new) result }
 {
-    match read(alloc, bytes) {
-        Ok(document) => idle_planned(alloc, first, last, min, &document, out),
-        Err(fault) => unread_status(fault),
-    }
-}
-
-/// Tests the plan of a document and writes when its endpoints are idle.
-fn idle_planned<K: Sink>(
-    alloc: Global,
-    first: u32,
-    last: u32,
-    min: u32,
-    document: &Document,
-    out: &mut K,
-) -> Status
-    requires document { IsDocument document.now }
-    requires frames { AreFrames first last }
-    requires min { 1 ≤ min }
-    ensures { Performs (of_planned (idled first last min) document.now) (K.written out.old) (K.written out.new) (K.faults out.old) (K.faults out.new) result }
-{
-    match check_plan(alloc, document) {
-        Ok(plan) => put_idle(alloc, first, last, min, document, plan, out),
-        Err(refusal) => unplanned_status(document, refusal),
+    match read_planned(alloc, bytes) {
+        Ok((document, plan)) => put_idle(alloc, first, last, min, &document, plan, out),
+        Err(status) => status,
     }
 }
 

@@ -8,32 +8,22 @@ ghost use Rattle.plan_model.specs.Sent.{sent};
 ghost use Rattle.top_call.specs.Answers.{of_document, of_planned, replayed};
 ghost use Rattle.top_call.specs.Run.{Performs};
 
-use crate::endings::{text_status, unplanned_status, unread_status};
+use crate::endings::text_status;
+use crate::planning::read_planned;
 use crate::status::Status;
 use du_scheduler::Plan;
 use fh_base::Sink;
-use fh_document::{Document, read};
-use fronthaul_replay::{check_plan, report_document};
+use fh_document::Document;
+use fronthaul_replay::report_document;
 use std::alloc::Global;
 
 /// Reads a document and writes its report.
 pub(crate) fn write_report<K: Sink>(alloc: Global, bytes: &[u8], out: &mut K) -> Status
     ensures { Performs (of_document (of_planned replayed) (document_of bytes.now)) (K.written out.old) (K.written out.new) (K.faults out.old) (K.faults out.new) result }
 {
-    match read(alloc, bytes) {
-        Ok(document) => report_planned(alloc, &document, out),
-        Err(fault) => unread_status(fault),
-    }
-}
-
-/// Tests the plan of a document and writes its report.
-fn report_planned<K: Sink>(alloc: Global, document: &Document, out: &mut K) -> Status
-    requires { IsDocument document.now }
-    ensures { Performs (of_planned replayed document.now) (K.written out.old) (K.written out.new) (K.faults out.old) (K.faults out.new) result }
-{
-    match check_plan(alloc, document) {
-        Ok(plan) => put_report(alloc, document, plan, out),
-        Err(refusal) => unplanned_status(document, refusal),
+    match read_planned(alloc, bytes) {
+        Ok((document, plan)) => put_report(alloc, &document, plan, out),
+        Err(status) => status,
     }
 }
 

@@ -7,12 +7,12 @@ ghost use Rattle.fh_document.specs.Proper.{IsDocument};
 ghost use Rattle.top_call.specs.Answers.{listed, of_document, of_planned};
 ghost use Rattle.top_call.specs.Run.{Performs};
 
-use crate::endings::{ending_of, unplanned_status, unread_status};
+use crate::endings::ending_of;
+use crate::planning::read_planned;
 use crate::status::Status;
 use du_scheduler::Plan;
 use fh_base::Sink;
-use fh_document::{Document, read};
-use fronthaul_replay::check_plan;
+use fh_document::Document;
 use sent_text::list_sent;
 use std::alloc::Global;
 
@@ -20,20 +20,9 @@ use std::alloc::Global;
 pub(crate) fn write_sent<K: Sink>(alloc: Global, bytes: &[u8], out: &mut K) -> Status
     ensures { Performs (of_document (of_planned listed) (document_of bytes.now)) (K.written out.old) (K.written out.new) (K.faults out.old) (K.faults out.new) result }
 {
-    match read(alloc, bytes) {
-        Ok(document) => sent_planned(alloc, &document, out),
-        Err(fault) => unread_status(fault),
-    }
-}
-
-/// Tests the plan of a document and lists its frames.
-fn sent_planned<K: Sink>(alloc: Global, document: &Document, out: &mut K) -> Status
-    requires { IsDocument document.now }
-    ensures { Performs (of_planned listed document.now) (K.written out.old) (K.written out.new) (K.faults out.old) (K.faults out.new) result }
-{
-    match check_plan(alloc, document) {
-        Ok(plan) => put_sent(alloc, document, plan, out),
-        Err(refusal) => unplanned_status(document, refusal),
+    match read_planned(alloc, bytes) {
+        Ok((document, plan)) => put_sent(alloc, &document, plan, out),
+        Err(status) => status,
     }
 }
 

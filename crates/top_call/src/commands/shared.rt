@@ -6,12 +6,12 @@ ghost use Rattle.plan_model.specs.Valid.{IsValid};
 ghost use Rattle.top_call.specs.Answers.{of_document, of_planned, shared};
 ghost use Rattle.top_call.specs.Run.{Performs};
 
-use crate::endings::{share_status, unplanned_status, unread_status};
+use crate::endings::share_status;
+use crate::planning::read_planned;
 use crate::status::Status;
 use du_scheduler::Plan;
 use fh_base::Sink;
-use fh_document::{Document, read};
-use fronthaul_replay::check_plan;
+use fh_document::Document;
 use shared_text::share;
 use std::alloc::Global;
 
@@ -28,29 +28,9 @@ pub(crate) fn write_shared<K: Sink>(
     requires step { step ≤ 1000000 }
     ensures { Performs (of_document (of_planned (shared count step)) (document_of bytes.now)) (K.written out.old) (K.written out.new) (K.faults out.old) (K.faults out.new) result }
 {
-    match read(alloc, bytes) {
-        Ok(document) => share_planned(alloc, count, step, &document, out),
-        Err(fault) => unread_status(fault),
-    }
-}
-
-/// Tests the plan of a document and writes what the units of a shared cell do with it.
-fn share_planned<K: Sink>(
-    alloc: Global,
-    count: u8,
-    step: u32,
-    document: &Document,
-    out: &mut K,
-) -> Status
-    requires document { IsDocument document.now }
-    requires low { 2 ≤ count }
-    requires high { count ≤ 8 }
-    requires step { step ≤ 1000000 }
-    ensures { Performs (of_planned (shared count step) document.now) (K.written out.old) (K.written out.new) (K.faults out.old) (K.faults out.new) result }
-{
-    match check_plan(alloc, document) {
-        Ok(plan) => put_shared(alloc, count, step, document, plan, out),
-        Err(refusal) => unplanned_status(document, refusal),
+    match read_planned(alloc, bytes) {
+        Ok((document, plan)) => put_shared(alloc, count, step, &document, plan, out),
+        Err(status) => status,
     }
 }
 

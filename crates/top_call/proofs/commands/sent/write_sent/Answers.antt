@@ -1,6 +1,9 @@
-use Rattle.top_call.specs.Answers.{listed, of_planned}
-use Rattle.top_call.proofs.Documents.{unread_as}
+use Rattle.top_call.specs.Answers.{listed}
+use Rattle.top_call.proofs.Planned.{performs_planned}
 use Rattle.top_call.proofs.commands.sent.write_sent.Goals as goal
 
+pub returns-in-Ok : goal.returns-in-Ok
+returns-in-Ok g c = performs_planned listed c.args.bytes.now c.in-Ok.document _ c.in-Ok.plan _ _ _ _ c.put_sent.result c.in-Ok.ensures.ok.1.0 c.in-Ok.ensures.ok.1.1 c.put_sent.ensures
+
 pub returns-in-Err : goal.returns-in-Err
-returns-in-Err g c = unread_as (of_planned listed) c.args.bytes.now c.read.result c.in-Err.fault _ _ _ c.in-Err.is c.unread_status.ensures c.read.ensures.answers
+returns-in-Err g c = c.in-Err.ensures.err listed _ _

@@ -1,6 +1,9 @@
-use Rattle.top_call.specs.Answers.{of_planned, summarized}
-use Rattle.top_call.proofs.Documents.{unread_as}
+use Rattle.top_call.specs.Answers.{summarized}
+use Rattle.top_call.proofs.Planned.{performs_planned}
 use Rattle.top_call.proofs.commands.summary.write_summary.Goals as goal
 
+pub returns-in-Ok : goal.returns-in-Ok
+returns-in-Ok g c = performs_planned summarized c.args.bytes.now c.in-Ok.document _ c.in-Ok.plan _ _ _ _ c.put_summary.result c.in-Ok.ensures.ok.1.0 c.in-Ok.ensures.ok.1.1 c.put_summary.ensures
+
 pub returns-in-Err : goal.returns-in-Err
-returns-in-Err g c = unread_as (of_planned summarized) c.args.bytes.now c.read.result c.in-Err.fault _ _ _ c.in-Err.is c.unread_status.ensures c.read.ensures.answers
+returns-in-Err g c = c.in-Err.ensures.err summarized _ _
