@@ -238,7 +238,6 @@ shows t s n h w count =
     ap (pieces_in t.spans t.bytes) m ∙ pieces_same t.spans t.bytes s (x.0 + 1) (λ k l. h.pieces k (omega arith)) ∙ ap (pieces_to s) (sym x.1) in
     same_message _ _ _ _ _ _ ps h.first h.last
 
--- a first fragment that is too long
 not_placed : (o : Option Verdict) (w : Bool) (a : Fragment) → answer o w ≡ TooLong → with_one o a [] ≡ []
 not_placed (Some v) w a e = refl
 not_placed None true a e = absurd (cc)
@@ -254,7 +253,8 @@ begins_first hold (g ∷ gs) a v b = go (is_within hold g.start a.at) v b
     go true v b = absurd (cc)
     go false v b = (begun a, g ∷ gs, refl, refl, not_placed (refused [] a) _ a v)
 
-pub too_long_begins : (hold : ℤ) (a : Fragment) (arrivals : List Fragment) → verdict_on hold a arrivals ≡ TooLong → begins hold a.at (generations_of hold a.ep a.seq arrivals) ≡ true →
+-- Where the first fragment of a generation is too long, that generation begins at its time, and nothing stands in it.
+pub too_long_begins : (hold : ℤ) (a : Fragment) (arrivals : List Fragment) → verdict_on hold a arrivals ≡ TooLong → is_first hold a arrivals ≡ true →
     (g : Generation) × (gs : List Generation) × (generations_of hold a.ep a.seq (a ∷ arrivals) ≡ g ∷ gs) × (g.start ≡ a.at) × (standing g.held ≡ [])
 too_long_begins hold a arrivals v b =
     let r = begins_first hold (generations_of hold a.ep a.seq arrivals) a v b in
