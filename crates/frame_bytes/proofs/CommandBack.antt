@@ -149,6 +149,7 @@ section_written kind s f num_fits =
       offset = said.reserved;
     }
 
+-- The application bytes of a command are read as that command with that one section.
 pub command_back : (shape : Shape) (h : CHead) (s : CSection) → IsCommand h s → Admits shape h (s ∷ []) → IsReadAs shape h (s ∷ []) (command_of h s)
 command_back shape h s k admits =
     let header = in_bytes (head_fields h) in

@@ -1,4 +1,4 @@
--- A sent frame is one whole PDU, and is read back.
+-- A sent frame is one complete PDU, and its id, its sequence field and its application bytes are read back.
 use Rattle.std.proofs.Common.{◌≡◌, ℕ, ◌+◌, ◌≤◌, false, eqb, List, [], ◌++◌, length, take, drop, refl, sym, ap, ◌∙◌, arith, append_assoc, append-nil, length-append, length-drop}
 use Rattle.std.proofs.lemmas.List.{length-take-le, take-append-drop, drop_at}
 use Rattle.bfp_codec.specs.Field.{field}

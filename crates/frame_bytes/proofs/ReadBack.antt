@@ -1,6 +1,6 @@
--- The headers of a data message by their fields are those that a reader reads.
+-- A data message is read as its header and its sections with the shrunk blocks.
 use Rattle.std.proofs.Common.{◌≡◌, ℕ, zero, suc, ◌+◌, ◌^◌, ◌<◌, inl, inr, true, eqb, List, [], ◌∷◌, ◌++◌, length, take, drop, get_or, refl, sym, ap, ◌∙◌, arith, append-nil, append_assoc, length-append}
-use Rattle.std.specs.Prelude.{All}
+use Rattle.std.specs.Prelude.{All, None}
 use Rattle.std.proofs.lemmas.Bool.{cases_Bool, le-ltb}
 use Rattle.std.proofs.lemmas.List.{take_all, drop_at, get_or-drop}
 use Rattle.std.proofs.lemmas.List.Elements.{All-head, All-tail}
@@ -18,15 +18,15 @@ use Rattle.bfp_codec.specs.Shrunk.{CanPack}
 use Rattle.bfp_codec.proofs.Laws.{length_packed, unpacked_packed}
 use Rattle.uplane_sections.specs.declared.values.UHead.{UHead}
 use Rattle.uplane_sections.specs.Section.{header_size}
-use Rattle.uplane_sections.specs.Messages.{Item, blocks}
+use Rattle.uplane_sections.specs.Messages.{Item, Head, Telling, blocks, told}
 use Rattle.uplane_sections.specs.Writes.{HeadFits, WritesHead, WritesSection, WritesCompression, SaysSoFar, udCompHdr}
 use Rattle.uplane_sections.proofs.Words.{WritesWord, compression_written, static_written, dynamic_written}
-use Rattle.uplane_sections.proofs.Back.{section_back}
+use Rattle.uplane_sections.proofs.Back.{head_back, section_back}
 use Rattle.frame_bytes.specs.declared.messages.DataSection.{DataSection}
 use Rattle.frame_bytes.specs.declared.messages.Carrier.{Carrier}
 use Rattle.frame_bytes.specs.Spelled.{in_bytes}
-use Rattle.frame_bytes.specs.Messages.{head_fields, compression_fields, section_fields, packed_prbs, section_of, sections_of, SectionFits}
-use Rattle.frame_bytes.specs.Reading.{read_as, shrunk_prbs, section_items, sections_items}
+use Rattle.frame_bytes.specs.Messages.{head_fields, compression_fields, section_fields, packed_prbs, section_of, sections_of, message_of, SectionFits}
+use Rattle.frame_bytes.specs.Reading.{IsReadable, read_as, shrunk_prbs, section_items, sections_items}
 use Rattle.frame_bytes.proofs.Fields.{AreAt, AreSmall, at_fields, are_bytes, length-in_bytes, bit_small, bit_back}
 use Rattle.frame_bytes.proofs.DataFields.{section_width}
 use Rattle.frame_bytes.proofs.PackedPrbs.{length_prbs}
@@ -35,7 +35,7 @@ head_small : (h : UHead) → HeadFits h → h.frame_id < 2 ^ 8 → AreSmall (hea
 unfolding AreSmall
 head_small h fits frame = (bit_small h.down, (omega arith, (fits.filter, (frame, (fits.subframe, (fits.slot, (fits.symbol, tt)))))))
 
-pub head_written : (h : UHead) → HeadFits h → h.frame_id < 2 ^ 8 → WritesHead h (in_bytes (head_fields h))
+head_written : (h : UHead) → HeadFits h → h.frame_id < 2 ^ 8 → WritesHead h (in_bytes (head_fields h))
 unfolding AreAt
 head_written h fits frame =
     let bytes = in_bytes (head_fields h) in
@@ -130,7 +130,7 @@ section_says c shape block symbol front items s width fits num inside can said =
     let read = prbs_back c.format.method block first count can in
     rw (whole, read) at says
 
-pub sections_say : (c : Carrier) (shape : Shape) (source : ℕ → ℕ → List Iq) (symbol place : ℕ) (front : List ℕ) (items : List Item) (ss : List DataSection)
+sections_say : (c : Carrier) (shape : Shape) (source : ℕ → ℕ → List Iq) (symbol place : ℕ) (front : List ℕ) (items : List Item) (ss : List DataSection)
     → HasWidth c.format.method → All (SectionFits c) ss → All (λ (s : DataSection). s.num_prb < 2 ^ 8) ss → symbol < shape.symbols → ((k prb : ℕ) → CanPack c.format.method (source k prb))
     → SaysSoFar c.format c.prbs shape front items symbol → SaysSoFar c.format c.prbs shape (front ++ sections_of c source place ss) (items ++ sections_items c symbol source place ss) symbol
 sections_say c shape source symbol place front items [] width fit nums inside can said =
@@ -145,3 +145,15 @@ sections_say c shape source symbol place front items (s ∷ ss) width fit nums i
     let bytes = append_assoc front here (sections_of c source (place + 1) ss) in
     let told_is = append_assoc items read (sections_items c symbol source (place + 1) ss) in
     rw (bytes, told_is) at all
+
+-- A message that a receiver admits is read by the endpoint's format as its header and exactly its sections with the shrunk blocks.
+pub message_told : (c : Carrier) (shape : Shape) (source : ℕ → ℕ → List Iq) (h : UHead) (ss : List DataSection) → IsReadable c shape source h ss
+    → told c.format c.prbs shape (message_of c source h ss) ≡ (let t : Telling = record { items = Head h ∷ sections_items c h.symbol source 0 ss; refusal = None } in t)
+unfolding message_of
+message_told c shape source h ss r =
+    let bytes = in_bytes (head_fields h) ++ sections_of c source 0 ss in
+    let head = head_back c.format c.prbs shape h (in_bytes (head_fields h)) (head_written h r.fits.head r.frame_id) r.admitted in
+    let says = sections_say c shape source h.symbol 0 (in_bytes (head_fields h)) (Head h ∷ []) ss r.fits.width r.fits.sections r.num_prbs r.admitted.symbol r.can head in
+    let whole = ap (told c.format c.prbs shape) (sym (append-nil bytes)) ∙ says [] in
+    let items = append-nil (Head h ∷ sections_items c h.symbol source 0 ss) in
+    rw items at whole

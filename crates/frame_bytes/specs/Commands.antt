@@ -7,10 +7,8 @@ use Rattle.cplane_sections.specs.declared.values.CBody.TheVariants.{Idle, Normal
 use Rattle.cplane_sections.specs.declared.values.CHead.{CHead}
 use Rattle.cplane_sections.specs.declared.values.CSection.{CSection}
 use Rattle.cplane_sections.specs.Header.{kind_of}
-use Rattle.cplane_sections.specs.Message.{HeadFits, SectionFits, Admits}
+use Rattle.cplane_sections.specs.Message.{HeadFits, SectionFits}
 use Rattle.cplane_sections.specs.Words.{BodyFits}
-use Rattle.cplane_sections.specs.Writes.{IsReadAs}
-use Rattle.fh_time.specs.declared.values.Shape.{Shape}
 use Rattle.frame_bytes.specs.Spelled.{Field, in_bytes}
 use Rattle.frame_bytes.specs.Transport.{frame_of}
 use Rattle.bfp_codec.specs.Field.{flag}
@@ -62,7 +60,3 @@ pub record IsCommand (h : CHead) (s : CSection) : Type 0 where
   pub body : BodyFits h.body
   pub section_fits : SectionFits s
   pub num_prb : s.num_prb < 2 ^ 8
-
--- Its application bytes are read as it is, where the tests of a receiver admit it.
-abbrev pub CommandsAreRead : Type 0
-CommandsAreRead = (shape : Shape) (h : CHead) (s : CSection) → IsCommand h s → Admits shape h (s ∷ []) → IsReadAs shape h (s ∷ []) (command_of h s)

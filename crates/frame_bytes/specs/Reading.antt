@@ -1,5 +1,5 @@
 -- What the application bytes of a sent message are read as, by the endpoint's format.
-use Rattle.std.specs.Prelude.{◌≡◌, ℕ, zero, suc, ◌+◌, ◌<◌, ◌^◌, List, [], ◌∷◌, ◌++◌, All, false, None}
+use Rattle.std.specs.Prelude.{ℕ, zero, suc, ◌+◌, ◌<◌, ◌^◌, List, [], ◌∷◌, ◌++◌, All, false}
 use Rattle.fh_time.specs.declared.values.Shape.{Shape}
 use Rattle.fh_time.specs.Carrier.{first_of, count_of}
 use Rattle.bfp_codec.specs.declared.samples.Iq.{Iq}
@@ -7,12 +7,11 @@ use Rattle.bfp_codec.specs.declared.methods.Method.{Method}
 use Rattle.bfp_codec.specs.Shrunk.{shrunk, CanPack}
 use Rattle.uplane_sections.specs.declared.values.UHead.{UHead}
 use Rattle.uplane_sections.specs.declared.values.USection.{USection}
-use Rattle.uplane_sections.specs.Messages.{Item, Head, Section, Block, told}
+use Rattle.uplane_sections.specs.Messages.{Item, Section, Block}
 use Rattle.uplane_sections.specs.Writes.{IsHeadAdmitted}
 use Rattle.frame_bytes.specs.declared.messages.DataSection.{DataSection}
 use Rattle.frame_bytes.specs.declared.messages.Carrier.{Carrier}
-use Rattle.frame_bytes.specs.Messages.{message_of, MessageFits}
-use Rattle.frame_bytes.specs.Cuts.{pieces_joined}
+use Rattle.frame_bytes.specs.Messages.{MessageFits}
 
 -- a section as it is read: of this symbol, with the carrier's method
 abbrev pub read_as : Carrier → ℕ → DataSection → USection
@@ -39,9 +38,3 @@ pub record IsReadable (c : Carrier) (shape : Shape) (source : ℕ → ℕ → Li
   pub num_prbs : All (λ (s : DataSection). s.num_prb < 2 ^ 8) ss
   pub admitted : IsHeadAdmitted shape h
   pub can : (place prb : ℕ) → CanPack c.format.method (source place prb)
-
--- The pieces of such a message, joined, are read as its header and exactly its sections with the shrunk blocks.
-abbrev pub PiecesAreRead : Type 0
-PiecesAreRead =
-    (c : Carrier) (shape : Shape) (source : ℕ → ℕ → List Iq) (h : UHead) (ss : List DataSection) (fragment : ℕ) → IsReadable c shape source h ss → 0 < fragment
-    → told c.format c.prbs shape (pieces_joined fragment (message_of c source h ss)) ≡ record { items = Head h ∷ sections_items c h.symbol source 0 ss; refusal = None }

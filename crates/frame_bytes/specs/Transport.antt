@@ -31,9 +31,3 @@ pub record IsTransport (kind id : ℕ) (seq : SeqField) (size : ℕ) : Type 0 wh
   pub seq_fits : seq.seq < 2 ^ 8
   pub sub_fits : seq.sub < 128
   pub size_fits : size < 2 ^ 16
-
--- A frame is one whole PDU, and is read back.
-abbrev pub FramesAreRead : Type 0
-FramesAreRead =
-    (kind id : ℕ) (seq : SeqField) (application : List ℕ) → IsTransport kind id seq (4 + length application)
-    → IsOneMessage kind id seq application (frame_of kind id seq application)

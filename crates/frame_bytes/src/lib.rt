@@ -9,13 +9,11 @@
 
 mod commands;
 mod cuts;
-mod laws;
 mod messages;
 mod parts;
 mod pieces;
 mod transport;
 
 pub use commands::command;
-pub use laws::{commands_are_read, frames_are_read, pieces_are_read};
 pub use messages::{Carrier, DataMessage, DataSection, message_size, section_size};
 pub use pieces::{Span, piece};

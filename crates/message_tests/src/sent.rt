@@ -6,8 +6,7 @@ use bfp_codec::{Format, Iq, Method};
 use cplane_sections::{CBody, CHead, CSection};
 use ecpri_fragments::SeqField;
 use frame_bytes::{
-    Carrier, DataMessage, DataSection, Span, command, commands_are_read, frames_are_read,
-    message_size, piece, pieces_are_read, section_size,
+    Carrier, DataMessage, DataSection, Span, command, message_size, piece, section_size,
 };
 use std::process::Abort;
 use uplane_sections::UHead;
@@ -277,7 +276,4 @@ fn two_sections_in_pieces(rt: HostRuntime) {
             }
         }
     }
-    frames_are_read();
-    commands_are_read();
-    pieces_are_read();
 }
