@@ -1,14 +1,14 @@
 -- The definitions compute what was worked out by hand.
 use Rattle.std.proofs.Common.{refl}
 use Rattle.unit_model.specs.Lists.{each, put_in, in_order, some}
-use Rattle.plan_model.specs.Examples.{PacksAreAsWorked, NumbersAreAsWorked, DeparturesAreAsWorked, RefusalsAreAsWorked, PartsAreAsWorked, DenseAreAsWorked, AreAsWorked, nineteen}
+use Rattle.plan_model.specs.Examples.{PacksAreAsWorked, NumbersAreAsWorked, DeparturesAreAsWorked, RefusalsAreAsWorked, PartsAreAsWorked, DenseAreAsWorked, nineteen}
 use Rattle.plan_model.specs.Dense.{first_near}
 use Rattle.plan_model.specs.Lines.{planned_from}
 use Rattle.plan_model.specs.Packs.{packs_behind, frames_before, numbered_behind}
 use Rattle.plan_model.specs.Streams.{symbol_parts}
 use Rattle.plan_model.specs.Validity.{refused_from}
 
-packs : PacksAreAsWorked
+pub packs : PacksAreAsWorked
 unfolding packs_behind
 packs = record {
   greatest_section = refl;
@@ -23,14 +23,14 @@ packs = record {
   too_long = refl;
 }
 
-numbers : NumbersAreAsWorked
+pub numbers : NumbersAreAsWorked
 unfolding numbered_behind frames_before
 numbers = record { places = refl }
 
-departures : DeparturesAreAsWorked
+pub departures : DeparturesAreAsWorked
 departures = record { first = refl; second = refl; third = refl; fourth = refl; down_command = refl; up_command = refl; up_data = refl }
 
-refusals : RefusalsAreAsWorked
+pub refusals : RefusalsAreAsWorked
 unfolding refused_from some
 refusals = record {
   twice = refl;
@@ -48,7 +48,7 @@ refusals = record {
   unknown = refl;
 }
 
-parts : PartsAreAsWorked
+pub parts : PartsAreAsWorked
 unfolding planned_from symbol_parts packs_behind in_order put_in
 parts = record {
   by_line = refl;
@@ -61,9 +61,6 @@ parts = record {
   two_messages = refl;
 }
 
-dense : DenseAreAsWorked
+pub dense : DenseAreAsWorked
 unfolding nineteen each first_near
 dense = record { down = refl; up = refl; near = refl; apart = refl; least = refl; first_of_two = refl }
-
-pub as_worked : AreAsWorked
-as_worked = record { packs = packs; numbers = numbers; departures = departures; refusals = refusals; parts = parts; dense = dense }

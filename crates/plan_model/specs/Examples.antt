@@ -183,11 +183,3 @@ pub record DenseAreAsWorked : Type 0 where
   -- the lesser number is named, of one number the first
   pub least : lesser (Some (record { number = 300; line = 1 })) (Some (record { number = 256; line = 2 })) ≡ Some (record { number = 256; line = 2 })
   pub first_of_two : lesser (Some (record { number = 256; line = 1 })) (Some (record { number = 256; line = 2 })) ≡ Some (record { number = 256; line = 1 })
-
-pub record AreAsWorked : Type 0 where
-  pub packs : PacksAreAsWorked
-  pub numbers : NumbersAreAsWorked
-  pub departures : DeparturesAreAsWorked
-  pub refusals : RefusalsAreAsWorked
-  pub parts : PartsAreAsWorked
-  pub dense : DenseAreAsWorked

@@ -7,7 +7,6 @@
 
 mod dense;
 mod departures;
-mod examples;
 mod lines;
 mod refusals;
 mod sizes;
@@ -15,7 +14,6 @@ mod streams;
 
 pub use dense::{Dense, Sending, dense_in, down_distance, is_near, up_distance};
 pub use departures::Departures;
-pub use examples::examples_hold;
 pub use lines::{PlannedLine, is_out_of_range, line_allocation, planned_line};
 pub use refusals::PlanWhy;
 pub use sizes::{frame_count, section_size};

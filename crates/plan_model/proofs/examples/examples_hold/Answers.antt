@@ -1,5 +1,0 @@
-use Rattle.plan_model.proofs.ExampleLemmas.{as_worked}
-use Rattle.plan_model.proofs.examples.examples_hold.Goals as goal
-
-pub returns : goal.returns
-returns c = as_worked
