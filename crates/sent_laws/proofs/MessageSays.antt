@@ -1,19 +1,16 @@
 -- A message's bytes say the sections of its lines.
-use Rattle.std.proofs.Common.{◌≡◌, ℕ, ℤ, pos, zero, suc, ◌+◌, ◌-◌, ◌<◌, ◌≤◌, ◌^◌, inl, inr, true, List, [], ◌∷◌, ◌++◌, length, map, Some, None, refl, ap, sym, ◌∙◌, subst, arith, append-nil}
+use Rattle.std.proofs.Common.{◌≡◌, ℕ, ℤ, pos, zero, suc, ◌+◌, ◌-◌, ◌<◌, ◌≤◌, ◌^◌, inl, inr, true, List, [], ◌∷◌, length, map, Some, None, refl, ap, sym, ◌∙◌, subst, arith}
 use Rattle.std.specs.List.{slice_get, slice_index_or}
 use Rattle.std.specs.Option.{option_map_or}
 use Rattle.std.proofs.lemmas.Bool.{cases_lt}
 use Rattle.std.proofs.lemmas.Option.{get_or_from_slice_get, slice_get-get_or}
 use Rattle.fh_time.specs.Carrier.{count_of}
 use Rattle.fh_time.specs.Numbering.{shape_of, slots_of}
-use Rattle.fh_time.specs.declared.values.Shape.{Shape}
 use Rattle.fh_time.specs.declared.values.Slot.{Slot}
 use Rattle.air_source.specs.declared.events.Side.TheVariants.{Ru}
 use Rattle.bfp_codec.specs.Shrunk.{CanPack, shrunk}
 use Rattle.bfp_codec.specs.declared.samples.Iq.{Iq}
 use Rattle.uplane_sections.specs.Messages.{Head, Telling, told}
-use Rattle.uplane_sections.specs.declared.values.UHead.{UHead}
-use Rattle.uplane_sections.proofs.Back.{head_back}
 use Rattle.fragment_laws.specs.Apart.{IsIn}
 use Rattle.window_config.specs.declared.config.Config.{Config}
 use Rattle.window_config.specs.declared.endpoints.EndpointConfig.{EndpointConfig}
@@ -24,12 +21,11 @@ use Rattle.unit_model.specs.declared.decoded.UserSection.{UserSection}
 use Rattle.plan_model.specs.Lines.{line_allocation}
 use Rattle.plan_model.specs.Packs.{Message, parts_of, size_of}
 use Rattle.plan_model.specs.Streams.{Part, part_fields}
-use Rattle.frame_bytes.specs.Messages.{head_fields, message_of, sections_of}
+use Rattle.frame_bytes.specs.Messages.{message_of}
 use Rattle.frame_bytes.specs.Reading.{IsReadable, sections_items}
-use Rattle.frame_bytes.specs.Spelled.{in_bytes}
 use Rattle.frame_bytes.specs.declared.messages.Carrier.{Carrier}
 use Rattle.frame_bytes.specs.declared.messages.DataSection.{DataSection}
-use Rattle.frame_bytes.proofs.ReadBack.{head_written, sections_say}
+use Rattle.frame_bytes.proofs.ReadBack.{message_told}
 use Rattle.schedule_laws.specs.Data.{AreSections, Blocks, IsDataFor}
 use Rattle.schedule_laws.proofs.ListLemmas.{at_in}
 use Rattle.sent_laws.specs.Frames.{blocks_of}
@@ -40,19 +36,6 @@ use Rattle.sent_frames.proofs.MessageFacts.{IsGoodMessage, IsGoodPart, all_map, 
 use Rattle.frame_bytes.specs.Headers.{frame_id_of, carrier_of}
 use Rattle.unit_model.proofs.ClaimLemmas.{starts_before as from_low, from_within as from_high}
 use Rattle.ecpri_fragments.specs.declared.place.TheConstants.{MESSAGE_BYTES}
-
--- ---- what is told
-
-pub message_told : (k : Carrier) (shape : Shape) (source : ℕ → ℕ → List Iq) (h : UHead) (ss : List DataSection) → IsReadable k shape source h ss
-    → told k.format k.prbs shape (message_of k source h ss) ≡ (let t : Telling = record { items = Head h ∷ sections_items k h.symbol source 0 ss; refusal = None } in t)
-unfolding message_of
-message_told k shape source h ss r =
-    let bytes = in_bytes (head_fields h) ++ sections_of k source 0 ss in
-    let head = head_back k.format k.prbs shape h (in_bytes (head_fields h)) (head_written h r.fits.head r.frame_id) r.admitted in
-    let says = sections_say k shape source h.symbol 0 (in_bytes (head_fields h)) (Head h ∷ []) ss r.fits.width r.fits.sections r.num_prbs r.admitted.symbol r.can head in
-    let whole = ap (told k.format k.prbs shape) (sym (append-nil bytes)) ∙ says [] in
-    let items = append-nil (Head h ∷ sections_items k h.symbol source 0 ss) in
-    rw items at whole
 
 -- what is at a place of a list is in it, or what is answered past its end
 in_or : {X : Type 0} (xs : List X) (k : ℕ) (d : X) → IsIn d xs → IsIn (slice_index_or xs k d) xs

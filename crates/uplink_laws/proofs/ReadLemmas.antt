@@ -47,6 +47,7 @@ use Rattle.frame_bytes.specs.Transport.{IsTransport, frame_of}
 use Rattle.frame_bytes.specs.declared.messages.Carrier.{Carrier}
 use Rattle.frame_bytes.specs.declared.messages.DataSection.{DataSection}
 use Rattle.frame_bytes.proofs.Frames.{frame_is_one}
+use Rattle.frame_bytes.proofs.ReadBack.{message_told}
 use Rattle.frame_bytes.proofs.Sections.{length_message}
 use Rattle.sent_frames.specs.Messages.{Source, data_section}
 use Rattle.sent_frames.proofs.MessageFacts.{IsGoodMessage, IsGoodPart, all_map, message_fits, message_size_is}
@@ -55,7 +56,7 @@ use Rattle.sent_laws.proofs.CommandRead.{found_by, long, message_of as whole_mes
 use Rattle.sent_laws.proofs.Fragments.{fragments_joined, piece_short, size_joined}
 use Rattle.sent_laws.proofs.Gathered.{block_in, read_part, read_parts, sections_gathered, shrunk_blocks}
 use Rattle.sent_laws.proofs.LineFields.{at_most_nine, frame_id_is, frame_id_small}
-use Rattle.sent_laws.proofs.MessageSays.{message_told, the_place, in_count}
+use Rattle.sent_laws.proofs.MessageSays.{the_place, in_count}
 use Rattle.sent_laws.proofs.SentRead.{some_bytes, in_size}
 use Rattle.uplink_model.specs.Frames.{Antenna, uplink_fragment_bytes, head_of, uplink_message_bytes, samples_of, section_of}
 use Rattle.uplink_model.specs.Messages.{job_fields}
