@@ -3,7 +3,7 @@ ghost use Rattle.std.specs.Prelude.{◌≡◌, ◌<◌, ◌^◌, IfOk, IfSome};
 ghost use Rattle.std.specs.Option.{option_map};
 ghost use Rattle.fh_document.specs.Proper.{AreTransits, IsDocument, IsFrom};
 ghost use Rattle.fh_document.specs.declared.config_lines.TheConstants.{MOST_TRANSIT};
-ghost use Rattle.unit_documents.specs.Units.{moved, unit_of, unit_tone, unit_transits, UnitsAreDocuments};
+ghost use Rattle.unit_documents.specs.Units.{moved, unit_of, unit_tone, unit_transits};
 
 use crate::copying::{copy_config, copy_injections, copy_list};
 use crate::moving::{moved, moved_deliveries};
@@ -83,8 +83,3 @@ pub fn unit_document(
         measures,
     })
 }
-
-/// A document of the grammar stays one at every unit.
-pub fn units_are_documents()
-    ensures { UnitsAreDocuments }
-{}
