@@ -37,11 +37,11 @@ use Rattle.window_config.specs.declared.endpoints.EndpointConfig.{EndpointConfig
 use Rattle.unit_model.specs.Blocks.{data_verdict, timely}
 use Rattle.unit_model.specs.Decoding.{Backwards, Decoded, Gathering, Refused, SectionBlocks, Sections, data_sections, data_with, decode, decode_message, decoded_from, decoded_with, gathered, has_way, nothing_told, sections_of, with_item}
 use Rattle.unit_model.specs.Meetings.{Arrival, Commands, Ignored, Meeting, Piece, command_read, commands, commands_with, control_met, find_endpoint, fragment_of, fragments, meet, meetings, met_by, met_in}
-use Rattle.unit_model.specs.Reports.{hold_of, met}
+use Rattle.unit_model.specs.Reports.{commands_of, hold_of, met}
 use Rattle.unit_model.specs.declared.decoded.ControlSection.{ControlSection}
 use Rattle.unit_model.specs.declared.decoded.UserSection.{UserSection}
-use Rattle.unit_memory.specs.Judgements.{Given, heading_of, judged_by, judged_commands, judged_data, judged_decoded, judged_in, judged_meeting, judged_message, judged_now, judged_whole}
-use Rattle.judged_widths.specs.Widths.{CommandsHaveWidths, HasControlWidths, HasFragmentWidths, HasWidths, JudgementsHaveWidths}
+use Rattle.unit_memory.specs.Judgements.{Given, heading_of, judged_by, judged_commands, judged_data, judged_decoded, judged_in, judged_meeting, judged_message, judged_now, judged_whole, judgements}
+use Rattle.judged_widths.specs.Widths.{HasControlWidths, HasFragmentWidths, HasWidths}
 use Rattle.judged_widths.proofs.ListLemmas.{all_both, all_chosen, all_onto}
 
 -- ---- sections of commands
@@ -242,7 +242,8 @@ module _ (side : Side) (c : Config) where
       let x = meet side c.endpoints at m in
       all_both (HasWidths side) (judged_message side c at ms m) (judged_in side c at (x ∷ ms) rest) (tt, meeting_judged ms x (meet_widths side c.endpoints at m)) (all_judged at (x ∷ ms) rest)
 
-pub have_widths : JudgementsHaveWidths
+-- of any frame, whatever came before it
+pub have_widths : (side : Side) (c : Config) (earlier : List Arrival) (a : Arrival) → AllByRecursion (HasWidths side) (judgements side c earlier a)
 have_widths side c earlier a = all_judged side c a.at (met side c earlier) (whole_messages a.frame)
 
 -- ---- all commands
@@ -264,5 +265,5 @@ commands_widths side (Ignored k ∷ earlier) h = commands_widths side earlier h.
 commands_widths side (Commands cs ∷ earlier) h = all_onto IsNarrow (commands earlier) cs (commands_widths side earlier h.1) h.0.0
 commands_widths side (Piece e f ∷ earlier) h = commands_widths side earlier h.1
 
-pub commands_narrow : CommandsHaveWidths
+pub commands_narrow : (side : Side) (c : Config) (arrivals : List Arrival) → AllByRecursion IsNarrow (commands_of side c arrivals)
 commands_narrow side c arrivals = commands_widths side (met side c arrivals) (meetings_widths side c.endpoints arrivals)

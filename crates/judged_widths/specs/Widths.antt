@@ -1,15 +1,10 @@
 -- The widths of the numbers in what is judged (O-RAN.WG4.CUS, the fields of sections; eCPRI transport header, ecpriSeqid).
-use Rattle.std.specs.Prelude.{◌≡◌, ◌<◌, ◌^◌, List}
-use Rattle.std.specs.List.{AllByRecursion}
+use Rattle.std.specs.Prelude.{◌≡◌, ◌<◌, ◌^◌}
 use Rattle.cplane_sections.specs.declared.values.CSection.{CSection}
 use Rattle.ecpri_fragments.specs.Generations.{Fragment}
 use Rattle.air_source.specs.declared.events.Side.{Side}
 use Rattle.air_source.specs.declared.events.Side.TheVariants.{Ru}
-use Rattle.window_config.specs.declared.config.Config.{Config}
-use Rattle.unit_model.specs.Meetings.{Arrival}
-use Rattle.unit_model.specs.Reports.{commands_of}
-use Rattle.unit_model.specs.declared.decoded.ControlSection.{ControlSection}
-use Rattle.unit_memory.specs.Judgements.{Judgement, Met, Commanded, Fragmented, Unread, Turned, Given, judgements}
+use Rattle.unit_memory.specs.Judgements.{Judgement, Met, Commanded, Fragmented, Unread, Turned, Given}
 
 pub record HasControlWidths (s : CSection) : Type 0 where
   pub id : s.id < 2 ^ 12
@@ -29,9 +24,3 @@ HasWidths side (Fragmented e f v) = HasFragmentWidths f
 HasWidths side (Unread ep e m why) = Unit {0}
 HasWidths side (Turned ep e m) = Unit {0}
 HasWidths side (Given h v) = h.section.id < 2 ^ 12
-
-abbrev pub JudgementsHaveWidths : Type 0
-JudgementsHaveWidths = (side : Side) (c : Config) (earlier : List Arrival) (a : Arrival) → AllByRecursion (HasWidths side) (judgements side c earlier a)
-
-abbrev pub CommandsHaveWidths : Type 0
-CommandsHaveWidths = (side : Side) (c : Config) (arrivals : List Arrival) → AllByRecursion (λ (s : ControlSection). HasControlWidths s.section) (commands_of side c arrivals)

@@ -1,6 +1,4 @@
 //! What a unit judges has numbers of the widths of their fields.
+//!
+//! There are no functions: each law is a lemma of `proofs/`, in the words of `specs/`.
 #![tactic(auto)]
-
-mod laws;
-
-pub use laws::{commands_have_widths, judgements_have_widths};

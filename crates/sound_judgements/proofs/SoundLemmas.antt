@@ -17,10 +17,10 @@ use Rattle.ecpri_frames.specs.Gathering.{whole_messages}
 use Rattle.ecpri_frames.specs.Messages.{Message}
 use Rattle.ecpri_frames.specs.declared.heads.TheConstants.{IQ_DATA, ONE_WAY_DELAY, REAL_TIME_CONTROL}
 use Rattle.fh_time.specs.Numbering.{shape_of}
-use Rattle.sound_judgements.specs.Sound.{CameTo, IsSoundJudgement, JudgementsAreSound}
+use Rattle.sound_judgements.specs.Sound.{CameTo, IsSoundJudgement}
 use Rattle.unit_laws.proofs.HistoryLemmas.{commands_are_proper, data_are_proper, found_at}
 use Rattle.unit_cells.specs.Headings.{IsSoundHeading}
-use Rattle.unit_memory.specs.Judgements.{Met, Commanded, Fragmented, Unread, Turned, Given, heading_of, judged_by, judged_commands, judged_data, judged_decoded, judged_in, judged_meeting, judged_message, judged_now, judged_whole}
+use Rattle.unit_memory.specs.Judgements.{Met, Commanded, Fragmented, Unread, Turned, Given, heading_of, judged_by, judged_commands, judged_data, judged_decoded, judged_in, judged_meeting, judged_message, judged_now, judged_whole, judgements}
 use Rattle.unit_model.specs.Blocks.{data_verdict, timely}
 use Rattle.unit_model.specs.Commands.{accepted, command_verdict}
 use Rattle.unit_model.specs.Decoding.{Decoded, Refused, Backwards, Sections, data_now, data_sections, data_told, decode_message, decoded_now, sections_of}
@@ -28,6 +28,7 @@ use Rattle.unit_model.specs.Lists.{onto}
 use Rattle.unit_model.specs.Meetings.{Arrival, Meeting, Ignored, Commands, Piece, command_read, commands, control_met, find_endpoint, fragment_of, fragments, meet, meetings, met_by, met_in}
 use Rattle.unit_model.specs.Proper.{IsAt, IsProperCommand, IsProperData, IsTime}
 use Rattle.unit_model.specs.Reports.{hold_of, met}
+use Rattle.unit_model.specs.Standing.{AreInTime}
 use Rattle.unit_model.specs.Terms.{URefusal}
 use Rattle.unit_model.specs.declared.decoded.ControlSection.{ControlSection}
 use Rattle.unit_model.specs.declared.decoded.UserSection.{UserSection}
@@ -198,7 +199,9 @@ module _ (side : Side) (c : Config) where
       (data_before side hold (IsProperData c.endpoints) (x ∷ ms) xs hd)))
       (all_judged at (x ∷ ms) rest t hc hd)
 
-pub are_sound : JudgementsAreSound
+-- What is judged of a frame is of the unit's endpoints, and each section names a slot and a symbol of its endpoint.
+pub are_sound : (side : Side) (c : Config) (clock : ℤ) (earlier : List Arrival) (a : Arrival) → AreInTime clock (a ∷ earlier) → All (λ (b : Arrival). IsTime b.at) (a ∷ earlier)
+    → All (IsSoundJudgement c.endpoints) (judgements side c earlier a)
 unfolding meetings
 are_sound side c clock earlier a h times =
     all_judged side c a.at (met side c earlier) (whole_messages a.frame) (All-head (λ (a : Arrival). IsTime a.at) a earlier times)

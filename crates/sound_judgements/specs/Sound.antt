@@ -1,12 +1,8 @@
 -- What is known of each judgement.
-use Rattle.std.specs.Prelude.{ℕ, ℤ, List, ◌∷◌, All}
-use Rattle.air_source.specs.declared.events.Side.{Side}
+use Rattle.std.specs.Prelude.{ℕ, ℤ, List}
 use Rattle.unit_cells.specs.Headings.{IsSoundHeading}
-use Rattle.unit_memory.specs.Judgements.{Judgement, Met, Commanded, Fragmented, Unread, Turned, Given, judgements}
-use Rattle.unit_model.specs.Meetings.{Arrival}
+use Rattle.unit_memory.specs.Judgements.{Judgement, Met, Commanded, Fragmented, Unread, Turned, Given}
 use Rattle.unit_model.specs.Proper.{IsAt, IsProperCommand, IsTime}
-use Rattle.unit_model.specs.Standing.{AreInTime}
-use Rattle.window_config.specs.declared.config.Config.{Config}
 use Rattle.window_config.specs.declared.endpoints.EndpointConfig.{EndpointConfig}
 
 -- it is of one of these endpoints, and came at a time
@@ -20,8 +16,3 @@ IsSoundJudgement es (Fragmented e f v) = CameTo es f.ep e f.at
 IsSoundJudgement es (Unread ep e m why) = CameTo es ep e m.last
 IsSoundJudgement es (Turned ep e m) = CameTo es ep e m.last
 IsSoundJudgement es (Given h v) = IsAt es h.ep h.endpoint × IsSoundHeading h
-
-abbrev pub JudgementsAreSound : Type 0
-JudgementsAreSound =
-    (side : Side) (c : Config) (clock : ℤ) (earlier : List Arrival) (a : Arrival) → AreInTime clock (a ∷ earlier) → All (λ a. IsTime a.at) (a ∷ earlier)
-    → All (IsSoundJudgement c.endpoints) (judgements side c earlier a)
