@@ -1,11 +1,14 @@
 -- Messages that grow: symbols alike, bytes and waits.
-use Rattle.std.proofs.Common.{◌≡◌, ℕ, ◌+◌, ◌*◌, Bool, true, ◌&&◌, ◌==◌, min, if◌then◌else◌, List, [], ◌∷◌, ◌++◌, length, map, sum, refl, ap, ap₂, ◌∙◌, add-mul, arith}
+use Rattle.std.proofs.Common.{◌≡◌, ℕ, ◌+◌, ◌*◌, ◌<◌, ◌≤◌, Bool, true, ◌&&◌, ◌==◌, nat_le, nat_lt, min, if◌then◌else◌, List, [], ◌∷◌, ◌++◌, length, map, sum, refl, ap, ap₂, sym, ◌∙◌, add-mul, arith}
 use Rattle.std.proofs.lemmas.List.{map-append}
 use Rattle.std.proofs.lemmas.List.Sums.{sum_by-append}
-use Rattle.std.proofs.lemmas.Bool.{and_parts, eqb-true}
+use Rattle.std.proofs.lemmas.Bool.{and_parts, eqb-true, leb-true, ltb-true}
 use Rattle.fh_time.specs.declared.values.Slot.{Slot}
 use Rattle.unit_model.specs.Claims.{same_slot}
-use Rattle.plan_model.specs.Packs.{Message, same_symbol, frames_before}
+use Rattle.unit_model.specs.Terms.{MESSAGE_BYTES}
+use Rattle.plan_model.specs.Packs.{Message, PartFields, alone, parts_of, same_symbol, frames_before, with_part}
+use Rattle.plan_model.specs.Sizes.{has_room, larger, measured, of_one}
+use Rattle.plan_model.specs.declared.sizes.MessageSize.{MessageSize}
 use Rattle.plan_model.specs.Streams.{Part, part_fields}
 use Rattle.unit_model.proofs.ClaimLemmas.{same_slot_is as slot_is}
 
@@ -22,7 +25,7 @@ before_alike frames m n [] h = refl
 before_alike frames m n (k ∷ earlier) h =
     ap₂ (λ (t : Bool) (x : ℕ). let y : ℕ = if t then frames k + x else 0 in y) (h k.first) (before_alike frames m n earlier h)
 
-pub sum_more : (f : Part → ℕ) (ps : List Part) (p : Part) → sum (map f (ps ++ p ∷ [])) ≡ sum (map f ps) + f p
+sum_more : {P : Type 0} (f : P → ℕ) (ps : List P) (p : P) → sum (map f (ps ++ p ∷ [])) ≡ sum (map f ps) + f p
 sum_more f ps p =
     let e : sum (map f ps ++ f p ∷ []) ≡ sum (map f ps) + sum (f p ∷ []) = sum_by-append (λ x. x) (map f ps) (f p ∷ []) in
     ap sum (map-append f ps (p ∷ [])) ∙ e ∙ omega arith
@@ -30,6 +33,29 @@ sum_more f ps p =
 pub length_more : {X : Type 0} (xs : List X) (x : X) → length (xs ++ x ∷ []) ≡ length xs + 1
 length_more [] x = refl
 length_more (y ∷ xs) x = let e = length_more xs x in omega (arith, e)
+
+-- ---- how large a message is
+
+size : ℕ → ℕ → MessageSize
+size n k = record { parts = n; bytes = k }
+
+pub measured_one : {P : Type 0} (f : PartFields P) (p : P) → of_one (f.size p) ≡ measured f (alone p)
+unfolding size
+measured_one f p = ap (size 1) (omega arith)
+
+pub measured_more : {P : Type 0} (f : PartFields P) (m : Message P) (p : P) → larger (measured f m) (f.size p) ≡ measured f (with_part m p)
+unfolding size
+measured_more f m p = let b = sum_more f.size (parts_of m) p in ap₂ size (sym (length_more (parts_of m) p)) (omega (arith, b))
+
+-- where a part has room
+pub record HasRoom (most : ℕ) (s : MessageSize) (n : ℕ) : Type 0 where
+  pub parts : s.parts < most
+  pub bytes : s.bytes + n ≤ MESSAGE_BYTES
+
+pub room_is : (most : ℕ) (s : MessageSize) (n : ℕ) → has_room most s n ≡ true → HasRoom most s n
+room_is most s n h =
+    let two = and_parts (nat_lt s.parts most) (nat_le (s.bytes + n) MESSAGE_BYTES) h in
+    record { parts = ltb-true s.parts most two.0; bytes = leb-true (s.bytes + n) MESSAGE_BYTES two.1 }
 
 pub wait_more : (before frames gap spread : ℕ) → min (min (before * gap) spread + frames * gap) spread ≡ min ((frames + before) * gap) spread
 wait_more before frames gap spread =

@@ -1,6 +1,7 @@
 pub mod Lines
 pub mod Validity
 pub mod Packs
+pub mod Sizes
 pub mod Streams
 pub mod Departures
 pub mod Sent
