@@ -1,12 +1,12 @@
 -- Messages that grow: symbols alike, bytes and waits.
-use Rattle.std.proofs.Common.{◌≡◌, ℕ, ◌+◌, ◌*◌, ◌<◌, ◌≤◌, Bool, true, ◌&&◌, ◌==◌, nat_le, nat_lt, min, if◌then◌else◌, List, [], ◌∷◌, ◌++◌, length, map, sum, refl, ap, ap₂, sym, ◌∙◌, add-mul, arith}
+use Rattle.std.proofs.Common.{◌≡◌, ℕ, ◌+◌, ◌*◌, ◌≤◌, Bool, true, ◌&&◌, ◌==◌, nat_le, nat_lt, min, if◌then◌else◌, List, [], ◌∷◌, ◌++◌, length, map, sum, refl, ap, ap₂, sym, subst, ◌∙◌, add-mul, arith}
 use Rattle.std.proofs.lemmas.List.{map-append}
 use Rattle.std.proofs.lemmas.List.Sums.{sum_by-append}
 use Rattle.std.proofs.lemmas.Bool.{and_parts, eqb-true, leb-true, ltb-true}
 use Rattle.fh_time.specs.declared.values.Slot.{Slot}
 use Rattle.unit_model.specs.Claims.{same_slot}
 use Rattle.unit_model.specs.Terms.{MESSAGE_BYTES}
-use Rattle.plan_model.specs.Packs.{Message, PartFields, alone, parts_of, same_symbol, frames_before, with_part}
+use Rattle.plan_model.specs.Packs.{Message, PartFields, alone, parts_of, same_symbol, frames_before, takes, with_part}
 use Rattle.plan_model.specs.Sizes.{has_room, larger, measured, of_one}
 use Rattle.plan_model.specs.declared.sizes.MessageSize.{MessageSize}
 use Rattle.plan_model.specs.Streams.{Part, part_fields}
@@ -47,15 +47,21 @@ pub measured_more : {P : Type 0} (f : PartFields P) (m : Message P) (p : P) → 
 unfolding size
 measured_more f m p = let b = sum_more f.size (parts_of m) p in ap₂ size (sym (length_more (parts_of m) p)) (omega (arith, b))
 
--- where a part has room
-pub record HasRoom (most : ℕ) (s : MessageSize) (n : ℕ) : Type 0 where
-  pub parts : s.parts < most
-  pub bytes : s.bytes + n ≤ MESSAGE_BYTES
+-- it has at most so many parts, and no more bytes than a message may
+pub record IsWithin (most : ℕ) (s : MessageSize) : Type 0 where
+  pub parts : s.parts ≤ most
+  pub bytes : s.bytes ≤ MESSAGE_BYTES
 
-pub room_is : (most : ℕ) (s : MessageSize) (n : ℕ) → has_room most s n ≡ true → HasRoom most s n
+pub room_is : (most : ℕ) (s : MessageSize) (n : ℕ) → has_room most s n ≡ true → IsWithin most (larger s n)
 room_is most s n h =
     let two = and_parts (nat_lt s.parts most) (nat_le (s.bytes + n) MESSAGE_BYTES) h in
-    record { parts = ltb-true s.parts most two.0; bytes = leb-true (s.bytes + n) MESSAGE_BYTES two.1 }
+    let few = ltb-true s.parts most two.0 in
+    record { parts = omega (arith, few); bytes = leb-true (s.bytes + n) MESSAGE_BYTES two.1 }
+
+pub takes_room : {P : Type 0} (f : PartFields P) (most : ℕ) (m : Message P) (p : P) → takes f most m p ≡ true → IsWithin most (measured f (with_part m p))
+takes_room f most m p h =
+    let rest = (and_parts (same_symbol f m.first p) _ h).1 in
+    subst (IsWithin most) (measured_more f m p) (room_is most (measured f m) (f.size p) (and_parts (f.filter m.first == f.filter p) _ rest).1)
 
 pub wait_more : (before frames gap spread : ℕ) → min (min (before * gap) spread + frames * gap) spread ≡ min ((frames + before) * gap) spread
 wait_more before frames gap spread =

@@ -42,7 +42,7 @@ impl MessageSize {
 
     /// The message with a part of so many bytes more.
     pub fn larger(&self, part: usize) -> MessageSize
-        requires parts { self.now.parts < 2 ^ 32 }
+        requires parts { self.now.parts < 2 ^ 63 }
         requires bytes { self.now.bytes < 2 ^ 32 }
         requires part { part < 2 ^ 32 }
         ensures { result ≡ larger self.now part }
