@@ -1,5 +1,5 @@
 -- What two allocations share, and what is claimed where allocations do not clash.
-use Rattle.std.proofs.Common.{◌≡◌, ℕ, ◌-◌, ◌<◌, inl, inr, Bool, true, false, not, ◌&&◌, ◌||◌, ◌==◌, if◌then◌else◌, List, [], ◌∷◌, Option, Some, None, refl, ap, sym, ◌∙◌, true≢false, arith}
+use Rattle.std.proofs.Common.{◌≡◌, ℕ, ◌<◌, inl, inr, Bool, true, false, not, ◌&&◌, ◌||◌, ◌==◌, if◌then◌else◌, List, [], ◌∷◌, Option, Some, None, refl, ap, sym, ◌∙◌, true≢false, arith}
 use Rattle.std.proofs.lemmas.Bool.{cases_Bool, or_cases, and_parts, and_from, or_left, or_right, eq-eqb, eqb-true, false_from_ne_true}
 use Rattle.unit_model.specs.Lists.{every}
 use Rattle.unit_model.specs.Claims.{same_slot, same_way, is_from, first_prb, prb_count, in_mask, names, claim_of, claim_at, cell_of, every_cell, is_under, is_claimed, repeats, overlaps}

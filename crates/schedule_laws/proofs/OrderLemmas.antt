@@ -1,13 +1,14 @@
 -- The messages of a stream by their numbers: they stand in the order of their starts, each has one symbol and at most 16,384 bytes.
-use Rattle.std.proofs.Common.{◌≡◌, ℕ, ℤ, pos, zero, suc, ◌+◌, ◌<◌, ◌≤◌, ◌+ℤ◌, ◌≤ℤ◌, ◌⊎◌, inl, inr, Bool, true, false, ◌==◌, nat_le, nat_lt, if◌then◌else◌, List, [], ◌∷◌, ◌++◌, length, map, sum, drop, Some, refl, ap, sym, ◌∙◌, subst, arith}
+use Rattle.std.proofs.Common.{◌≡◌, ℕ, ℤ, pos, zero, suc, ◌+◌, ◌<◌, ◌≤◌, ◌+ℤ◌, ◌≤ℤ◌, ◌⊎◌, inl, inr, Bool, true, false, if◌then◌else◌, List, [], ◌∷◌, ◌++◌, length, map, drop, Some, refl, ap, sym, ◌∙◌, subst, arith}
 use Rattle.std.specs.Prelude.{⊤}
-use Rattle.std.specs.List.{fold, slice_get}
-use Rattle.std.proofs.lemmas.Bool.{and_parts, and_from, eq-eqb, leb-true}
+use Rattle.std.specs.List.{slice_get}
+use Rattle.std.proofs.lemmas.Bool.{and_parts, and_from, eq-eqb}
 use Rattle.std.specs.Int.Signed.{≤ℤ_refl}
 use Rattle.fragment_laws.specs.Apart.{IsIn}
 use Rattle.unit_model.specs.Lists.{each_tick}
 use Rattle.plan_model.specs.Packs.{PartFields, Message, Numbered, alone, frames_before, numbered, numbered_behind, packs, packs_behind, parts_of, same_symbol, size_of, takes, with_part}
 use Rattle.plan_model.proofs.ListLemmas.{in_either}
+use Rattle.plan_model.proofs.PackLemmas.{takes_room}
 use Rattle.schedule_laws.proofs.ListLemmas.{at_in}
 use Rattle.schedule_laws.proofs.PackLemmas.{parts_behind}
 use Rattle.unit_model.proofs.ClaimLemmas.{slot_self as slot_own}
@@ -87,13 +88,6 @@ rising_behind key (x ∷ xs) ys h = rising_behind key xs ys h.1
 
 -- ---- packs
 
-fold_more : {P : Type 0} (size : P → ℕ) (a : ℕ) (ps : List P) (p : P) → fold ◌+◌ a (map size (ps ++ p ∷ [])) ≡ fold ◌+◌ a (map size ps) + size p
-fold_more size a [] p = refl
-fold_more size a (q ∷ ps) p = fold_more size (a + size q) ps p
-
-head_sum : (s t p : ℕ) → s ≡ t + p → 4 + s ≡ (4 + t) + p
-head_sum s t p e = omega (arith, e)
-
 module _ {P : Type 0} (f : PartFields P) (most : ℕ) where
   -- in the order of a key of their first parts
   behind_rising : (key : P → ℤ) (m : Message P) (ps : List P) → ((q : P) → IsIn q ps → key m.first ≤ℤ key q) → IsRising key ps → IsRising (λ n. key n.first) (packs_behind f most m ps)
@@ -152,23 +146,11 @@ module _ {P : Type 0} (f : PartFields P) (most : ℕ) where
   one_symbol (p ∷ ps) n i = behind_one (alone p) ps n (alone_one p) i
 
   -- of at most 16,384 bytes
-  longer : (m : Message P) (p : P) → size_of f (with_part m p) ≡ size_of f m + f.size p
-  longer m p = head_sum (sum (map f.size (parts_of (with_part m p)))) (sum (map f.size (parts_of m))) (f.size p) (fold_more f.size 0 (parts_of m) p)
-
-  takes_few : (m : Message P) (p : P) → takes f most m p ≡ true → size_of f (with_part m p) ≤ MESSAGE_BYTES
-  takes_few m p h =
-      let one = and_parts (same_symbol f m.first p) _ h in
-      let two = and_parts (f.filter m.first == f.filter p) _ one.1 in
-      let three = and_parts (nat_lt (length (parts_of m)) most) (nat_le (size_of f m + f.size p) MESSAGE_BYTES) two.1 in
-      let l = leb-true (size_of f m + f.size p) MESSAGE_BYTES three.1 in
-      let e = longer m p in
-      subst (λ k. k ≤ MESSAGE_BYTES) (sym e) l
-
   behind_short : (m : Message P) (ps : List P) (n : Message P) → ((q : P) → IsIn q ps → size_of f (alone q) ≤ MESSAGE_BYTES) → size_of f m ≤ MESSAGE_BYTES → IsIn n (packs_behind f most m ps) → size_of f n ≤ MESSAGE_BYTES
   unfolding packs_behind
   behind_short m [] n each h i = elim i [ inl e ↦ subst (λ (x : Message P). size_of f x ≤ MESSAGE_BYTES) (sym e) h | inr t ↦ absurd t ]
   behind_short m (p ∷ ps) n each h i =
-      go (takes f most m p) refl i (λ t. behind_short (with_part m p) ps n (λ q k. each q (inr k)) (takes_few m p t)) (behind_short (alone p) ps n (λ q k. each q (inr k)) (each p (inl refl)))
+      go (takes f most m p) refl i (λ t. behind_short (with_part m p) ps n (λ q k. each q (inr k)) (takes_room f most m p t).bytes) (behind_short (alone p) ps n (λ q k. each q (inr k)) (each p (inl refl)))
     where
       go : (b : Bool) → takes f most m p ≡ b → IsIn n (if b then packs_behind f most (with_part m p) ps else m ∷ packs_behind f most (alone p) ps)
           → (takes f most m p ≡ true → IsIn n (packs_behind f most (with_part m p) ps) → size_of f n ≤ MESSAGE_BYTES) → (IsIn n (packs_behind f most (alone p) ps) → size_of f n ≤ MESSAGE_BYTES) → size_of f n ≤ MESSAGE_BYTES

@@ -1,5 +1,5 @@
 -- What is sent for a plan: each frame is one of a message of a line, and each message's frames are sent.
-use Rattle.std.proofs.Common.{◌≡◌, ℕ, ℤ, pos, zero, suc, ◌+◌, ◌<◌, ◌+ℤ◌, ◌≤ℤ◌, ◌<ℤ◌, inl, inr, true, List, [], ◌∷◌, ◌++◌, map, refl, ap, sym, subst, arith}
+use Rattle.std.proofs.Common.{◌≡◌, ℕ, pos, zero, suc, ◌+◌, ◌<◌, ◌+ℤ◌, ◌≤ℤ◌, ◌<ℤ◌, inl, inr, true, List, [], ◌∷◌, ◌++◌, map, refl, ap, sym, subst, arith}
 use Rattle.std.specs.Prelude.{filter}
 use Rattle.std.specs.Int.{int_gap}
 use Rattle.std.specs.Ordering.{int_eq}
