@@ -20,8 +20,8 @@ use Rattle.frame_order.specs.declared.turns.Run.{Run}
 use Rattle.frame_order.specs.declared.turns.Turn.{Turn}
 use Rattle.schedule_laws.proofs.SentLemmas.{IsSentStream, sent_is}
 use Rattle.frame_order.specs.Runs.{IsOrderOf, endpoint_runs, gap_ticks, rests_of, runs_from, runs_of, turn_of}
-use Rattle.frame_order.proofs.OrderLemmas.{in_order}
-use Rattle.frame_order.proofs.ProperLemmas.{are_runs}
+use Rattle.frame_order.proofs.OrderLemmas.{sent_is_in_order}
+use Rattle.frame_order.proofs.ProperLemmas.{messages_are_runs}
 use Rattle.du_scheduler.specs.Kept.{placed_line, HasMessage, message_in}
 use Rattle.du_scheduler.specs.TablePlans.{IsTabledPlan}
 use Rattle.du_scheduler.specs.Tables.{IsKeptInTable, IsTable, AddsEndpoint}
@@ -120,14 +120,14 @@ filled_runs c ps ep streams runs f end =
 
 pub runs_fit : (c : Config) (ps : List PlannedLine) (runs : List Run) → IsConfig c → IsTabledPlan c ps → runs ≡ runs_of c ps → All IsRun runs
 runs_fit c ps runs config plan is =
-    subst (All IsRun) (sym is) (subst (λ (xs : List PlannedLine). All IsRun (runs_of c xs)) (sym plan.is) (are_runs c plan.lines config plan.fit plan.valid))
+    subst (All IsRun) (sym is) (subst (λ (xs : List PlannedLine). All IsRun (runs_of c xs)) (sym plan.is) (messages_are_runs c plan.lines config plan.fit plan.valid))
 
 pub runs_ordered : (c : Config) (ps : List PlannedLine) (runs : List Run) (gap : ℕ) → IsConfig c → IsTabledPlan c ps → runs ≡ runs_of c ps → gap ≡ gap_ticks c
     → IsOrderOf (rests_of gap runs) (map turn_of (sent c ps))
 runs_ordered c ps runs gap config plan is gap_is =
     subst (λ (g : ℕ). IsOrderOf (rests_of g runs) (map turn_of (sent c ps))) (sym gap_is)
     (subst (λ (rs : List Run). IsOrderOf (rests_of (gap_ticks c) rs) (map turn_of (sent c ps))) (sym is)
-    (subst (λ (xs : List PlannedLine). IsOrderOf (rests_of (gap_ticks c) (runs_of c xs)) (map turn_of (sent c xs))) (sym plan.is) (in_order c plan.lines config plan.fit plan.valid)))
+    (subst (λ (xs : List PlannedLine). IsOrderOf (rests_of (gap_ticks c) (runs_of c xs)) (map turn_of (sent c xs))) (sym plan.is) (sent_is_in_order c plan.lines config plan.fit plan.valid)))
 
 -- ---- the message of a frame
 

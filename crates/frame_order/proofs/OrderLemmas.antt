@@ -15,9 +15,9 @@ use Rattle.frame_order.proofs.KeptLemmas.{frames_kept, rising_of, ticks_kept, at
 use Rattle.frame_order.proofs.RunLemmas.{runs_are}
 use Rattle.unit_model.specs.Lists.{each_tick}
 
-pub in_order : SentIsInOrder
+pub sent_is_in_order : SentIsInOrder
 unfolding sent
-in_order c lines config fit valid =
+sent_is_in_order c lines config fit valid =
     let ps = planned c.endpoints lines in
     let all = frames_from c ps 0 c.endpoints in
     let count = int_gap first_clock (end_of_time +ℤ pos 1) in

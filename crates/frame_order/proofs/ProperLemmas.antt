@@ -117,6 +117,6 @@ module _ (c : Config) (lines : List PlanLine) (config : IsConfig c) (fit : All I
       All-append IsRun (endpoint_runs c ps start e) (runs_from c ps (start + 1) es) (of_endpoint start e (subst (λ k. IsAt c.endpoints k e) here (h 0 e refl)))
       (of_endpoints (start + 1) es (λ i g at. (let there : start + suc i ≡ start + 1 + i = omega arith in subst (λ k. IsAt c.endpoints k g) there (h (suc i) g at))))
 
-pub are_runs : MessagesAreRuns
-are_runs c lines config fit valid =
+pub messages_are_runs : MessagesAreRuns
+messages_are_runs c lines config fit valid =
     of_endpoints c lines config fit valid 0 c.endpoints (λ i e at. (let here : 0 + i ≡ i = omega arith in subst (λ k. IsAt c.endpoints k e) (sym here) at))

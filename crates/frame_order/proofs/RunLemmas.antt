@@ -14,7 +14,7 @@ use Rattle.plan_model.specs.declared.streams.Stream.TheVariants.{DownCommands, U
 use Rattle.frame_order.specs.Turns.{leaves, rest_of, turn_at, turns}
 use Rattle.frame_order.specs.declared.turns.Turn.{Turn}
 use Rattle.frame_order.specs.declared.turns.Run.{Run}
-use Rattle.frame_order.proofs.TurnOrder.{leaves_in_time, made}
+use Rattle.frame_order.proofs.TurnOrder.{frames_leave_in_time, made}
 use Rattle.frame_order.specs.Runs.{endpoint_runs, gap_ticks, rests_of, run_of, runs_from, stream_runs, turn_of}
 use Rattle.unit_model.specs.Terms.{joined}
 
@@ -28,7 +28,7 @@ turn_is c stream ep e n k =
     let d = departures_of c stream in
     let start = start_of_part n.message.first +ℤ d.from.0 in
     let time : leaves (gap_ticks c) (run_of c stream ep n) k ≡ sent_at c stream n k =
-    leaves_in_time (gap_ticks c) (run_of c stream ep n) start d.spread n.before k (first_at start n.before d.gap d.spread) refl in
+    frames_leave_in_time (gap_ticks c) (run_of c stream ep n) start d.spread n.before k (first_at start n.before d.gap d.spread) refl in
     let sub : 0 + k ≡ k = omega arith in
     ap₂ (λ at s. made at ep stream n.number s) time sub
 

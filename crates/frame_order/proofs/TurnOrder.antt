@@ -9,7 +9,7 @@ use Rattle.std.proofs.lemmas.Bool.Decides.{nat_tests}
 use Rattle.std.proofs.lemmas.Int.{ints}
 use Rattle.frame_order.specs.declared.turns.Turn.{Turn}
 use Rattle.frame_order.specs.declared.turns.Run.{Run}
-use Rattle.frame_order.specs.Turns.{stream_place, turn_cmp, IsUpTo, is_turn, leaves, turn_at}
+use Rattle.frame_order.specs.Turns.{FramesLeaveInTime, stream_place, turn_cmp, IsUpTo, is_turn, leaves, turn_at}
 use Rattle.frame_order.specs.Queues.{run_cmp}
 use denote.Enum.Bare.{tag_one}
 use Rattle.frame_order.specs.TurnLaws.{place_is, turn_total}
@@ -150,8 +150,7 @@ later_is gap r s k turn last =
 leaves_with : (start : ℤ) (spread n m : ℕ) → int_min ((start +ℤ pos (min n spread)) +ℤ pos m) (start +ℤ pos spread) ≡ start +ℤ pos (min (n + m) spread)
 leaves_with start spread n m = grind (arith, ints, nat_tests)
 
-pub leaves_in_time : (gap : ℕ) (r : Run) (start : ℤ) (spread i k : ℕ) → r.turn.at.0 ≡ start +ℤ pos (min (i * gap) spread) → r.last.0 ≡ start +ℤ pos spread
-    → leaves gap r k ≡ start +ℤ pos (min ((i + k) * gap) spread)
-leaves_in_time gap r start spread i k at last =
+pub frames_leave_in_time : FramesLeaveInTime
+frames_leave_in_time gap r start spread i k at last =
     let both : i * gap + k * gap ≡ (i + k) * gap = omega arith in
     rw (at, last) (leaves_with start spread (i * gap) (k * gap)) ∙ ap (λ n. start +ℤ pos (min n spread)) both

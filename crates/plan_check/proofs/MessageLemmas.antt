@@ -6,6 +6,7 @@ use Rattle.plan_model.specs.Departures.{departures_of, start_of_part}
 use Rattle.plan_model.specs.Packs.{Message, alone as message_alone, with_part, size_of, takes, packs_behind, packs, frames_before, numbered_behind, numbered}
 use Rattle.plan_model.specs.Streams.{Part, part_fields}
 use Rattle.plan_model.specs.declared.dense.Sending.{Sending}
+use Rattle.plan_model.specs.declared.sizes.MessageSize.{MessageSize}
 use Rattle.plan_parts.proofs.OpenLemmas.{IsOpenOf, first_is, grown_is, next_is, takes_is}
 use Rattle.plan_parts.specs.OpenMessages.{alone, grown, takes_more}
 use Rattle.plan_check.specs.Walks.{stream_of, dense_limits_of, sending_next_to, open_sending, sending_walk, sendings_walked}
@@ -33,7 +34,7 @@ module _ (c : Config) (up : Bool) (frames : Message Part → ℕ) (frames_are : 
   next_here : (o : OpenMessage) (m : Message Part) (earlier : List (Message Part)) (p : Part) → IsOpen o m earlier
       → IsOpen (sending_next_to l o (timed (stream_of up) p)) (message_alone p) (m ∷ earlier)
   next_here o m earlier p i =
-      next_is (stream_of up) (departures_of c (stream_of up)) frames (piece_count c.fragment o.bytes) o m earlier p (ap (piece_count c.fragment) i.bytes ∙ sym (frames_are m)) i
+      next_is (stream_of up) (departures_of c (stream_of up)) frames (piece_count c.fragment o.size.bytes) o m earlier p (ap (λ (s : MessageSize). piece_count c.fragment s.bytes) i.size ∙ sym (frames_are m)) i
 
   sending_is : (o : OpenMessage) (m : Message Part) (earlier : List (Message Part)) (number : ℕ) → IsOpen o m earlier
       → sending_of c (stream_of up) (record { message = m; number = number; before = frames_before part_fields frames m earlier }) ≡ open_sending l o

@@ -3,7 +3,7 @@ use Rattle.std.proofs.Common.{◌≡◌, ℕ, suc, ◌+◌, ◌<◌, ◌≤◌, 
 use Rattle.std.proofs.lemmas.Bool.{eqb-true}
 use Rattle.std.proofs.lemmas.List.{append-nil, drop_all}
 use Rattle.plan_model.specs.declared.dense.Sending.{Sending}
-use Rattle.plan_parts.proofs.OpenLemmas.{takes_short}
+use Rattle.plan_parts.proofs.OpenLemmas.{more_room}
 use Rattle.plan_parts.specs.OpenMessages.{alone, grown, takes_more}
 use Rattle.plan_check.specs.Walks.{IsOpenSending, sending_next_to, open_sending, sending_walk, sendings_walked}
 use Rattle.plan_parts.specs.declared.parts.TimedPart.{TimedPart}
@@ -11,7 +11,7 @@ use Rattle.plan_check.specs.declared.walking.Limits.{Limits}
 use Rattle.plan_parts.specs.declared.open_messages.OpenMessage.{OpenMessage}
 
 pub grown_open : (l : Limits) (m : OpenMessage) (p : TimedPart) → IsOpenSending l m → takes_more l.pack m p ≡ true → IsOpenSending l (grown m p)
-grown_open l m p o h = let s = takes_short l.pack m p h in record { bytes = (let b = s.bytes in omega (arith, b)); wait = o.wait }
+grown_open l m p o h = let s = more_room l.pack m p h in record { bytes = (let b = s.bytes in omega (arith, b)); wait = o.wait }
 
 pub walk_takes : (l : Limits) (m : OpenMessage) (p : TimedPart) (ps : List TimedPart) → takes_more l.pack m p ≡ true → sending_walk l m (p ∷ ps) ≡ sending_walk l (grown m p) ps
 unfolding sending_walk

@@ -31,12 +31,12 @@ pub record AreDenseLimits (l : Limits) : Type 0 where
   pub spread : l.departures.spread < 2 ^ 33
 
 pub record IsOpenSending (l : Limits) (m : OpenMessage) : Type 0 where
-  pub bytes : m.bytes < 2 ^ 17
+  pub bytes : m.size.bytes < 2 ^ 17
   pub wait : m.wait ≤ l.departures.spread
 
 -- the next message waits for the frames of this one
 abbrev pub sending_next_to : Limits → OpenMessage → TimedPart → OpenMessage
-sending_next_to l m p = next_to l.departures (piece_count l.fragment m.bytes) m p
+sending_next_to l m p = next_to l.departures (piece_count l.fragment m.size.bytes) m p
 
 abbrev pub open_sending : Limits → OpenMessage → Sending
 open_sending l m = record { at = record { 0 = (m.first.start.0 +ℤ l.departures.from.0) +ℤ pos m.wait }; line = m.first.line }

@@ -51,7 +51,7 @@ fn step(
     if message.takes(limits.pack, part) {
         return Ok(message.grown(part));
     }
-    let frames = frame_count(limits.fragment, message.bytes);
+    let frames = frame_count(limits.fragment, message.size.bytes);
     let next = message.next_to(&limits.departures, frames, part);
     sent.push(sending_from(limits, &next))?;
     Ok(next)

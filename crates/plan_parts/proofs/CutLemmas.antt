@@ -3,6 +3,7 @@ use Rattle.std.proofs.Common.{◌≡◌, ℕ, ℤ, pos, ◌+◌, ◌*◌, ◌+�
 use Rattle.window_config.specs.declared.config.Config.{Config}
 use Rattle.window_config.specs.declared.endpoints.EndpointConfig.{EndpointConfig}
 use Rattle.plan_model.specs.declared.lines.PlannedLine.{PlannedLine}
+use Rattle.plan_model.specs.declared.sizes.MessageSize.{MessageSize}
 use Rattle.plan_model.specs.Departures.{departures_of, start_of_part}
 use Rattle.plan_model.specs.Packs.{Message, alone as message_alone, parts_of, with_part, size_of, takes, packs_behind, packs, frames_before, numbered_behind, numbered}
 use Rattle.plan_model.specs.Streams.{Part, frames_in, most_parts, part_fields, messages_of, parts_in}
@@ -48,7 +49,7 @@ module _ (c : Config) (stream : Stream) (ep : ℕ) where
 
   next_here : (o : OpenMessage) (m : Message Part) (earlier : List (Message Part)) (p : Part) → IsOpen o m earlier → IsOpen (run_next_to l o (timed stream p)) (message_alone p) (m ∷ earlier)
   next_here o m earlier p i =
-      next_is stream (departures_of c stream) (frames_in c stream) (frames_needed l.fragment o.bytes) o m earlier p (ap (frames_needed l.fragment) i.bytes ∙ sym (frames_are c stream ep m)) i
+      next_is stream (departures_of c stream) (frames_in c stream) (frames_needed l.fragment o.size.bytes) o m earlier p (ap (λ (s : MessageSize). frames_needed l.fragment s.bytes) i.size ∙ sym (frames_are c stream ep m)) i
 
   run_is : (o : OpenMessage) (m : Message Part) (earlier : List (Message Part)) → IsOpen o m earlier
       → run_of c stream ep (record { message = m; number = length earlier; before = frames_before part_fields frames m earlier }) ≡ run_from l (length earlier) o
@@ -57,7 +58,7 @@ module _ (c : Config) (stream : Stream) (ep : ℕ) where
       ap (λ (n : ℕ). made ((start_of_part m.first +ℤ l.departures.from.0) +ℤ pos (min (n * l.departures.gap) l.departures.spread)) (start_of_part m.first) (length earlier) (frames m)) none
       ∙ ap (λ (w : ℕ). made ((start_of_part m.first +ℤ l.departures.from.0) +ℤ pos w) (start_of_part m.first) (length earlier) (frames m)) (sym i.wait)
       ∙ ap (λ (x : TimedPart). made ((x.start.0 +ℤ l.departures.from.0) +ℤ pos o.wait) x.start.0 (length earlier) (frames m)) (sym i.first)
-      ∙ ap (made ((o.first.start.0 +ℤ l.departures.from.0) +ℤ pos o.wait) o.first.start.0 (length earlier)) (frames_are c stream ep m ∙ ap (frames_needed l.fragment) (sym i.bytes))
+      ∙ ap (made ((o.first.start.0 +ℤ l.departures.from.0) +ℤ pos o.wait) o.first.start.0 (length earlier)) (frames_are c stream ep m ∙ ap (λ (s : MessageSize). frames_needed l.fragment s.bytes) (sym i.size))
     where
       made : ℤ → ℤ → ℕ → ℕ → Run
       made at start number left = record {
@@ -119,9 +120,9 @@ module _ (c : Config) (stream : Stream) (ep : ℕ) where
   begins_are [] = refl
   begins_are (p ∷ ps) = begins_behind (alone (timed stream p) 0) (message_alone p) [] ps 0 1 (first_is stream (departures_of c stream) (frames_in c stream) p) refl
 
-pub make_runs : PartsMakeRuns
+pub parts_make_runs : PartsMakeRuns
 unfolding messages_of
-make_runs c lines stream ep e = sym (walked_is c stream ep (parts_in lines stream ep e))
+parts_make_runs c lines stream ep e = sym (walked_is c stream ep (parts_in lines stream ep e))
 
 pub make_begins : (c : Config) (lines : List PlannedLine) (stream : Stream) (ep : ℕ) (e : EndpointConfig) → begins (limits_of c stream ep) (map (timed stream) (parts_in lines stream ep e)) ≡ stream_begins c lines stream ep e
 make_begins c lines stream ep e = sym (begins_are c stream ep (parts_in lines stream ep e))

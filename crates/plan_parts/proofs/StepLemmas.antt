@@ -7,7 +7,7 @@ use Rattle.frame_order.specs.declared.turns.Run.{Run}
 use Rattle.plan_model.proofs.PackLemmas.{length_more}
 use Rattle.plan_parts.specs.Parts.{IsTimed}
 use Rattle.plan_parts.specs.Ranges.{IsLimits, IsOpenMessage}
-use Rattle.plan_parts.proofs.OpenLemmas.{takes_short}
+use Rattle.plan_parts.proofs.OpenLemmas.{more_room}
 use Rattle.plan_parts.specs.OpenMessages.{alone, grown, takes_more}
 use Rattle.plan_parts.specs.Walks.{run_next_to, run_from, walk, walked, later_begins, begins}
 use Rattle.plan_parts.specs.declared.limits.Limits.{Limits}
@@ -16,14 +16,14 @@ use Rattle.plan_parts.specs.declared.parts.TimedPart.{TimedPart}
 
 pub grown_open : (l : Limits) (m : OpenMessage) (p : TimedPart) → IsLimits l → IsOpenMessage l m → takes_more l.pack m p ≡ true → IsOpenMessage l (grown m p)
 grown_open l m p limits o h =
-    let s = takes_short l.pack m p h in
+    let s = more_room l.pack m p h in
     record { first = o.first; parts = (let a = s.parts in let b = limits.pack in omega (arith, a, b)); bytes = s.bytes; wait = o.wait }
 
 pub next_open : (l : Limits) (m n : OpenMessage) (p : TimedPart) → IsTimed p → n ≡ run_next_to l m p → n.wait ≤ l.departures.spread → IsOpenMessage l n
 next_open l m n p is e w = record {
   first = subst IsTimed (sym (ap (λ (x : OpenMessage). x.first) e)) is;
-  parts = (let a = ap (λ (x : OpenMessage). x.parts) e in omega (arith, a));
-  bytes = (let a = ap (λ (x : OpenMessage). x.bytes) e in let b = is.size in omega (arith, a, b));
+  parts = (let a = ap (λ (x : OpenMessage). x.size.parts) e in omega (arith, a));
+  bytes = (let a = ap (λ (x : OpenMessage). x.size.bytes) e in let b = is.size in omega (arith, a, b));
   wait = w;
 }
 

@@ -1,8 +1,8 @@
 -- A message that may take more parts (this project's means).
-use Rattle.std.specs.Prelude.{ℕ, ◌+◌, ◌*◌, Bool, ◌&&◌, ◌==◌, nat_lt, nat_le, min, if◌then◌else◌}
+use Rattle.std.specs.Prelude.{ℕ, ◌+◌, ◌*◌, Bool, ◌&&◌, ◌==◌, min, if◌then◌else◌}
 use Rattle.unit_model.specs.Claims.{same_slot}
 use Rattle.unit_model.specs.Sweeps.{slot_at}
-use Rattle.unit_model.specs.Terms.{MESSAGE_BYTES}
+use Rattle.plan_model.specs.Sizes.{has_room, larger, of_one}
 use Rattle.plan_model.specs.declared.departures.Departures.{Departures}
 use Rattle.plan_parts.specs.declared.parts.TimedPart.{TimedPart}
 use Rattle.plan_parts.specs.declared.open_messages.OpenMessage.{OpenMessage}
@@ -11,13 +11,13 @@ abbrev pub same_place : TimedPart → TimedPart → Bool
 same_place a b = same_slot (slot_at a.frame a.subframe a.slot) (slot_at b.frame b.subframe b.slot) && (a.symbol == b.symbol)
 
 abbrev pub alone : TimedPart → ℕ → OpenMessage
-alone p wait = record { first = p; parts = 1; bytes = 4 + p.size; wait = wait }
+alone p wait = record { first = p; size = of_one p.size; wait = wait }
 
 abbrev pub takes_more : ℕ → OpenMessage → TimedPart → Bool
-takes_more pack m p = same_place m.first p && (nat_lt m.parts pack && nat_le (m.bytes + p.size) MESSAGE_BYTES)
+takes_more pack m p = same_place m.first p && has_room pack m.size p.size
 
 abbrev pub grown : OpenMessage → TimedPart → OpenMessage
-grown m p = record { first = m.first; parts = m.parts + 1; bytes = m.bytes + p.size; wait = m.wait }
+grown m p = record { first = m.first; size = larger m.size p.size; wait = m.wait }
 
 -- the next message waits for the frames of this one, where it is of its symbol
 abbrev pub next_wait : Departures → ℕ → OpenMessage → TimedPart → ℕ

@@ -20,6 +20,6 @@ pub record IsLimits (l : Limits) : Type 0 where
 
 pub record IsOpenMessage (l : Limits) (m : OpenMessage) : Type 0 where
   pub first : IsTimed m.first
-  pub parts : m.parts ≤ 65
-  pub bytes : m.bytes ≤ MESSAGE_BYTES
+  pub parts : m.size.parts ≤ 65
+  pub bytes : m.size.bytes ≤ MESSAGE_BYTES
   pub wait : m.wait ≤ l.departures.spread

@@ -12,14 +12,14 @@ frames_needed None bytes = 1
 frames_needed (Some most) bytes = piece_count most bytes
 
 abbrev pub run_next_to : Limits → OpenMessage → TimedPart → OpenMessage
-run_next_to l m p = next_to l.departures (frames_needed l.fragment m.bytes) m p
+run_next_to l m p = next_to l.departures (frames_needed l.fragment m.size.bytes) m p
 
 -- a message with this number
 abbrev pub run_from : Limits → ℕ → OpenMessage → Run
 run_from l number m = record {
   turn = record { at = record { 0 = (m.first.start.0 +ℤ l.departures.from.0) +ℤ pos m.wait }; endpoint = l.endpoint; stream = l.stream; number = number; sub = 0 };
   last = record { 0 = (m.first.start.0 +ℤ l.departures.from.0) +ℤ pos l.departures.spread };
-  left = frames_needed l.fragment m.bytes;
+  left = frames_needed l.fragment m.size.bytes;
 }
 
 -- the messages from one on, which has this number, where these parts follow

@@ -81,7 +81,7 @@ fn run_from(limits: &Limits, number: u32, m: &OpenMessage) -> Run
         last: limits
             .departures
             .at(m.first.start, limits.departures.spread),
-        left: frames_of(limits.fragment, m.bytes) as u8,
+        left: frames_of(limits.fragment, m.size.bytes) as u8,
     }
 }
 
@@ -110,7 +110,7 @@ fn step(
     let number = messages.whole();
     messages.runs.push(run_from(limits, number, message))?;
     messages.begins.push(place)?;
-    let frames = frames_of(limits.fragment, message.bytes);
+    let frames = frames_of(limits.fragment, message.size.bytes);
     Ok(message.next_to(&limits.departures, frames, part))
 }
 

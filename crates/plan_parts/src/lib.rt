@@ -9,10 +9,8 @@ mod cutting;
 mod limits;
 mod open_messages;
 mod parts;
-mod run_laws;
 
 pub use cutting::{Messages, stream_messages};
 pub use limits::Limits;
 pub use open_messages::OpenMessage;
 pub use parts::{TimedPart, parts_of};
-pub use run_laws::parts_make_runs;

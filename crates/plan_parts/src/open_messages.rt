@@ -3,15 +3,14 @@ ghost use Rattle.std.specs.Prelude.{◌≡◌, ◌<◌, ◌≤◌, ◌^◌};
 ghost use Rattle.plan_parts.specs.OpenMessages.{same_place};
 
 use crate::parts::TimedPart;
-use plan_model::{Departures, MESSAGE_BYTES};
+use plan_model::{Departures, MessageSize};
 
-/// A message that may take more parts: its first part, how many parts and application bytes it has, and how long behind the first
-/// frame of its symbol its own first one leaves.
+/// A message that may take more parts: its first part, how large it is, and how long behind the first frame of its symbol its own
+/// first one leaves.
 #[derive(Clone, Copy, Debug, PartialEq, Eq)]
 pub struct OpenMessage {
     pub first: TimedPart,
-    pub parts: usize,
-    pub bytes: usize,
+    pub size: MessageSize,
     pub wait: u64,
 }
 
@@ -26,37 +25,33 @@ fn same_place(a: &TimedPart, b: &TimedPart) -> bool
 impl OpenMessage {
     ghost use Rattle.plan_parts.specs.OpenMessages.{alone, grown, next_to, takes_more};
 
-    /// A message of one part; the header has 4 bytes.
+    /// A message of one part.
     pub fn starts(part: &TimedPart, wait: u64) -> OpenMessage
         ensures { result ≡ alone part.now wait }
     {
         OpenMessage {
             first: *part,
-            parts: 1,
-            bytes: 4 + part.size as usize,
+            size: MessageSize::of_one(part.size as usize),
             wait,
         }
     }
 
     /// Whether it takes a part more: of its symbol, and where it has fewer parts than so many and room for it.
     pub fn takes(&self, pack: usize, part: &TimedPart) -> bool
-        requires { self.now.bytes < 2 ^ 17 }
+        requires { self.now.size.bytes < 2 ^ 17 }
         ensures { result ≡ takes_more pack self.now part.now }
     {
-        same_place(&self.first, part)
-            && self.parts < pack
-            && self.bytes + part.size as usize <= MESSAGE_BYTES
+        same_place(&self.first, part) && self.size.has_room(pack, part.size as usize)
     }
 
     /// The message with one part more.
     pub fn grown(&self, part: &TimedPart) -> OpenMessage
-        requires bytes { self.now.bytes < 2 ^ 17 }
-        requires parts { self.now.parts < 2 ^ 63 }
+        requires bytes { self.now.size.bytes < 2 ^ 17 }
+        requires parts { self.now.size.parts < 2 ^ 63 }
         ensures { result ≡ grown self.now part.now }
     {
         OpenMessage {
-            parts: self.parts + 1,
-            bytes: self.bytes + part.size as usize,
+            size: self.size.larger(part.size as usize),
             ..*self
         }
     }

@@ -4,11 +4,9 @@ ghost use Rattle.plan_parts.specs.Parts.{IsTimed};
 
 use fh_base::NoMemory;
 use fh_time::Ticks;
-use frame_order::{
-    Queue, Run, Turn, frames_leave_in_time, messages_are_runs, queue_of, sent_is_in_order,
-};
+use frame_order::{Queue, Run, Turn, queue_of};
 use plan_model::{Departures, Stream};
-use plan_parts::{Limits, TimedPart, parts_make_runs, stream_messages};
+use plan_parts::{Limits, TimedPart, stream_messages};
 
 /// A frame that leaves at this time.
 fn turn(at: Ticks, endpoint: u8, stream: Stream, number: u32, sub: u8) -> Turn
@@ -110,7 +108,6 @@ fn parts_are_cut(rt: HostRuntime) -> Result<(), NoMemory> {
         assert_eq!(rt; messages.runs.get(k), Some(&wanted[k]));
     }
     assert_eq!(rt; stream_messages(rt.alloc(), &limits, &[])?.runs.len(), 0);
-    parts_make_runs();
     Ok(())
 }
 
@@ -155,7 +152,6 @@ fn messages_take_turns(rt: HostRuntime) -> Result<(), NoMemory> {
     }
     assert_eq!(rt; queue.next(), None);
     assert_eq!(rt; queue.next_time(), None);
-    frames_leave_in_time();
     Ok(())
 }
 
@@ -182,7 +178,5 @@ fn messages_are_queued(rt: HostRuntime) -> Result<(), NoMemory> {
         assert_eq!(rt; queue.next(), Some(turn));
     }
     assert_eq!(rt; queue.next(), None);
-    sent_is_in_order();
-    messages_are_runs();
     Ok(())
 }
