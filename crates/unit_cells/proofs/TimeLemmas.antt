@@ -21,8 +21,8 @@ use Rattle.unit_laws.proofs.CellLemmas.{data_covers_is}
 use Rattle.unit_laws.proofs.FarLemmas.{endpoints_equal, far_no_uplink, far_unclaimed, not_far, far_other}
 use Rattle.unit_laws.proofs.TickLemmas.{live_later}
 use Rattle.slot_rings.specs.Rings.{RingValue}
-use Rattle.unit_cells.specs.Cells.{block_from, cells_has, claim_from, reported_from, has_from, ring_of, uplink_from}
-use Rattle.unit_cells.specs.Keeping.{FarHasNoPlace, FarIsNotReported, KeepsLater}
+use Rattle.unit_cells.specs.Cells.{CellsValue, block_from, cells_has, cells_reported, claim_from, reported_from, has_from, ring_of, uplink_from}
+use Rattle.unit_cells.specs.Keeping.{Keeps}
 use Rattle.unit_cells.specs.Told.{told_block_at, told_block_in}
 use Rattle.unit_cells.proofs.KeepLemmas.{was_later}
 use Rattle.unit_cells.proofs.ToldLemmas.{told-cons}
@@ -48,13 +48,17 @@ no_uplink_from (Some r) slot h = rw h refl
 
 -- ---- a slot that is not live yet
 
-pub far_no_place : FarHasNoPlace
+-- it has no place
+pub far_no_place : (side : Side) (c : Config) (clock : ℤ) (v : CellsValue) (acc : List Allocation) (ds : List UserSection) (e : EndpointConfig) (ep : ℕ) (slot : Slot)
+    → Keeps side c clock v acc ds → IsAt c.endpoints ep e → IsFar e.numerology (reach_of side c.delays) clock slot → cells_has v ep slot ≡ false
 far_no_place side c clock v acc ds e ep slot keeps at far = elim (cases_Bool (cells_has v ep slot)) [
   | inl has ↦ absurd (not_far e.numerology (reach_of side c.delays) clock slot (keeps.reached e ep slot at has) far)
   | inr none ↦ none
 ]
 
-pub far_not_reported : FarIsNotReported
+-- so none of its cells is reported
+pub far_not_reported : (side : Side) (c : Config) (clock : ℤ) (v : CellsValue) (acc : List Allocation) (ds : List UserSection) (e : EndpointConfig) (cell : Cell)
+    → Keeps side c clock v acc ds → IsAt c.endpoints cell.ep e → IsFar e.numerology (reach_of side c.delays) clock cell.slot → cells_reported v cell ≡ false
 far_not_reported side c clock v acc ds e cell keeps at far = no_reported_from (ring_of v cell.ep) cell (far_no_place side c clock v acc ds e cell.ep cell.slot keeps at far)
 
 far_not_told : (es : List EndpointConfig) (r : Reach) (clock : ℤ) (ds : List UserSection) (e : EndpointConfig) (cell : Cell)
@@ -87,7 +91,9 @@ live_at side c clock e ep slot at live f there =
     subst (λ (x : EndpointConfig). IsLiveOn side c.delays x clock slot)
     (endpoints_equal c.endpoints ep ep e f at there refl) live
 
-pub keeps_later : KeepsLater
+-- what the rings keep at a clock, they keep at a later one
+pub keeps_later : (side : Side) (c : Config) (clock to : ℤ) (v : CellsValue) (acc : List Allocation) (ds : List UserSection) → clock ≤ℤ to → Keeps side c clock v acc ds
+    → Keeps side c to v acc ds
 keeps_later side c clock to v acc ds order keeps = record {
   claims = λ e cell re is live below.
       elim (live_later e.numerology (reach_of side c.delays) clock to cell.slot order (live e is.endpoint)) [

@@ -1,6 +1,6 @@
 -- The blocks of sections that are told in part.
 use Rattle.std.proofs.Common.{◌≡◌, ℕ, ◌+◌, ◌-◌, ◌<◌, ◌≤◌, Bool, true, false, ◌&&◌, List, [], ◌∷◌, ◌++◌, length, get_or, refl, sym, ap, ap₂, ◌∙◌, arith, inl, inr, Option, Some, None, length-append}
-use Rattle.std.specs.Prelude.{if◌then◌else◌}
+use Rattle.std.specs.Prelude.{All, if◌then◌else◌}
 use Rattle.std.proofs.lemmas.Bool.{cases_lt, lt-ltb, le-ltb, cases_Bool}
 use Rattle.std.proofs.Math.ListN.{get_or-append}
 use Rattle.std.proofs.lemmas.List.{get_or-append-add}
@@ -16,7 +16,7 @@ use Rattle.unit_model.specs.declared.cells.Cell.{Cell}
 use Rattle.unit_model.specs.declared.decoded.UserSection.{UserSection}
 use Rattle.unit_laws.proofs.CellLemmas.{data_covers_is}
 use Rattle.unit_cells.specs.Headings.{data_under}
-use Rattle.unit_cells.specs.Told.{IsTold, ToldWhole, reaches, told_block_at, told_block_in}
+use Rattle.unit_cells.specs.Told.{IsTold, reaches, told_block_at, told_block_in}
 use Rattle.unit_cells.specs.declared.heading.DataHeading.{DataHeading}
 use Rattle.unit_model.proofs.ClaimLemmas.{starts_before as from_first, from_within}
 use Rattle.unit_laws.proofs.ChangeLemmas.{or_else_none as or_none}
@@ -42,7 +42,8 @@ told_in d cell told = elim (cases_Bool (data_covers d cell)) [
   | inr other ↦ rw other refl
 ]
 
-pub told_whole : ToldWhole
+-- where all sections are told whole, the blocks that are told are those that they give
+pub told_whole : (ds : List UserSection) (cell : Cell) → All IsTold ds → told_block_at ds cell ≡ block_at ds cell
 unfolding told_block_at block_at
 told_whole [] cell all = refl
 told_whole (d ∷ earlier) cell all =

@@ -11,7 +11,7 @@ use Rattle.unit_model.specs.Standing.{IsCell, uplink_of}
 use Rattle.unit_model.specs.declared.allocations.Allocation.{Allocation}
 use Rattle.unit_model.specs.declared.cells.Cell.{Cell}
 use Rattle.unit_model.specs.declared.decoded.UserSection.{UserSection}
-use Rattle.unit_laws.specs.Far.{IsFar, IsReached, IsReachedData, WasLive}
+use Rattle.unit_laws.specs.Far.{IsReached, IsReachedData, WasLive}
 use Rattle.unit_cells.specs.Cells.{CellsValue, IsOf, cells_block, cells_claim, cells_reported, cells_has, cells_index, cells_uplink}
 use Rattle.unit_model.specs.Sides.{IsLiveFor, reach_of}
 use Rattle.unit_cells.specs.Told.{told_block_at}
@@ -42,23 +42,6 @@ pub record SameKnown (old new : CellsValue) : Type 0 where
   pub blocks : (cell : Cell) → cells_block new cell ≡ cells_block old cell
   pub uplink : (ep : ℕ) (slot : Slot) → cells_uplink new ep slot ≡ cells_uplink old ep slot
   pub places : (ep : ℕ) (slot : Slot) → cells_has new ep slot ≡ cells_has old ep slot
-
--- ---- as time passes
-
-abbrev pub KeepsLater : Type 0
-KeepsLater =
-    (side : Side) (c : Config) (clock to : ℤ) (v : CellsValue) (acc : List Allocation) (ds : List UserSection) → clock ≤ℤ to → Keeps side c clock v acc ds → Keeps side c to v acc ds
-
--- a slot that is not live yet has no place, so none of its cells is reported
-abbrev pub FarHasNoPlace : Type 0
-FarHasNoPlace =
-    (side : Side) (c : Config) (clock : ℤ) (v : CellsValue) (acc : List Allocation) (ds : List UserSection) (e : EndpointConfig) (ep : ℕ) (slot : Slot)
-    → Keeps side c clock v acc ds → IsAt c.endpoints ep e → IsFar e.numerology (reach_of side c.delays) clock slot → cells_has v ep slot ≡ false
-
-abbrev pub FarIsNotReported : Type 0
-FarIsNotReported =
-    (side : Side) (c : Config) (clock : ℤ) (v : CellsValue) (acc : List Allocation) (ds : List UserSection) (e : EndpointConfig) (cell : Cell)
-    → Keeps side c clock v acc ds → IsAt c.endpoints cell.ep e → IsFar e.numerology (reach_of side c.delays) clock cell.slot → cells_reported v cell ≡ false
 
 -- ---- places
 

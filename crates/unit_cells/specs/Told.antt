@@ -1,6 +1,6 @@
 -- The blocks of cells where sections of data may be told only in part.
-use Rattle.std.specs.Prelude.{◌≡◌, ◌-◌, ◌≤◌, Bool, ◌&&◌, nat_lt, if◌then◌else◌, List, [], ◌∷◌, length, All, Option, Some, None}
-use Rattle.unit_model.specs.Blocks.{block_at, block_of, data_covers, data_prb_count, first_data_prb}
+use Rattle.std.specs.Prelude.{◌≡◌, ◌-◌, ◌≤◌, Bool, ◌&&◌, nat_lt, if◌then◌else◌, List, [], ◌∷◌, length, Option, Some, None}
+use Rattle.unit_model.specs.Blocks.{block_of, data_covers, data_prb_count, first_data_prb}
 use Rattle.unit_model.specs.Lists.{or_else}
 use Rattle.unit_model.specs.declared.cells.Block.{Block}
 use Rattle.unit_model.specs.declared.cells.Cell.{Cell}
@@ -21,7 +21,3 @@ told_block_at (d ∷ earlier) cell = or_else (told_block_at earlier cell) (told_
 -- all PRBs of a section have their blocks
 abbrev pub IsTold : UserSection → Type 0
 IsTold d = data_prb_count d ≤ length d.blocks
-
--- where all sections are told whole, these are the blocks that they give
-abbrev pub ToldWhole : Type 0
-ToldWhole = (ds : List UserSection) (cell : Cell) → All IsTold ds → told_block_at ds cell ≡ block_at ds cell

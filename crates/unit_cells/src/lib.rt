@@ -8,7 +8,7 @@
 //! Contracts speak of what is looked up for a cell (`specs/Cells.antt`), and say of each call how the rings stand to the
 //! allocations that were accepted and the data that were on time, over all that came (`specs/Keeping.antt`): at a clock they
 //! answer as those do, for the slots that are live. Calls come in the order of time, and what is kept at one clock is kept at
-//! a later one (`keeps_later`).
+//! a later one (`keeps_later` of `proofs/TimeLemmas.antt`).
 //!
 //! Sections of data are judged by their header (`begin`), and their PRBs follow, one (`fill`) or many packed ones (`fill_run`) at a
 //! time, so that no message has to be kept. Windows and fields are those of O-RAN.WG4.CUS; the verdicts are this project's profile.
@@ -16,10 +16,8 @@
 
 mod cells;
 mod heading;
-mod laws;
 mod rings;
 mod sections;
 
 pub use cells::UnitCells;
 pub use heading::DataHeading;
-pub use laws::{far_slots_have_no_place, keeps_later, told_whole};
