@@ -3,10 +3,11 @@ use Rattle.std.specs.Prelude.{◌≡◌, ℕ, ℤ, ◌==◌, ◌<◌, List, [], 
 use Rattle.delay_measure.specs.declared.message.DelayMessage.{DelayMessage}
 use Rattle.delay_measure.specs.declared.states.Exchange.{Exchange}
 use Rattle.delay_measure.specs.declared.steps.Kind.{Kind}
+use Rattle.delay_measure.specs.declared.measurements.Measurements.{Measurements}
 use Rattle.delay_measure.specs.declared.meter.Meter.{Meter}
 use Rattle.delay_measure.specs.Stamps.{sending_stamp, receiving_stamp}
 use Rattle.delay_measure.specs.Table.{unused, after_begin, after_message}
-use Rattle.delay_measure.specs.Kept.{exchange_of}
+use Rattle.delay_measure.specs.Kept.{exchange_at}
 
 -- what a meter is told: to begin with an id, a message, or to forget an id; begins and messages at a time in ticks
 pub data Told : Type 0 where
@@ -32,6 +33,10 @@ exchange_after s r [] id = unused
 exchange_after s r (one ∷ earlier) id =
     if id_of one == id then exchange_next s r one (exchange_after s r earlier id) else exchange_after s r earlier id
 
--- each exchange of the meter is the one after all that it was told
+-- each exchange is the one after all that was told
+abbrev pub AreAfter : ℤ → ℤ → List Told → Measurements → Type 0
+AreAfter s r told ms = (id : ℕ) → id < 256 → exchange_at ms id ≡ exchange_after s r told id
+
+-- so is each of the meter
 abbrev pub StandsFor : {C : Type 0} → ℤ → ℤ → Meter C → List Told → Type 0
-StandsFor s r meter told = (id : ℕ) → id < 256 → exchange_of meter id ≡ exchange_after s r told id
+StandsFor s r meter told = AreAfter s r told meter.measurements

@@ -7,3 +7,10 @@ pub enum Edge {
     Sending,
     Receiving,
 }
+
+/// The compensation of a unit at each of its edges, in units of 2^-16 ns.
+#[derive(Clone, Copy, Debug, PartialEq, Eq)]
+pub struct Compensation {
+    pub sending: i64,
+    pub receiving: i64,
+}

@@ -1,10 +1,9 @@
-// The exchanges of all measurement ids.
+// The delay measurements of a unit whose compensation is asked of a closure.
 ghost use Rattle.std.specs.Prelude.{◌≡◌, ◌≢◌, ◌↔◌, ℕ, ℤ, ◌<◌, ◌^◌, ◌≤ℤ◌, pos, List, [], ◌∷◌};
 
-use crate::edge::Edge;
+use crate::edge::{Compensation, Edge};
+use crate::measurements::Measurements;
 use crate::message::DelayMessage;
-use crate::stamps::{Stamp, stamp_received, stamp_sent};
-use crate::states::Exchange;
 use crate::steps::{Begun, Kind, MeterStep};
 use fh_time::Ticks;
 
@@ -13,11 +12,11 @@ use fh_time::Ticks;
 #[derive(Drop)]
 pub struct Meter<C: Fn(Edge) -> i64> {
     comp: C,
-    exchanges: [Exchange; 256],
+    measurements: Measurements,
 }
 
 impl<C: Fn(Edge) -> i64> Meter<C> {
-    ghost use Rattle.delay_measure.specs.Kept.{IsCompensation, IsKept, comp_of, exchange_of};
+    ghost use Rattle.delay_measure.specs.Kept.{IsCompensation, IsInRange, IsKept, comp_of, exchange_of};
     ghost use Rattle.delay_measure.specs.Stamps.{sending_stamp, receiving_stamp};
     ghost use Rattle.delay_measure.specs.declared.edge.Edge.TheVariants.{Sending, Receiving};
     ghost use Rattle.delay_measure.specs.After.{Told, begins, comes, forgets, StandsFor};
@@ -36,7 +35,7 @@ impl<C: Fn(Edge) -> i64> Meter<C> {
     {
         Meter {
             comp,
-            exchanges: [Exchange::UNUSED; 256],
+            measurements: Measurements::new(),
         }
     }
 
@@ -55,10 +54,8 @@ impl<C: Fn(Edge) -> i64> Meter<C> {
         ensures in_use { (result ≡ InUse) ↔ ((exchange_of self.old id).own ≢ Idle) }
         ensures written { CanBeWritten (sent_at_begin result) }
     {
-        let now = self.sending(at);
-        let (exchange, begun) = self.exchanges[id as usize].begin(kind, id, now);
-        self.exchanges[id as usize] = exchange;
-        begun
+        let comp = self.compensation();
+        self.measurements.begin(comp, at, id, kind)
     }
 
     /// Takes a message that arrives at a time in ticks from 0 to 2^56. What it answers is sent at that time.
@@ -75,14 +72,8 @@ impl<C: Fn(Edge) -> i64> Meter<C> {
             → StandsFor s r self.old told → StandsFor s r self.new (comes at.0 m.now ∷ told) }
         ensures written { CanBeWritten (sent_at_step result) }
     {
-        let message = *m;
-        let sending = self.sending(at);
-        let receiving = self.receiving(at);
-        let (exchange, step) = self.exchanges[message.id as usize].take(
-            message, sending, receiving,
-        );
-        self.exchanges[message.id as usize] = exchange;
-        step
+        let comp = self.compensation();
+        self.measurements.on_message(comp, at, m)
     }
 
     /// Makes the id's own state idle, and forgets what the peer has begun. All other ids stay.
@@ -92,28 +83,19 @@ impl<C: Fn(Edge) -> i64> Meter<C> {
         ensures same { comp_of self.new ≡ comp_of self.old }
         ensures stands { (s r : ℤ) (told : List Told) → StandsFor s r self.old told → StandsFor s r self.new (forgets id ∷ told) }
     {
-        self.exchanges[id as usize] = Exchange::UNUSED;
+        self.measurements.forget(id);
     }
 
-    fn sending(&self, at: Ticks) -> Stamp
-        requires kept { IsKept C.pre C.post self.now }
-        requires low { pos 0 ≤ℤ at.0 }
-        requires high { at.0 ≤ℤ pos (2 ^ 56) }
-        ensures answer { C.post (comp_of self.now) Sending result.comp }
-        ensures stamp { result ≡ sending_stamp at.0 result.comp }
+    // What the closure answers at both edges.
+    fn compensation(&self) -> Compensation
+        requires { IsKept C.pre C.post self.now }
+        ensures sending { C.post (comp_of self.now) Sending result.sending }
+        ensures receiving { C.post (comp_of self.now) Receiving result.receiving }
+        ensures range { IsInRange result }
     {
-        let comp = (self.comp)(Edge::Sending);
-        stamp_sent(at, comp)
-    }
-
-    fn receiving(&self, at: Ticks) -> Stamp
-        requires kept { IsKept C.pre C.post self.now }
-        requires low { pos 0 ≤ℤ at.0 }
-        requires high { at.0 ≤ℤ pos (2 ^ 56) }
-        ensures answer { C.post (comp_of self.now) Receiving result.comp }
-        ensures stamp { result ≡ receiving_stamp at.0 result.comp }
-    {
-        let comp = (self.comp)(Edge::Receiving);
-        stamp_received(at, comp)
+        Compensation {
+            sending: (self.comp)(Edge::Sending),
+            receiving: (self.comp)(Edge::Receiving),
+        }
     }
 }

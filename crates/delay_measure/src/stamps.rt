@@ -1,8 +1,9 @@
 // Time stamps, and what they give.
 ghost use Rattle.std.specs.Prelude.{◌≡◌, ◌<◌, ◌≤◌, ◌≤ℤ◌, ◌^◌, pos, neg_ℤ};
 ghost use Rattle.delay_measure.specs.Stamps.{sending_stamp, receiving_stamp, delay_between, stamped, blank};
-ghost use Rattle.delay_measure.specs.declared.stamps.TheConstants.{MOST_COMPENSATION};
+ghost use Rattle.delay_measure.specs.Kept.{IsInRange};
 
+use crate::edge::Compensation;
 use crate::message::DelayMessage;
 use fh_time::Ticks;
 
@@ -18,35 +19,33 @@ pub struct Stamp {
 
 /// The stamp of a message that is sent at a time, in ticks from 0 to 2^56, with a compensation from 0 to 1 ms: the
 /// time less the compensation, rounded down to whole nanoseconds, or 0 where that is below 0.
-pub(crate) fn stamp_sent(at: Ticks, comp: i64) -> Stamp
+pub(crate) fn stamp_sent(at: Ticks, comp: Compensation) -> Stamp
+    requires range { IsInRange comp }
     requires low { pos 0 ≤ℤ at.0 }
     requires high { at.0 ≤ℤ pos (2 ^ 56) }
-    requires comp_low { pos 0 ≤ℤ comp }
-    requires comp_high { comp ≤ℤ pos MOST_COMPENSATION }
-    ensures { result ≡ sending_stamp at.0 comp }
+    ensures { result ≡ sending_stamp at.0 comp.sending }
 {
     let time = at.0.unsigned_abs() * 128;
-    let less = comp.unsigned_abs() * 3;
+    let less = comp.sending.unsigned_abs() * 3;
     Stamp {
         nanoseconds: time.saturating_sub(less) / 196_608,
-        comp,
+        comp: comp.sending,
     }
 }
 
 /// The stamp of a message that is received at a time, in ticks from 0 to 2^56, with a compensation from 0 to 1 ms: the
 /// time and the compensation together, rounded down to whole nanoseconds.
-pub(crate) fn stamp_received(at: Ticks, comp: i64) -> Stamp
+pub(crate) fn stamp_received(at: Ticks, comp: Compensation) -> Stamp
+    requires range { IsInRange comp }
     requires low { pos 0 ≤ℤ at.0 }
     requires high { at.0 ≤ℤ pos (2 ^ 56) }
-    requires comp_low { pos 0 ≤ℤ comp }
-    requires comp_high { comp ≤ℤ pos MOST_COMPENSATION }
-    ensures { result ≡ receiving_stamp at.0 comp }
+    ensures { result ≡ receiving_stamp at.0 comp.receiving }
 {
     let time = at.0.unsigned_abs() * 128;
-    let more = comp.unsigned_abs() * 3;
+    let more = comp.receiving.unsigned_abs() * 3;
     Stamp {
         nanoseconds: (time + more) / 196_608,
-        comp,
+        comp: comp.receiving,
     }
 }
 
