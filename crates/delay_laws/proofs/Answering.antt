@@ -15,7 +15,8 @@ use Rattle.delay_measure.specs.declared.steps.MeterStep.TheVariants.{Again, Note
 use Rattle.delay_measure.specs.Payload.{value_of}
 use Rattle.delay_measure.specs.Stamps.{sending_stamp, receiving_stamp, delay_between, stamped}
 use Rattle.delay_measure.specs.Table.{after_message, announced_in, answer_in, exchange, follow_up_in, is_same, request_in, sent_at_step}
-use Rattle.delay_laws.specs.Nodes.{Compensation, Node, Timed, delay_of, is_request, requests, timed}
+use Rattle.delay_measure.specs.declared.edge.Compensation.{Compensation}
+use Rattle.delay_laws.specs.Nodes.{Node, Timed, delay_of, is_request, requests, timed}
 use Rattle.delay_laws.proofs.Arithmetic.{value_stamped}
 use Rattle.delay_laws.proofs.Lists.{no_requests, requests_append, the_request}
 use Rattle.delay_laws.proofs.Phases.{IsNotWaiting, IsOfCopy, IsPart, IsReply, KnowsPeer, Requested, peer_stays, replies_stay}

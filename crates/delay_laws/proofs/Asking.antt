@@ -12,7 +12,8 @@ use Rattle.delay_measure.specs.declared.steps.MeterStep.{MeterStep}
 use Rattle.delay_measure.specs.Payload.{value_of}
 use Rattle.delay_measure.specs.Stamps.{sending_ns, delay_between}
 use Rattle.delay_measure.specs.Table.{after_message, remote_in, remote_two_in, response_in, sent_at_step}
-use Rattle.delay_laws.specs.Nodes.{Compensation, Node, Timed, delay_of, requests, timed}
+use Rattle.delay_measure.specs.declared.edge.Compensation.{Compensation}
+use Rattle.delay_laws.specs.Nodes.{Node, Timed, delay_of, requests, timed}
 use Rattle.delay_laws.proofs.Answering.{arrived, no_delay, some_same}
 use Rattle.delay_laws.proofs.Phases.{HasSent, IsNothing, IsPart, IsReply, IsResponse, Requested}
 

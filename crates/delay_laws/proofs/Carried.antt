@@ -9,7 +9,8 @@ use Rattle.air_source.specs.declared.events.Side.{Side}
 use Rattle.air_source.specs.declared.events.Side.TheVariants.{Ru, Du}
 use Rattle.delay_measure.specs.declared.message.DelayMessage.{DelayMessage}
 use Rattle.delay_measure.specs.After.{Told, begins, comes, forgets, id_of}
-use Rattle.delay_laws.specs.Nodes.{Compensation, Heard, Measurement, Node, Timed, came_with, fresh, is_request, measured, node_of, sent_then, time_of, timed, told_node, with_node}
+use Rattle.delay_measure.specs.declared.edge.Compensation.{Compensation}
+use Rattle.delay_laws.specs.Nodes.{Heard, Measurement, Node, Timed, came_with, fresh, is_request, measured, node_of, sent_then, time_of, timed, told_node, with_node}
 use Rattle.delay_laws.specs.Ticks.{Begin, Flight, Hearing, IsPure, Setting, State, after_tick, arriving, begin_heard, came_heard, copies_at, due, flight, hearing, landing, launched, state, told_all, told_one}
 use Rattle.delay_laws.specs.Laws.{TickDelaysAreOfRequests}
 use Rattle.delay_laws.proofs.Lists.{the_first, the_request}

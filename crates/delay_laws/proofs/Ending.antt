@@ -11,7 +11,8 @@ use Rattle.delay_measure.specs.declared.message.DelayMessage.{DelayMessage}
 use Rattle.delay_measure.specs.declared.states.Exchange.{Exchange}
 use Rattle.delay_measure.specs.After.{Told, begins, comes, forgets}
 use Rattle.delay_measure.specs.Stamps.{sending_stamp, receiving_stamp}
-use Rattle.delay_laws.specs.Nodes.{Compensation, Heard, sent_then, time_of}
+use Rattle.delay_measure.specs.declared.edge.Compensation.{Compensation}
+use Rattle.delay_laws.specs.Nodes.{Heard, sent_then, time_of}
 use Rattle.delay_laws.specs.Ticks.{Flight, Setting, came_heard, copies_at, landing, state}
 use Rattle.delay_laws.specs.Ends.{EndsBy, step_of}
 use Rattle.delay_laws.specs.Laws.{AllEnds}

@@ -4,7 +4,8 @@ use Rattle.std.proofs.lemmas.Bool.{cases_Bool}
 use Rattle.air_source.specs.declared.events.Side.{Side}
 use Rattle.air_source.specs.declared.events.Side.TheVariants.{Ru, Du}
 use Rattle.delay_measure.specs.After.{Told, exchange_after, exchange_next, id_of}
-use Rattle.delay_laws.specs.Nodes.{Compensation, Heard, measured, node_of, told_to}
+use Rattle.delay_measure.specs.declared.edge.Compensation.{Compensation}
+use Rattle.delay_laws.specs.Nodes.{Heard, measured, node_of, told_to}
 use Rattle.delay_laws.specs.Laws.{ExchangesAreTold}
 
 abbrev pub ExchangeIs : (Side → Compensation) → List Heard → Side → ℕ → Type 0

@@ -6,7 +6,7 @@ use Rattle.std.proofs.lemmas.List.Elements.{All-append, All-cons, All-nil}
 use Rattle.air_source.specs.declared.events.Side.{Side}
 use Rattle.delay_measure.specs.After.{id_of}
 use Rattle.delay_laws.specs.Nodes.{Heard, delay_then, time_of}
-use Rattle.delay_laws.specs.Delays.{IsCompensation}
+use Rattle.delay_measure.specs.Kept.{IsInRange}
 use Rattle.delay_laws.specs.Ticks.{IsPure, Setting, State, exchange_of, state, told_one}
 use Rattle.delay_laws.specs.Known.{IsMeasuredEvent, delay_event, known, known_then, known_while}
 use Rattle.delay_laws.specs.Measured.{IsMeasured}
@@ -17,7 +17,7 @@ one_event : (w : Setting) (s : State) (side : Side) (id : ℕ) (at : ℤ) (delay
 one_event w s side id at None measured = All-nil (IsMeasuredEvent w s)
 one_event w s side id at (Some v) measured = All-cons (IsMeasuredEvent w s) (delay_event side id at v) [] (measured v refl) (All-nil (IsMeasuredEvent w s))
 
-events_before : (w : Setting) → IsPure w → ((side : Side) → IsCompensation (w.comps side)) → (first : ℤ) (n : ℕ) (later earlier : List Heard) → (state w first n).heard ≡ later ++ earlier → All (IsMeasuredEvent w (state w first n)) (known w earlier)
+events_before : (w : Setting) → IsPure w → ((side : Side) → IsInRange (w.comps side)) → (first : ℤ) (n : ℕ) (later earlier : List Heard) → (state w first n).heard ≡ later ++ earlier → All (IsMeasuredEvent w (state w first n)) (known w earlier)
 events_before w pure are first n later [] is = All-nil (IsMeasuredEvent w (state w first n))
 events_before w pure are first n later (one ∷ earlier) is =
     All-append (IsMeasuredEvent w (state w first n)) (known w earlier) (known_then w earlier one)

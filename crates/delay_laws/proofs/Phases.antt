@@ -10,7 +10,8 @@ use Rattle.delay_measure.specs.declared.states.PeerState.{PeerState}
 use Rattle.delay_measure.specs.declared.states.PeerState.TheVariants.{Nothing, Noted, Answered}
 use Rattle.delay_measure.specs.Stamps.{sending_stamp, receiving_stamp, stamped, blank}
 use Rattle.delay_measure.specs.Table.{exchange}
-use Rattle.delay_laws.specs.Nodes.{Compensation, Node, Timed, fresh, requests}
+use Rattle.delay_measure.specs.declared.edge.Compensation.{Compensation}
+use Rattle.delay_laws.specs.Nodes.{Node, Timed, fresh, requests}
 
 -- Remote Request, with Follow_Up or without
 abbrev pub IsRemote : DelayMessage → Type 0

@@ -16,8 +16,10 @@ use Rattle.delay_measure.specs.After.{begins}
 use Rattle.delay_measure.specs.Payload.{value_of}
 use Rattle.delay_measure.specs.Stamps.{sending_ns, receiving_ns, sending_stamp, receiving_stamp, delay_between, stamped, blank}
 use Rattle.delay_measure.specs.Table.{after_message, exchange, unused}
-use Rattle.delay_laws.specs.Nodes.{Compensation, Node, Timed, delay_of, fresh, is_request, requests, timed, told_node}
-use Rattle.delay_laws.specs.Delays.{HasDelay, IsCompensation, IsNear}
+use Rattle.delay_measure.specs.declared.edge.Compensation.{Compensation}
+use Rattle.delay_laws.specs.Nodes.{Node, Timed, delay_of, fresh, is_request, requests, timed, told_node}
+use Rattle.delay_measure.specs.Kept.{IsInRange}
+use Rattle.delay_laws.specs.Delays.{HasDelay, IsNear}
 use Rattle.delay_laws.proofs.Arithmetic.{exact_is, near_is, value_stamped}
 use Rattle.delay_laws.proofs.Lists.{no_requests, none_in}
 use Rattle.delay_laws.proofs.Answering.{answer_is, arrived, no_delay, still_requested}
@@ -27,7 +29,7 @@ use Rattle.fh_time.specs.declared.nanoseconds.TheConstants.{NANOSECOND}
 
 -- ---- a delay between the stamps of the request and of a copy
 
-has_delay : (c1 c2 : Compensation) (asking answering : Node) (request : Timed) → IsCompensation c1 → IsCompensation c2 → pos 1536000000 ≤ℤ request.at → requests asking.sent ≡ request ∷ [] → requests answering.sent ≡ []
+has_delay : (c1 c2 : Compensation) (asking answering : Node) (request : Timed) → IsInRange c1 → IsInRange c2 → pos 1536000000 ≤ℤ request.at → requests asking.sent ≡ request ∷ [] → requests answering.sent ≡ []
     → (stamp : Stamp) → IsOfCopy c2 answering.came request stamp → (v : ℤ) → v ≡ delay_between (sending_ns request.at c1.sending) c1.sending stamp.nanoseconds stamp.comp → HasDelay c1 c2 asking answering v
 has_delay c1 c2 asking answering request is1 is2 late alone silent stamp copy v is =
     let value : v ≡ delay_between (sending_ns request.at c1.sending) c1.sending (receiving_ns copy.copy.at c2.receiving) c2.receiving = is ∙ ap (λ (s : Stamp). delay_between (sending_ns request.at c1.sending) c1.sending s.nanoseconds s.comp) copy.is in
@@ -160,7 +162,7 @@ asked_step mine yours begun you t m r late h (inr is) = subst (Behind begun mine
 nothing_from : {A : Type 0} (you : Node) (x : Timed) → you ≡ fresh → Contains you.sent x → A
 nothing_from you x is among = absurd (none_in x (subst (λ (n : Node). Contains n.sent x) is among))
 
-pub comes_step : (mine yours : Compensation) (begun : Bool) (me you : Node) (t at : ℤ) (m : DelayMessage) → IsCompensation mine → IsCompensation yours → pos 1536000000 ≤ℤ t → Contains you.sent (timed at m) → at ≤ℤ t
+pub comes_step : (mine yours : Compensation) (begun : Bool) (me you : Node) (t at : ℤ) (m : DelayMessage) → IsInRange mine → IsInRange yours → pos 1536000000 ≤ℤ t → Contains you.sent (timed at m) → at ≤ℤ t
     → Phase begun mine yours me you → Behind begun mine yours t m me you (after_message me.exchange m (sending_stamp t mine.sending) (receiving_stamp t mine.receiving))
 comes_step mine yours begun me you t at m is_mine is_yours late among after (inl h) = nothing_from you (timed at m) h.yours among
 comes_step mine yours begun me you t at m is_mine is_yours late among after (inr (inl h)) = nothing_from you (timed at m) h.yours among

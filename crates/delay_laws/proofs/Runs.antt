@@ -5,8 +5,10 @@ use Rattle.air_source.specs.declared.events.Side.{Side}
 use Rattle.air_source.specs.declared.events.Side.TheVariants.{Ru, Du}
 use Rattle.delay_measure.specs.declared.steps.Kind.{Kind}
 use Rattle.delay_measure.specs.After.{Told, begins, comes, forgets, id_of}
-use Rattle.delay_laws.specs.Nodes.{Compensation, Heard, Measurement, delay_then, measured, node_of, told_node, with_node}
-use Rattle.delay_laws.specs.Delays.{HasDelay, IsCompensation}
+use Rattle.delay_measure.specs.declared.edge.Compensation.{Compensation}
+use Rattle.delay_laws.specs.Nodes.{Heard, Measurement, delay_then, measured, node_of, told_node, with_node}
+use Rattle.delay_measure.specs.Kept.{IsInRange}
+use Rattle.delay_laws.specs.Delays.{HasDelay}
 use Rattle.delay_laws.specs.Runs.{IsNext, IsRun, has_begun, is_begin}
 use Rattle.delay_laws.specs.Laws.{DelaysAreOfRequests}
 use Rattle.delay_laws.proofs.Answering.{no_delay}
@@ -27,7 +29,7 @@ told_in comps side told m = with_node side (told_node (comps side) (node_of side
 begun_now : (t : ℤ) (id : ℕ) (kind : Kind) (side : Side) (earlier : List Heard) → has_begun id (heard side (begins t id kind) ∷ earlier) ≡ true
 begun_now t id kind side earlier = let same = eq-eqb id id refl in rw same refl
 
-about : (comps : Side → Compensation) → ((side : Side) → IsCompensation (comps side)) → (earlier : List Heard) (side : Side) (told : Told) → IsNext comps earlier (heard side told)
+about : (comps : Side → Compensation) → ((side : Side) → IsInRange (comps side)) → (earlier : List Heard) (side : Side) (told : Told) → IsNext comps earlier (heard side told)
     → PhaseIn comps (has_begun (id_of told) earlier) (measured comps (id_of told) earlier)
     → PhaseIn comps (has_begun (id_of told) (heard side told ∷ earlier)) (told_in comps side told (measured comps (id_of told) earlier))
 about comps are earlier Ru (begins t id kind) next phase =
@@ -61,7 +63,7 @@ not_begun id (forgets i) not_it = refl
 begun_besides : (id : ℕ) (one : Heard) (earlier : List Heard) → (id_of one.told == id) ≡ false → has_begun id (one ∷ earlier) ≡ has_begun id earlier
 begun_besides id one earlier not_it = ap (λ (b : Bool). b || has_begun id earlier) (not_begun id one.told not_it)
 
-pub phase_of : (comps : Side → Compensation) → ((side : Side) → IsCompensation (comps side)) → (id : ℕ) (all : List Heard) → IsRun comps all → PhaseIn comps (has_begun id all) (measured comps id all)
+pub phase_of : (comps : Side → Compensation) → ((side : Side) → IsInRange (comps side)) → (id : ℕ) (all : List Heard) → IsRun comps all → PhaseIn comps (has_begun id all) (measured comps id all)
 phase_of comps are id [] run = inl (record { mine = refl; yours = refl })
 phase_of comps are id (one ∷ earlier) run = elim (cases_Bool (id_of one.told == id)) [
   | inl is ↦
@@ -88,7 +90,7 @@ of_du : (comps : Side → Compensation) (v : ℤ) (m : Measurement) → Delayed 
 of_du comps v m (inl d) = (Du, d)
 of_du comps v m (inr d) = (Ru, d)
 
-delayed : (comps : Side → Compensation) → ((side : Side) → IsCompensation (comps side)) → (earlier : List Heard) (side : Side) (told : Told) → IsNext comps earlier (heard side told)
+delayed : (comps : Side → Compensation) → ((side : Side) → IsInRange (comps side)) → (earlier : List Heard) (side : Side) (told : Told) → IsNext comps earlier (heard side told)
     → PhaseIn comps (has_begun (id_of told) earlier) (measured comps (id_of told) earlier) → (v : ℤ) → delay_then (comps side) (node_of side (measured comps (id_of told) earlier)).exchange told ≡ Some v
     → DelayIn comps v (told_in comps side told (measured comps (id_of told) earlier))
 delayed comps are earlier side (begins t id kind) next phase v known = no_delay v known

@@ -16,7 +16,8 @@ use Rattle.delay_measure.specs.declared.steps.Kind.TheVariants.{One, Two, Remote
 use Rattle.delay_measure.specs.After.{Told, begins, comes, forgets, id_of}
 use Rattle.delay_measure.specs.Stamps.{sending_stamp, receiving_stamp, stamped, blank}
 use Rattle.delay_measure.specs.Table.{after_message, announced_in, answer_in, begin_in, follow_up_in, is_same, remote_in, remote_two_in, request_in, response_in, sent_at_begin, sent_at_step}
-use Rattle.delay_laws.specs.Nodes.{Compensation, sent_then}
+use Rattle.delay_measure.specs.declared.edge.Compensation.{Compensation}
+use Rattle.delay_laws.specs.Nodes.{sent_then}
 use Rattle.delay_laws.specs.Ends.{step_of}
 
 -- P holds of each message that the table answers to this one

@@ -7,8 +7,9 @@ use Rattle.air_source.specs.declared.events.Side.{Side}
 use Rattle.air_source.specs.declared.events.Side.TheVariants.{Ru, Du}
 use Rattle.delay_measure.specs.declared.states.Exchange.{Exchange}
 use Rattle.delay_measure.specs.After.{Told, id_of}
-use Rattle.delay_laws.specs.Nodes.{Compensation, Heard, Measurement, Node, Timed, came_with, delay_then, is_request, measured, node_of, requests, told_node, with_node}
-use Rattle.delay_laws.specs.Delays.{IsCompensation}
+use Rattle.delay_measure.specs.declared.edge.Compensation.{Compensation}
+use Rattle.delay_laws.specs.Nodes.{Heard, Measurement, Node, Timed, came_with, delay_then, is_request, measured, node_of, requests, told_node, with_node}
+use Rattle.delay_measure.specs.Kept.{IsInRange}
 use Rattle.delay_laws.specs.Runs.{IsRun, has_begun}
 use Rattle.delay_laws.specs.Ticks.{IsPure, Setting, exchange_of, state}
 use Rattle.delay_laws.proofs.Exchanges.{exchanges_told}
@@ -62,7 +63,7 @@ only_in : (comps : Side → Compensation) (b : Bool) (m : Measurement) (side : S
 only_in comps b m Ru request phase among is = only_of b (comps Ru) (comps Du) m.ru m.du request phase among is
 only_in comps b m Du request phase among is = only_of b (comps Du) (comps Ru) m.du m.ru request (swapped b (comps Ru) (comps Du) m.ru m.du phase) among is
 
-delay_stays : (comps : Side → Compensation) → ((side : Side) → IsCompensation (comps side)) → (later heard : List Heard) (id : ℕ) (v : ℤ) → IsRun comps (later ++ heard) → DelayIn comps v (measured comps id heard) → DelayIn comps v (measured comps id (later ++ heard))
+delay_stays : (comps : Side → Compensation) → ((side : Side) → IsInRange (comps side)) → (later heard : List Heard) (id : ℕ) (v : ℤ) → IsRun comps (later ++ heard) → DelayIn comps v (measured comps id heard) → DelayIn comps v (measured comps id (later ++ heard))
 delay_stays comps are later heard id v run d =
     let side : Side = d.0 in
     let h = d.1 in
@@ -90,7 +91,7 @@ run_front : (comps : Side → Compensation) (later heard : List Heard) → IsRun
 run_front comps [] heard run = run
 run_front comps (one ∷ later) heard run = run_front comps later heard run.1
 
-pub tick_has : (w : Setting) → IsPure w → ((side : Side) → IsCompensation (w.comps side)) → (first : ℤ) (n : ℕ) (later : List Heard) (one : Heard) (earlier : List Heard) (v : ℤ)
+pub tick_has : (w : Setting) → IsPure w → ((side : Side) → IsInRange (w.comps side)) → (first : ℤ) (n : ℕ) (later : List Heard) (one : Heard) (earlier : List Heard) (v : ℤ)
     → (state w first n).heard ≡ later ++ (one ∷ earlier) → delay_then (w.comps one.side) (exchange_of w earlier one.side (id_of one.told)) one.told ≡ Some v → DelayIn w.comps v (measured w.comps (id_of one.told) (state w first n).heard)
 tick_has w pure are first n later one earlier v is known =
     let id : ℕ = id_of one.told in

@@ -13,7 +13,8 @@ use Rattle.air_source.specs.declared.events.Side.TheVariants.{Ru, Du}
 use Rattle.delay_measure.specs.declared.message.DelayMessage.{DelayMessage}
 use Rattle.delay_measure.specs.declared.states.Exchange.{Exchange}
 use Rattle.delay_measure.specs.After.{Told, id_of}
-use Rattle.delay_laws.specs.Nodes.{Compensation, Heard, Node, Timed, measured, node_of, sent_then, time_of, timed, told_node, with_node}
+use Rattle.delay_measure.specs.declared.edge.Compensation.{Compensation}
+use Rattle.delay_laws.specs.Nodes.{Heard, Node, Timed, measured, node_of, sent_then, time_of, timed, told_node, with_node}
 use Rattle.delay_laws.specs.Runs.{IsNext, IsRun, has_begun}
 use Rattle.delay_laws.specs.Ticks.{Begin, Flight, Hearing, IsPure, Setting, State, after_tick, answers, arriving, begin_heard, came_heard, copies_at, due, exchange_of, flight, hearing, landing, launched, state, told_all, told_one}
 use Rattle.delay_laws.specs.Laws.{TicksAreRuns}

@@ -8,7 +8,8 @@ use Rattle.air_source.specs.declared.events.Side.{Side}
 use Rattle.air_source.specs.declared.events.Side.TheVariants.{Ru, Du}
 use Rattle.delay_measure.specs.declared.message.DelayMessage.{DelayMessage}
 use Rattle.delay_measure.specs.After.{Told, begins, comes, forgets, id_of}
-use Rattle.delay_laws.specs.Nodes.{Compensation, Heard, Measurement, Node, Timed, came_with, fresh, measured, node_of, sent_then, time_of, timed, told_node, with_node}
+use Rattle.delay_measure.specs.declared.edge.Compensation.{Compensation}
+use Rattle.delay_laws.specs.Nodes.{Heard, Measurement, Node, Timed, came_with, fresh, measured, node_of, sent_then, time_of, timed, told_node, with_node}
 use Rattle.delay_laws.specs.Delays.{IsWholeTime}
 use Rattle.delay_laws.specs.Ticks.{Setting, came_heard, state}
 use Rattle.delay_laws.specs.Ends.{HasWholeTimes}

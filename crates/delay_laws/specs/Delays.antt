@@ -1,16 +1,9 @@
 -- How a measured delay stands to the time that a request was on its way.
 use Rattle.std.specs.Prelude.{◌≡◌, ℕ, ℤ, pos, ◌*ℤ◌, ◌+ℤ◌, ◌-ℤ◌, ◌≤ℤ◌, ◌<ℤ◌, [], ◌∷◌, Contains}
 use Rattle.delay_measure.specs.Stamps.{sending_ns, receiving_ns, delay_between}
-use Rattle.delay_laws.specs.Nodes.{Compensation, Node, Timed, requests}
-use Rattle.delay_measure.specs.declared.stamps.TheConstants.{MOST_COMPENSATION}
+use Rattle.delay_measure.specs.declared.edge.Compensation.{Compensation}
+use Rattle.delay_laws.specs.Nodes.{Node, Timed, requests}
 use Rattle.fh_time.specs.declared.nanoseconds.TheConstants.{NANOSECOND}
-
--- from 0 to a millisecond, in units of 2^-16 ns
-pub record IsCompensation (c : Compensation) : Type 0 where
-  pub sending_low : pos 0 ≤ℤ c.sending
-  pub sending_high : c.sending ≤ℤ pos MOST_COMPENSATION
-  pub receiving_low : pos 0 ≤ℤ c.receiving
-  pub receiving_high : c.receiving ≤ℤ pos MOST_COMPENSATION
 
 -- a delay, in units of 2^-16 ns, is the time between two others, in ticks of 1/1536 ns, but for less than a nanosecond
 pub record IsNear (from to delay : ℤ) : Type 0 where

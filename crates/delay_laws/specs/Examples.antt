@@ -8,7 +8,8 @@ use Rattle.delay_measure.specs.declared.message.DelayMessage.{DelayMessage}
 use Rattle.delay_measure.specs.declared.steps.Kind.{Kind}
 use Rattle.delay_measure.specs.declared.steps.Kind.TheVariants.{One, Two, RemoteTwo}
 use Rattle.delay_measure.specs.After.{begins, comes, id_of}
-use Rattle.delay_laws.specs.Nodes.{Compensation, Heard, Timed, delay_then, measured, node_of}
+use Rattle.delay_measure.specs.declared.edge.Compensation.{Compensation}
+use Rattle.delay_laws.specs.Nodes.{Heard, Timed, delay_then, measured, node_of}
 use Rattle.delay_laws.specs.Runs.{IsRun}
 use Rattle.delay_laws.specs.Ticks.{Flight, IsPure, Setting, state}
 use Rattle.air_source.specs.Units.{same_side}

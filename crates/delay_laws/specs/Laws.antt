@@ -2,11 +2,13 @@
 use Rattle.std.specs.Prelude.{◌≡◌, ℕ, ◌+◌, ◌<◌, ℤ, pos, ◌+ℤ◌, ◌≤ℤ◌, ◌<ℤ◌, List, [], ◌∷◌, ◌++◌, All, Some}
 use Rattle.air_source.specs.declared.events.Side.{Side}
 use Rattle.delay_measure.specs.After.{id_of, exchange_after}
-use Rattle.delay_laws.specs.Nodes.{Compensation, Heard, delay_then, measured, node_of, time_of, told_to}
+use Rattle.delay_measure.specs.declared.edge.Compensation.{Compensation}
+use Rattle.delay_laws.specs.Nodes.{Heard, delay_then, measured, node_of, time_of, told_to}
 use Rattle.delay_laws.specs.Runs.{IsRun}
 use Rattle.delay_laws.specs.Ticks.{Hearing, IsPure, IsQuiet, Setting, exchange_of, landing, state, told_all}
 use Rattle.delay_laws.specs.Ends.{EndsBy, HasWholeTimes}
-use Rattle.delay_laws.specs.Delays.{HasDelay, IsCompensation}
+use Rattle.delay_measure.specs.Kept.{IsInRange}
+use Rattle.delay_laws.specs.Delays.{HasDelay}
 use Rattle.delay_laws.specs.Measured.{IsMeasured, IsMeasuredExactly}
 use Rattle.delay_laws.specs.Known.{IsMeasuredEvent, known, known_while}
 use Rattle.air_source.specs.Units.{other}
@@ -18,7 +20,7 @@ ExchangesAreTold = (comps : Side → Compensation) (heard : List Heard) (side : 
 
 -- where each message that came was sent by the other unit, each delay that is measured is that of the one request of its id
 abbrev pub DelaysAreOfRequests : Type 0
-DelaysAreOfRequests = (comps : Side → Compensation) (earlier : List Heard) (one : Heard) (delay : ℤ) → ((side : Side) → IsCompensation (comps side)) → IsRun comps (one ∷ earlier)
+DelaysAreOfRequests = (comps : Side → Compensation) (earlier : List Heard) (one : Heard) (delay : ℤ) → ((side : Side) → IsInRange (comps side)) → IsRun comps (one ∷ earlier)
     → delay_then (comps one.side) (node_of one.side (measured comps (id_of one.told) earlier)).exchange one.told ≡ Some delay
     → (side : Side) × HasDelay (comps side) (comps (other side)) (node_of side (measured comps (id_of one.told) (one ∷ earlier))) (node_of (other side) (measured comps (id_of one.told) (one ∷ earlier))) delay
 
@@ -28,13 +30,13 @@ TicksAreRuns = (w : Setting) → IsPure w → (first : ℤ) (n : ℕ) → IsRun 
 
 -- so each delay that is measured up to a tick is that of the one request of its id
 abbrev pub TickDelaysAreOfRequests : Type 0
-TickDelaysAreOfRequests = (w : Setting) → IsPure w → ((side : Side) → IsCompensation (w.comps side)) → (first : ℤ) (n : ℕ) (later : List Heard) (one : Heard) (earlier : List Heard) (delay : ℤ)
+TickDelaysAreOfRequests = (w : Setting) → IsPure w → ((side : Side) → IsInRange (w.comps side)) → (first : ℤ) (n : ℕ) (later : List Heard) (one : Heard) (earlier : List Heard) (delay : ℤ)
     → (state w first n).heard ≡ later ++ (one ∷ earlier) → delay_then (w.comps one.side) (exchange_of w earlier one.side (id_of one.told)) one.told ≡ Some delay
     → IsMeasured w (state w first n) (id_of one.told) delay
 
 -- so is each event of a delay
 abbrev pub EventsAreMeasured : Type 0
-EventsAreMeasured = (w : Setting) → IsPure w → ((side : Side) → IsCompensation (w.comps side)) → (first : ℤ) (n : ℕ) → All (IsMeasuredEvent w (state w first n)) (known w (state w first n).heard)
+EventsAreMeasured = (w : Setting) → IsPure w → ((side : Side) → IsInRange (w.comps side)) → (first : ℤ) (n : ℕ) → All (IsMeasuredEvent w (state w first n)) (known w (state w first n).heard)
 
 -- what becomes known while more is told stands behind what was known before
 abbrev pub KnownGrows : Type 0
@@ -42,7 +44,7 @@ KnownGrows = (w : Setting) (h : Hearing) (more : List Heard) → known w (told_a
 
 -- and exactly the time that a copy of it was on its way, where all times are whole nanoseconds and the two compensations that enter it
 abbrev pub TickDelaysAreExact : Type 0
-TickDelaysAreExact = (w : Setting) → IsPure w → ((side : Side) → IsCompensation (w.comps side)) → HasWholeTimes w
+TickDelaysAreExact = (w : Setting) → IsPure w → ((side : Side) → IsInRange (w.comps side)) → HasWholeTimes w
     → (first : ℤ) (n : ℕ) (later : List Heard) (one : Heard) (earlier : List Heard) (delay : ℤ)
     → (state w first n).heard ≡ later ++ (one ∷ earlier) → delay_then (w.comps one.side) (exchange_of w earlier one.side (id_of one.told)) one.told ≡ Some delay
     → IsMeasuredExactly w (state w first n) (id_of one.told) delay

@@ -3,6 +3,7 @@ use Rattle.std.specs.Prelude.{ℕ, ℤ, pos, ◌==◌, ◌||◌, Bool, if◌then
 use Rattle.std.specs.List.{filter}
 use Rattle.air_source.specs.declared.events.Side.{Side}
 use Rattle.air_source.specs.declared.events.Side.TheVariants.{Ru, Du}
+use Rattle.delay_measure.specs.declared.edge.Compensation.{Compensation}
 use Rattle.delay_measure.specs.declared.message.DelayMessage.{DelayMessage}
 use Rattle.delay_measure.specs.declared.states.Exchange.{Exchange}
 use Rattle.delay_measure.specs.declared.steps.MeterStep.{MeterStep}
@@ -11,11 +12,6 @@ use Rattle.delay_measure.specs.Stamps.{sending_stamp, receiving_stamp}
 use Rattle.delay_measure.specs.Table.{unused, after_begin, after_message, sent_at_begin, sent_at_step}
 use Rattle.delay_measure.specs.After.{Told, begins, comes, forgets, id_of, exchange_next}
 use Rattle.air_source.specs.Units.{same_side}
-
--- the compensations of a unit, in units of 2^-16 ns
-pub record Compensation : Type 0 where
-  pub sending : ℤ
-  pub receiving : ℤ
 
 -- a message, and when it was sent or came, in ticks
 pub record Timed : Type 0 where

@@ -3,7 +3,8 @@ use Rattle.std.specs.Prelude.{◌≡◌, ◌==◌, ℕ, ℤ, pos, ◌≤ℤ◌, 
 use Rattle.std.specs.List.{list_any}
 use Rattle.air_source.specs.declared.events.Side.{Side}
 use Rattle.delay_measure.specs.After.{Told, begins, comes, forgets}
-use Rattle.delay_laws.specs.Nodes.{Compensation, Heard, measured, node_of, time_of, timed}
+use Rattle.delay_measure.specs.declared.edge.Compensation.{Compensation}
+use Rattle.delay_laws.specs.Nodes.{Heard, measured, node_of, time_of, timed}
 use Rattle.air_source.specs.Units.{other}
 
 -- a measurement of the id is begun

@@ -11,7 +11,8 @@ use Rattle.delay_measure.specs.declared.message.DelayMessage.{DelayMessage}
 use Rattle.delay_measure.specs.declared.states.Exchange.{Exchange}
 use Rattle.delay_measure.specs.declared.steps.Kind.{Kind}
 use Rattle.delay_measure.specs.After.{begins, comes, exchange_after, id_of}
-use Rattle.delay_laws.specs.Nodes.{Compensation, Heard, sent_then, told_to}
+use Rattle.delay_measure.specs.declared.edge.Compensation.{Compensation}
+use Rattle.delay_laws.specs.Nodes.{Heard, sent_then, told_to}
 use Rattle.air_source.specs.Units.{other, same_side}
 
 -- a measurement that a unit begins, and when, in ticks

@@ -2,7 +2,7 @@
 use Rattle.std.proofs.Common.{◌≡◌, ℕ, ℤ, false, List, [], ◌∷◌, refl, ap, ◌∙◌}
 use Rattle.std.specs.List.{list_any}
 use Rattle.std.proofs.lemmas.Bool.{or_parts}
-use Rattle.delay_laws.specs.Nodes.{Compensation}
+use Rattle.delay_measure.specs.declared.edge.Compensation.{Compensation}
 use Rattle.ecpri_frames.specs.Gathering.{whole_messages}
 use Rattle.ecpri_frames.specs.Messages.{Message}
 use Rattle.delay_model.specs.Doings.{Doings, forgotten, with_frame, with_message, with_messages}

@@ -6,7 +6,8 @@ use Rattle.std.proofs.lemmas.List.Elements.{All-map, All-weaker}
 use Rattle.eaxc_map.specs.Endpoints.{AppearOnce}
 use Rattle.air_source.specs.declared.events.Side.{Side}
 use Rattle.air_source.specs.declared.events.Side.TheVariants.{Ru, Du}
-use Rattle.delay_laws.specs.Delays.{IsCompensation, IsWholeTime}
+use Rattle.delay_measure.specs.Kept.{IsInRange}
+use Rattle.delay_laws.specs.Delays.{IsWholeTime}
 use Rattle.delay_laws.specs.Ends.{EndsBy, HasWholeTimes}
 use Rattle.delay_laws.specs.Ticks.{Begin, IsPure}
 use Rattle.delay_laws.proofs.Carried.{tick_delays}
@@ -57,7 +58,7 @@ pure d is = record {
   alone = λ side t. refl;
 }
 
-compensation_is : (d : Document) → AreComps d.comps → (side : Side) → IsCompensation (compensation_of d side)
+pub compensation_is : (d : Document) → AreComps d.comps → (side : Side) → IsInRange (compensation_of d side)
 compensation_is d is Ru = record { sending_low = is.ru_sending.low; sending_high = is.ru_sending.high; receiving_low = is.ru_receiving.low; receiving_high = is.ru_receiving.high }
 compensation_is d is Du = record { sending_low = is.du_sending.low; sending_high = is.du_sending.high; receiving_low = is.du_receiving.low; receiving_high = is.du_receiving.high }
 

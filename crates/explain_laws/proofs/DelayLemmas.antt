@@ -5,7 +5,8 @@ use Rattle.std.specs.List.{AllByRecursion, flat_map}
 use Rattle.std.specs.Option.{option_to_list}
 use Rattle.bfp_codec.specs.declared.samples.Wide.{Wide}
 use Rattle.delay_laws.specs.Known.{delay_event, known, known_then}
-use Rattle.delay_laws.specs.Nodes.{Compensation, Heard, delay_of, delay_then, time_of}
+use Rattle.delay_measure.specs.declared.edge.Compensation.{Compensation}
+use Rattle.delay_laws.specs.Nodes.{Heard, delay_of, delay_then, time_of}
 use Rattle.delay_laws.specs.Ticks.{Setting, exchange_of}
 use Rattle.delay_measure.specs.After.{Told, begins, comes, forgets, id_of}
 use Rattle.delay_measure.specs.Stamps.{receiving_stamp, sending_stamp}

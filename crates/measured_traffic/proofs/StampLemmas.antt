@@ -5,7 +5,8 @@ use Rattle.std.proofs.lemmas.Int.{ints}
 use Rattle.std.proofs.lemmas.List.Elements.{All-cons, All-head, All-nil, All-tail}
 use Rattle.std.proofs.lemmas.Nat.{mod_below}
 use Rattle.bfp_codec.specs.Exponent.{Within}
-use Rattle.delay_laws.specs.Nodes.{Compensation, sent_then, time_of}
+use Rattle.delay_measure.specs.declared.edge.Compensation.{Compensation}
+use Rattle.delay_laws.specs.Nodes.{sent_then, time_of}
 use Rattle.delay_measure.specs.After.{Told, begins, comes, exchange_after, exchange_next, forgets, id_of}
 use Rattle.delay_measure.specs.Stamps.{blank, receiving_stamp, sending_stamp, stamped}
 use Rattle.delay_measure.specs.Table.{after_message, announced_in, answer_in, begin_in, exchange, follow_up_in, is_same, remote_in, remote_two_in, request_in, response, response_in, sent_at_begin, sent_at_step}
