@@ -1,11 +1,4 @@
 //! Explanations of whole documents with their reasons, worked out by hand.
 //!
-//! The function here does nothing: its contract is that the definitions compute the texts.
+//! There are no functions: that the definitions compute the texts is stated in `specs/` and proved as a lemma in `proofs/`.
 #![tactic(auto)]
-
-ghost use Rattle.worked_reasons.specs.Whole.{TextsAreAsWorked};
-
-/// Six texts are what the events of their documents, the configurations and the plans make, byte for byte.
-pub fn texts_hold()
-    ensures { TextsAreAsWorked }
-{}
