@@ -1,11 +1,11 @@
 -- Which arrival gave a PRB its block, by what is kept of all arrivals.
-use Rattle.std.proofs.Common.{◌≡◌, ℕ, Bool, true, false, List, [], ◌∷◌, ◌++◌, refl, sym, ap, ◌∙◌}
+use Rattle.std.proofs.Common.{◌≡◌, ℕ, Bool, true, false, List, [], ◌∷◌, ◌++◌, refl, ap, ◌∙◌}
 use Rattle.std.specs.Prelude.{◌&&◌, ◌||◌, if◌then◌else◌}
 use Rattle.std.specs.List.{flat_map}
 use Rattle.air_source.specs.Units.{same_side}
 use Rattle.air_source.specs.declared.events.AirCell.{AirCell}
-use Rattle.earlier_sections.specs.Blocks.{giver_or, gives_prb}
-use Rattle.earlier_sections.specs.Laws.{GiversAreKept, kept_by, kept_from, kept_in, kept_of}
+use Rattle.earlier_sections.specs.Blocks.{giver_of, giver_or, gives_prb}
+use Rattle.earlier_sections.specs.Laws.{kept_by, kept_from, kept_in, kept_of}
 use Rattle.earlier_sections.specs.declared.blocks.Given.{Given as Kept}
 use Rattle.explain_model.specs.Cells.{giver_in, some_gives}
 use Rattle.explain_model.specs.Judged.{gives, gives_block, is_timely}
@@ -67,7 +67,8 @@ of_arrival : (none : ℕ) (s : Story) (a : AirCell) (b : Bool)
 of_arrival none s a true = of_judged none s.number s.judged a
 of_arrival none s a false = of_none a.id a.slot a.symbol a.prb none
 
-pub givers_are_kept : GiversAreKept
+-- What is kept of a unit's arrivals tells for each cell of the unit the arrival that the lines tell, 0 where they tell none.
+pub givers_are_kept : (ss : List Story) (a : AirCell) → giver_of (kept_from a.side ss) a.id a.slot a.symbol a.prb ≡ giver_in ss a
 unfolding giver_in
 givers_are_kept [] a = of_none a.id a.slot a.symbol a.prb 0
 givers_are_kept (s ∷ later) a =

@@ -2,11 +2,9 @@
 use Rattle.std.specs.Prelude.{◌≡◌, ℕ, ◌<◌, ◌==◌, true, false, if◌then◌else◌, List, [], ◌∷◌, ◌++◌}
 use Rattle.std.specs.List.{flat_map}
 use Rattle.air_source.specs.Units.{same_side}
-use Rattle.air_source.specs.declared.events.AirCell.{AirCell}
 use Rattle.air_source.specs.declared.events.Side.{Side}
-use Rattle.earlier_sections.specs.Blocks.{fresh_count, giver_of, giver_or}
+use Rattle.earlier_sections.specs.Blocks.{fresh_count, giver_or}
 use Rattle.earlier_sections.specs.declared.blocks.Given.{Given as Kept}
-use Rattle.explain_model.specs.Cells.{giver_in}
 use Rattle.explain_model.specs.Judged.{first_given, given_count, has_block, is_timely}
 use Rattle.explain_model.specs.Judged as judged
 use Rattle.explain_model.specs.Stories.{Story}
@@ -48,7 +46,3 @@ kept_in side s = if same_side s.side side then flat_map (kept_by s.number) s.jud
 -- of all of these arrivals, in their order
 abbrev pub kept_from : Side → List Story → List Kept
 kept_from side ss = flat_map (kept_in side) ss
-
--- what is kept of a unit's arrivals tells for each cell of the unit the arrival that the lines tell
-abbrev pub GiversAreKept : Type 0
-GiversAreKept = (ss : List Story) (a : AirCell) → giver_of (kept_from a.side ss) a.id a.slot a.symbol a.prb ≡ giver_in ss a

@@ -4,7 +4,6 @@
 mod blocks;
 mod chains;
 mod claims;
-pub mod laws;
 
 pub use blocks::{Blocks, Given};
 pub use claims::Claims;

@@ -1,5 +1,5 @@
 -- The margins of a unit's endpoints, as sections come.
-use Rattle.std.specs.Prelude.{◌≡◌, List, [], ◌∷◌, ◌++◌, map, ℕ, ◌==◌, Bool, not, ◌||◌, if◌then◌else◌, pos}
+use Rattle.std.specs.Prelude.{List, map, ℕ, ◌==◌, Bool, not, ◌||◌, if◌then◌else◌, pos}
 use Rattle.explain_kept.specs.declared.margins.EndpointMargins.{EndpointMargins}
 use Rattle.explain_lines.specs.declared.places.Timing.{Timing}
 use Rattle.explain_lines.specs.declared.values.Margin.{Margin}
@@ -38,9 +38,3 @@ margins_by ds e = record { id = e.id; down = margin_of (dated_at Down e.id ds); 
 
 abbrev pub margins_after : List EndpointConfig → List Dated → List EndpointMargins
 margins_after es ds = map (margins_by ds) es
-
-pub record MarginsAreKept : Type 0 where
-  -- before any section
-  pub none : (es : List EndpointConfig) → map no_margins es ≡ margins_after es []
-  -- one section more
-  pub more : (es : List EndpointConfig) (ds : List Dated) (d : Dated) → map (added d.id d.of d.class d.timing) (margins_after es ds) ≡ margins_after es (ds ++ d ∷ [])

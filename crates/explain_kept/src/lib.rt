@@ -1,7 +1,6 @@
 //! What an explanation keeps between events: the run of cells that may go on, and the margins of each endpoint.
 #![tactic(auto)]
 
-pub mod laws;
 mod margins;
 mod runs;
 
