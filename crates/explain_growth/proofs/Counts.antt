@@ -1,18 +1,18 @@
 -- A counter adds nothing to the lines but its own.
-use Rattle.std.proofs.Common.{◌≡◌, ℕ, Bool, true, false, ◌&&◌, ◌||◌, List, [], ◌∷◌, ◌++◌, filter, length, refl, sym, ap, ap₂, ◌∙◌, append_assoc, append-nil, true≢false}
+use Rattle.std.proofs.Common.{◌≡◌, ℕ, Bool, true, false, ◌||◌, List, [], ◌∷◌, ◌++◌, filter, length, refl, sym, ap, ap₂, ◌∙◌, append_assoc, append-nil, true≢false}
 use Rattle.std.proofs.lemmas.Bool.{and_parts}
-use Rattle.std.specs.List.{flat_map, list_all, list_any}
+use Rattle.std.specs.List.{flat_map}
 use Rattle.std.proofs.lemmas.List.Elements.{filter-append}
 use Rattle.std.proofs.lemmas.List.Concat.{flat_map-append}
 use Rattle.air_source.specs.declared.events.Event.{Event}
 use Rattle.air_source.specs.declared.events.Event.TheVariants as event
 use Rattle.air_source.specs.declared.events.Side.{Side}
 use Rattle.air_source.specs.declared.events.Side.TheVariants.{Ru, Du}
-use Rattle.explain_growth.specs.Subjects.{are_counts, counts_last, has_count, is_count, Subject, reason_lines, reasons_of}
+use Rattle.explain_growth.specs.Subjects.{are_counts, counts_last, has_count, is_count, Subject, reason_lines}
 use Rattle.explain_lines.specs.declared.values.ExplainLine.{ExplainLine}
 use Rattle.explain_model.proofs.GrowLemmas.{entry_one, lines_go_on}
 use Rattle.explain_model.proofs.StoryLemmas.{one, stories_both}
-use Rattle.explain_model.specs.Cells.{Entry, Lines, Of, closed_in, entries, event_lines, lines_in, open_in, run_lines}
+use Rattle.explain_model.specs.Cells.{Lines, closed_in, entries, event_lines, lines_in, open_in, run_lines}
 use Rattle.explain_model.specs.Margins.{dated, dated_in, margin_lines, margins_at}
 use Rattle.explain_model.specs.Stories.{Story, Count, stories, stories_in, told}
 use Rattle.explain_model.specs.Text.{Reasoned, count_line, count_lines, is_shown, shown_by, shown_count}

@@ -1,18 +1,16 @@
 -- What is kept of one event more.
-use Rattle.std.proofs.Common.{◌≡◌, ℕ, suc, ◌+◌, ℤ, Bool, true, false, List, [], ◌∷◌, ◌++◌, Option, Some, None, refl, sym, ap, ap₂, subst, ◌∙◌, arith, append_assoc, append-nil, true≢false}
-use Rattle.std.specs.Option.{option_map}
+use Rattle.std.proofs.Common.{◌≡◌, ℕ, suc, ◌+◌, ℤ, Bool, true, false, List, [], ◌∷◌, ◌++◌, Some, None, refl, ap, ◌∙◌, arith, append-nil, true≢false}
 use Rattle.air_source.specs.declared.events.AirCell.{AirCell}
 use Rattle.air_source.specs.declared.events.Event.{Event}
 use Rattle.air_source.specs.declared.events.Event.TheVariants as event
 use Rattle.air_source.specs.declared.events.Side.{Side}
-use Rattle.air_source.specs.declared.events.Side.TheVariants.{Ru, Du}
 use Rattle.explain_growth.specs.Subjects.{added, added_by}
 use Rattle.explain_lines.specs.declared.values.ExplainLine.{ExplainLine}
 use Rattle.explain_model.proofs.GrowLemmas.{entry_one, lines_go_on}
 use Rattle.explain_model.proofs.StoryLemmas.{one, stories_both}
-use Rattle.explain_model.specs.Cells.{CellRun, Entry, Lines, Of, closed_in, closed_lines, closing, entries, entries_after, entry_of, open_in, open_run, run_lines, run_with, word_of}
+use Rattle.explain_model.specs.Cells.{Entry, Lines, Of, closed_in, closed_lines, entries, entries_after, entry_of, open_in, open_run, run_with, word_of}
 use Rattle.explain_model.specs.Pieces.{pieces}
-use Rattle.explain_model.specs.Stories.{Story, Told, Came, Cell, Delay, arrival_count, arrival_with, stories, stories_in, story, told, told_after, told_of}
+use Rattle.explain_model.specs.Stories.{Story, Came, Cell, Delay, arrival_count, arrival_with, stories, stories_in, story, told, told_after, told_of}
 use Rattle.fh_time.specs.declared.values.Ticks.{Ticks}
 use Rattle.replay_laws.specs.Heard.{arrivals_heard}
 use Rattle.window_config.specs.declared.config.Config.{Config}

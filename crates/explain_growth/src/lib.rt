@@ -1,8 +1,4 @@
 //! How the lines of an explanation grow as events come, and that they stand in front of the whole text.
 //!
-//! The function here does nothing: its contract is its law.
+//! There are no functions: the law is stated in `specs/` and proved as a lemma in `proofs/`.
 #![tactic(auto)]
-
-mod laws;
-
-pub use laws::lines_grow;

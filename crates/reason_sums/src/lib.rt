@@ -4,11 +4,9 @@
 //! many are missing and how many PRBs are silent for each reason.
 #![tactic(auto)]
 
-mod laws;
 mod line_sums;
 mod sums;
 mod unit_sums;
 mod words;
 
-pub use laws::sums_are_of_lines;
 pub use sums::ReasonSums;
