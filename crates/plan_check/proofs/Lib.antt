@@ -11,5 +11,4 @@ pub mod SortLemmas
 pub mod WalkLemmas
 pub mod EndpointLemmas
 pub mod WalkingLemmas
-pub mod MessageLemmas
 pub mod PlanLemmas

@@ -14,7 +14,6 @@ use Rattle.unit_model.specs.Meetings.{find_from, find_endpoint}
 use Rattle.unit_model.specs.Proper.{IsAt}
 use Rattle.plan_model.specs.Dense.{dense, dense_from, dense_in, lesser, sendings}
 use Rattle.plan_model.specs.Lines.{line_allocation, planned, planned_with, planned_at}
-use Rattle.plan_model.specs.Streams.{messages_of, parts_in, frames_in}
 use Rattle.plan_model.specs.Valid.{dense_refused, plan_refusal}
 use Rattle.plan_model.specs.Validity.{first_refused, is_out_of_range, why_claimed}
 use Rattle.plan_model.specs.declared.dense.Dense.{Dense}
@@ -22,21 +21,13 @@ use Rattle.plan_model.specs.declared.lines.PlannedLine.{PlannedLine}
 use Rattle.plan_model.specs.declared.refusals.PlanWhy.{PlanWhy}
 use Rattle.plan_check.specs.Answers.{distance_of}
 use Rattle.plan_parts.specs.Placing.{IsPlaced}
-use Rattle.plan_parts.specs.Parts.{timed}
-use Rattle.plan_check.specs.Walks.{stream_of, dense_limits_of, sendings_walked}
+use Rattle.plan_check.specs.Walks.{stream_of}
 use Rattle.plan_check.specs.Placed.{placed_on, placed_from, stopped_from}
 use Rattle.plan_check.specs.Slots.{refused_along}
-use Rattle.plan_check.proofs.MessageLemmas.{walked_is}
 use Rattle.plan_check.proofs.PlacedLemmas.{refused_apart, placed_all}
 use Rattle.plan_parts.proofs.ListLemmas.{all_index}
 
 -- ---- dense messages
-
-pub sendings_are : (c : Config) (up : Bool) (lines : List PlannedLine) (ep : ℕ) (e : EndpointConfig)
-    → sendings_walked (dense_limits_of c up) (map (timed (stream_of up)) (parts_in lines (stream_of up) ep e)) ≡ sendings c lines (stream_of up) ep e
-unfolding messages_of
-sendings_are c true lines ep e = sym (walked_is c true (frames_in c (stream_of true)) (λ m. refl) (parts_in lines (stream_of true) ep e))
-sendings_are c false lines ep e = sym (walked_is c false (frames_in c (stream_of false)) (λ m. refl) (parts_in lines (stream_of false) ep e))
 
 pub lesser_none : (x : Option Dense) → lesser x None ≡ x
 lesser_none None = refl

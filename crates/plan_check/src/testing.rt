@@ -1,5 +1,5 @@
 // The tests of a whole plan.
-ghost use Rattle.std.specs.Prelude.{◌≡◌, All, IfOk, None};
+ghost use Rattle.std.specs.Prelude.{◌≡◌, ◌<◌, All, IfOk, None, length};
 ghost use Rattle.std.specs.List.{AllByRecursion};
 ghost use Rattle.window_config.specs.Configs.{IsConfig};
 ghost use Rattle.window_config.specs.Limits.{IsWithinLimits};
@@ -10,17 +10,15 @@ ghost use Rattle.plan_model.specs.Valid.{plan_refusal};
 ghost use Rattle.plan_check.specs.Answers.{Answers, distance_of};
 ghost use Rattle.plan_parts.specs.Placing.{ArePlaced, IsPlaced};
 ghost use Rattle.plan_parts.specs.Parts.{HasEndpoint};
-ghost use Rattle.plan_check.specs.Walks.{stream_of, AreDenseLimits, dense_limits_of};
+ghost use Rattle.plan_check.specs.Walks.{stream_of};
 
 use crate::judging::judge_lines;
 use crate::placing::place_lines;
-use crate::walking::{Limits, sendings};
+use crate::walking::sendings;
 use fh_base::{List, NoMemory};
 use fh_time::Ticks;
-use plan_model::{
-    Dense, Departures, PlanWhy, PlannedLine, Stream, dense_in, down_distance, up_distance,
-};
-use plan_parts::parts_of;
+use plan_model::{Dense, PlanWhy, PlannedLine, Stream, dense_in, down_distance, up_distance};
+use plan_parts::{Limits, parts_of};
 use std::alloc::Global;
 use thiserror::Error;
 use window_config::{Config, Delays, PlanLine};
@@ -41,19 +39,6 @@ fn stream_of(up: bool) -> Stream
     ensures { result ≡ stream_of up }
 {
     if up { Stream::UpData } else { Stream::DownData }
-}
-
-/// What data messages of one direction are cut by.
-fn limits_of(config: &Config, up: bool) -> Limits
-    requires { IsConfig config.now }
-    ensures value { result ≡ dense_limits_of config.now up }
-    ensures limits { AreDenseLimits result }
-{
-    Limits {
-        pack: config.pack,
-        fragment: config.fragment,
-        departures: Departures::of(config, stream_of(up)),
-    }
 }
 
 /// How near two messages of one sequence id are too near.
@@ -90,12 +75,14 @@ fn endpoint_dense(
     lines: &[PlannedLine],
 ) -> Result<Option<Dense>, NoMemory>
     requires config { IsConfig config.now }
+    requires ep { ep < length config.now.endpoints }
     requires lines { ArePlaced lines.now }
     ensures { IfOk result (λ o. (e : SpecEndpoint) → HasEndpoint lines.now ep e
         → o ≡ dense_in (distance_of config.now.delays up) (sendings config.now lines.now (stream_of up) ep e)) }
 {
-    let parts = parts_of(alloc, stream_of(up), ep, lines)?;
-    let sent = sendings(alloc, &limits_of(config, up), &parts)?;
+    let stream = stream_of(up);
+    let parts = parts_of(alloc, stream, ep, lines)?;
+    let sent = sendings(alloc, &Limits::of(config, stream, ep as u8), &parts)?;
     Ok(dense_in(distance_of(&config.delays, up), &sent))
 }
 

@@ -8,6 +8,5 @@ pub mod SymbolLemmas
 pub mod OrderedLemmas
 pub mod ListedLemmas
 pub mod PartLemmas
-pub mod OpenLemmas
 pub mod CutLemmas
 pub mod StepLemmas

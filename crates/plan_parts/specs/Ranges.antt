@@ -1,5 +1,5 @@
 -- Ranges of what messages are cut by (this project's profile).
-use Rattle.std.specs.Prelude.{ℕ, pos, neg_ℤ, ⊤, ◌^◌, ◌<◌, ◌≤◌, ◌≤ℤ◌, Option, Some, None}
+use Rattle.std.specs.Prelude.{ℕ, pos, neg_ℤ, ◌^◌, ◌<◌, ◌≤◌, ◌≤ℤ◌, Option, IfSome}
 use Rattle.plan_parts.specs.Parts.{IsTimed}
 use Rattle.plan_parts.specs.declared.limits.Limits.{Limits}
 use Rattle.plan_parts.specs.declared.open_messages.OpenMessage.{OpenMessage}
@@ -7,8 +7,7 @@ use Rattle.window_config.specs.declared.config.TheConstants.{MESSAGE_SECTIONS, M
 use Rattle.unit_model.specs.Terms.{MESSAGE_BYTES}
 
 abbrev pub IsFragment : Option ℕ → Type 0
-IsFragment None = ⊤
-IsFragment (Some n) = (LEAST_FRAGMENT ≤ n) × (n ≤ MOST_FRAGMENT)
+IsFragment o = IfSome o (λ n. (LEAST_FRAGMENT ≤ n) × (n ≤ MOST_FRAGMENT))
 
 pub record IsLimits (l : Limits) : Type 0 where
   pub fragment : IsFragment l.fragment

@@ -1,7 +1,7 @@
 //! What the messages of an endpoint's stream are cut by.
 ghost use Rattle.std.specs.Prelude.{◌≡◌, ◌≤◌};
 
-use plan_model::{Departures, Stream};
+use plan_model::{Departures, Stream, frame_count};
 use window_config::Config;
 
 /// What the messages of an endpoint's stream are cut by.
@@ -22,6 +22,8 @@ impl Limits {
     ghost use Rattle.window_config.specs.Configs.{IsConfig};
     ghost use Rattle.plan_parts.specs.Ranges.{IsLimits};
     ghost use Rattle.plan_parts.specs.Runs.{limits_of};
+    ghost use Rattle.plan_parts.specs.Walks.{frames_needed};
+    ghost use Rattle.unit_model.specs.Terms.{MESSAGE_BYTES};
 
     /// Those of a stream: a command has one part and goes in one frame; data has so many parts and goes in such fragments as the
     /// configuration says (this project's profile).
@@ -40,6 +42,19 @@ impl Limits {
             pack,
             fragment,
             departures: Departures::of(config, stream),
+        }
+    }
+
+    /// How many frames carry a message of so many application bytes.
+    pub(crate) fn frames_of(&self, bytes: usize) -> usize
+        requires limits { IsLimits self.now }
+        requires bytes { bytes ≤ MESSAGE_BYTES }
+        ensures value { result ≡ frames_needed self.now.fragment bytes }
+        ensures small { result ≤ 128 }
+    {
+        match self.fragment {
+            None => 1,
+            Some(most) => frame_count(most, bytes),
         }
     }
 }

@@ -26,7 +26,7 @@ impl OpenMessage {
     ghost use Rattle.plan_parts.specs.OpenMessages.{alone, grown, next_to, takes_more};
 
     /// A message of one part.
-    pub fn starts(part: &TimedPart, wait: u64) -> OpenMessage
+    pub(crate) fn starts(part: &TimedPart, wait: u64) -> OpenMessage
         ensures { result ≡ alone part.now wait }
     {
         OpenMessage {
@@ -37,7 +37,7 @@ impl OpenMessage {
     }
 
     /// Whether it takes a part more: of its symbol, and where it has fewer parts than so many and room for it.
-    pub fn takes(&self, pack: usize, part: &TimedPart) -> bool
+    pub(crate) fn takes(&self, pack: usize, part: &TimedPart) -> bool
         requires { self.now.size.bytes < 2 ^ 17 }
         ensures { result ≡ takes_more pack self.now part.now }
     {
@@ -45,7 +45,7 @@ impl OpenMessage {
     }
 
     /// The message with one part more.
-    pub fn grown(&self, part: &TimedPart) -> OpenMessage
+    pub(crate) fn grown(&self, part: &TimedPart) -> OpenMessage
         requires bytes { self.now.size.bytes < 2 ^ 17 }
         requires parts { self.now.size.parts < 2 ^ 63 }
         ensures { result ≡ grown self.now part.now }
@@ -57,7 +57,12 @@ impl OpenMessage {
     }
 
     /// The message of one part behind this one, which so many frames carry.
-    pub fn next_to(&self, departures: &Departures, frames: usize, part: &TimedPart) -> OpenMessage
+    pub(crate) fn next_to(
+        &self,
+        departures: &Departures,
+        frames: usize,
+        part: &TimedPart,
+    ) -> OpenMessage
         requires gap { departures.now.gap < 2 ^ 33 }
         requires spread { departures.now.spread < 2 ^ 33 }
         requires wait { self.now.wait ≤ departures.now.spread }

@@ -1,10 +1,14 @@
-use Rattle.std.specs.Prelude.{All}
+use Rattle.std.specs.Prelude.{◌≡◌, ◌++◌, All, map}
+use Rattle.std.specs.List.{AllByRecursion}
 use Rattle.plan_model.specs.Dense.{IsSending}
-use Rattle.plan_check.proofs.WalkingLemmas.{SoFar}
+use Rattle.plan_parts.specs.Ranges.{IsOpenMessage}
+use Rattle.plan_parts.specs.Walks.{complete, left_of}
+use Rattle.plan_check.specs.Walks.{sending_from}
 use Rattle.plan_check.proofs.walking.sendings.Given as goal
 
-abbrev pub invariant-loop-k : goal.invariant-loop-k
-invariant-loop-k l = record {
-  walks : SoFar l.limits l.parts l.k l.message l.sent.items;
+abbrev pub invariant-loop-message : goal.invariant-loop-message
+invariant-loop-message l = record {
+  walks : l.sent.items ++ map (sending_from l.limits) (left_of l.message-iterator) ≡ map (sending_from l.limits) (complete l.limits l.parts);
+  are_open : AllByRecursion (IsOpenMessage l.limits) (left_of l.message-iterator);
   small : All IsSending l.sent.items;
 }

@@ -1,35 +1,34 @@
--- Part by part.
-use Rattle.std.proofs.Common.{rules, List, ap₂, ◌∙◌}
+-- Message by message.
+use Rattle.std.proofs.Common.{◌≡◌, rules, List, length, ap, ap₂, ◌∙◌}
 use Rattle.plan_parts.specs.declared.parts.TimedPart.{TimedPart}
-use Rattle.plan_parts.specs.Walks.{walked, begins}
+use Rattle.plan_parts.specs.Walks.{begins, left_of, run_from, walked}
 use Rattle.plan_parts.specs.declared.limits.Limits.{Limits}
 use Rattle.plan_parts.proofs.CutLemmas.{make_begins, parts_make_runs}
-use Rattle.plan_parts.proofs.StepLemmas.{so_far_end, walked_none, begun_end, begins_none}
+use Rattle.plan_parts.proofs.StepLemmas.{begins_end, runs_end, so_far_more, so_far_start}
 use Rattle.plan_parts.proofs.cutting.stream_messages.Goals as goal
 
-pub returns-then-is_empty-clause-runs : goal.returns-then-is_empty-clause-runs
-returns-then-is_empty-clause-runs c = λ config lines stream ep e limits_is parts_is.
-    walked_none c.args.limits.now c.args.parts.now c.in_ok-messages.messages.runs.items (search rules) (search rules)
-    ∙ ap₂ (λ (l : Limits) (ps : List TimedPart). walked l ps) limits_is parts_is ∙ parts_make_runs config lines stream ep e
+pub loop-message-init : goal.loop-message-init
+loop-message-init c =
+    so_far_start c.args.limits.now c.args.parts.now c.in_ok-messages.messages.runs.items c.in_ok-messages.messages.begins.items (left_of c.into_iter-message-iterator.result) c.requires.limits c.requires.parts
+    c.in_ok-messages.ensures.runs c.in_ok-messages.ensures.begins (ap left_of c.into_iter-message-iterator.ensures.into_iter_gives ∙ c.of-message-items.ensures)
 
-pub returns-then-is_empty-clause-begins : goal.returns-then-is_empty-clause-begins
-returns-then-is_empty-clause-begins c = λ config lines stream ep e limits_is parts_is.
-    begins_none c.args.limits.now c.args.parts.now c.in_ok-messages.messages.begins.items (search rules) (search rules)
-    ∙ ap₂ (λ (l : Limits) (ps : List TimedPart). begins l ps) limits_is parts_is ∙ make_begins config lines stream ep e
+pub loop-message-preserved : goal.loop-message-preserved
+loop-message-preserved c =
+    let number : c.len-number.result ≡ length c.loop-message.messages.runs.items = search rules in
+    so_far_more c.args.limits.now c.args.parts.now c.loop-message.messages.runs.items c.push.new.self.items c.loop-message.messages.begins.items c.push-in-loop-message.new.self.items c.loop-message.begin
+    c.in-Some.message (left_of c.loop-message.message-iterator) (left_of c.next.new.self) c.run_from.result c.loop-message.invariant c.in-Some.ensures.steps
+    (c.run_from.ensures ∙ ap (λ n. run_from c.args.limits.now n c.in-Some.message) number) c.in_ok-push.ensures.items c.in_ok-push-2.ensures.items
 
 pub returns-clause-walked : goal.returns-clause-walked
-returns-clause-walked c =
-    so_far_end c.args.limits.now c.args.parts.now c.loop-k.k c.loop-k.message c.whole-number.result c.loop-k.messages.runs.items c.push-2.new.self.items c.run_from.result c.loop-k.invariant.0 c.loop-k-test.false c.whole-number.ensures c.run_from.ensures c.in_ok-push-2.ensures.items
+returns-clause-walked c = runs_end _ _ _ _ _ _ c.loop-message.invariant c.in-None.ensures.steps.0
 
 pub returns-clause-runs : goal.returns-clause-runs
-returns-clause-runs c = λ config lines stream ep e limits_is parts_is.
-    so_far_end c.args.limits.now c.args.parts.now c.loop-k.k c.loop-k.message c.whole-number.result c.loop-k.messages.runs.items c.push-2.new.self.items c.run_from.result c.loop-k.invariant.0 c.loop-k-test.false c.whole-number.ensures c.run_from.ensures c.in_ok-push-2.ensures.items
-    ∙ ap₂ (λ (l : Limits) (ps : List TimedPart). walked l ps) limits_is parts_is ∙ parts_make_runs config lines stream ep e
+returns-clause-runs c config lines stream ep e limits_is parts_is =
+    returns-clause-walked c ∙ ap₂ (λ (l : Limits) (ps : List TimedPart). walked l ps) limits_is parts_is ∙ parts_make_runs config lines stream ep e
 
 pub returns-clause-begun : goal.returns-clause-begun
-returns-clause-begun c = begun_end c.args.limits.now c.args.parts.now c.loop-k.k c.loop-k.message c.loop-k.messages.begins.items c.loop-k.invariant.1 c.loop-k-test.false
+returns-clause-begun c = begins_end _ _ _ _ _ _ c.loop-message.invariant c.in-None.ensures.steps.0
 
 pub returns-clause-begins : goal.returns-clause-begins
-returns-clause-begins c = λ config lines stream ep e limits_is parts_is.
-    begun_end c.args.limits.now c.args.parts.now c.loop-k.k c.loop-k.message c.loop-k.messages.begins.items c.loop-k.invariant.1 c.loop-k-test.false
-    ∙ ap₂ (λ (l : Limits) (ps : List TimedPart). begins l ps) limits_is parts_is ∙ make_begins config lines stream ep e
+returns-clause-begins c config lines stream ep e limits_is parts_is =
+    returns-clause-begun c ∙ ap₂ (λ (l : Limits) (ps : List TimedPart). begins l ps) limits_is parts_is ∙ make_begins config lines stream ep e
