@@ -11,12 +11,11 @@ use Rattle.std.specs.Int.Signed.{≤ℤ_refl}
 use Rattle.air_source.specs.Units.{same_side}
 use Rattle.air_source.specs.declared.events.Side.{Side}
 use Rattle.air_source.specs.declared.events.Side.TheVariants.{Ru, Du}
-use Rattle.delay_exchange.specs.Meters.{HasDoings}
-use Rattle.delay_laws.specs.Nodes.{Compensation}
+use Rattle.delay_exchange.specs.Units.{HasDoings}
+use Rattle.delay_measure.specs.declared.edge.Compensation.{Compensation}
 use Rattle.delay_laws.specs.Ticks.{Begin, due}
 use Rattle.delay_model.specs.Doings.{Doings, told_in, with_begins}
 use Rattle.delay_measure.specs.After.{begins}
-use Rattle.delay_measure.specs.declared.edge.Edge.{Edge}
 use Rattle.fh_document.specs.Proper.{IsMeasure}
 use Rattle.fh_document.specs.declared.document.Measure.{Measure}
 use Rattle.fh_time.proofs.Orders.{above_next}
@@ -43,19 +42,18 @@ begins_more c side x bs cs =
 -- ---- the measurements of a tick so far
 
 -- some of those of the tick have begun, and the others wait
-pub record IsBeginning {C D : Type 0} (ru_pre : C → Edge → Type 0) (ru_post : C → Edge → ℤ → Type 0) (du_pre : D → Edge → Type 0) (du_post : D → Edge → ℤ → Type 0)
-    (bs : List Begin) (tick : ℤ) (cr cd : Compensation) (x y : Doings) (m : Meters C D) : Type 0 where
+pub record IsBeginning (bs : List Begin) (tick : ℤ) (cr cd : Compensation) (x y : Doings) (m : Meters) : Type 0 where
   pub proper : All IsMeasure m.measures.now
   pub later : (t : ℤ) → (tick +ℤ pos 1) ≤ℤ t → begins_waiting m t ≡ due t bs
   pub list : AreFrom tick m.waiting
   pub within : AreWithin (length m.measures.now) m.waiting
   pub gone : List Begin
   pub parts : due tick bs ≡ gone ++ begins_waiting m tick
-  pub ru : HasDoings ru_pre ru_post cr (with_begins cr x (begins_of Ru gone)) m.ru
-  pub du : HasDoings du_pre du_post cd (with_begins cd y (begins_of Du gone)) m.du
+  pub ru : HasDoings cr (with_begins cr x (begins_of Ru gone)) m.ru
+  pub du : HasDoings cd (with_begins cd y (begins_of Du gone)) m.du
 
-module _ {C D : Type 0} (cp : C → Edge → Type 0) (cq : C → Edge → ℤ → Type 0) (dp : D → Edge → Type 0) (dq : D → Edge → ℤ → Type 0) (bs : List Begin) (cr cd : Compensation) (x y : Doings) where
-  pub none_begun : (tick : ℤ) (m : Meters C D) → MetersStand cp cq dp dq bs tick cr cd x y m → IsBeginning cp cq dp dq bs tick cr cd x y m
+module _ (bs : List Begin) (cr cd : Compensation) (x y : Doings) where
+  pub none_begun : (tick : ℤ) (m : Meters) → MetersStand bs tick cr cd x y m → IsBeginning bs tick cr cd x y m
   none_begun tick m h =
       let w = h.waits in
       record {
@@ -69,7 +67,7 @@ module _ {C D : Type 0} (cp : C → Edge → Type 0) (cq : C → Edge → ℤ �
         du = h.du;
       }
 
-  module _ (tick : Ticks) (k : ℕ) (old : Meters C D) (rest : List Landing) (so_far : IsBeginning cp cq dp dq bs tick.0 cr cd x y old) (took : old.waiting ≡ landing_of tick k ∷ rest) where
+  module _ (tick : Ticks) (k : ℕ) (old : Meters) (rest : List Landing) (so_far : IsBeginning bs tick.0 cr cd x y old) (took : old.waiting ≡ landing_of tick k ∷ rest) where
     abbrev ms : List Measure
     ms = old.measures.now
 
@@ -81,11 +79,8 @@ module _ {C D : Type 0} (cp : C → Edge → Type 0) (cq : C → Edge → ℤ �
         (taken_here ms tick k old.waiting rest took
         ∙ ap (λ (o : Option Measure). map begin_of (option_to_list o) ++ begins_among ms rest tick.0) found)
 
-    pub one_is : (one : Measure) → slice_get ms k ≡ Some one → IsMeasure one
-    one_is one found = measure_is ms k one so_far.proper found
-
     -- it is one of the tick
-    pub one_now : (one : Measure) → slice_get ms k ≡ Some one → (begin_of one).at ≡ tick.0
+    one_now : (one : Measure) → slice_get ms k ≡ Some one → (begin_of one).at ≡ tick.0
     one_now one found =
         let P : Begin → Type 0 = λ b. int_eq b.at tick.0 ≡ true in
         let all = subst (All P) (found_parts one found) (filter_passes (λ (b : Begin). int_eq b.at tick.0) bs) in
@@ -93,16 +88,24 @@ module _ {C D : Type 0} (cp : C → Edge → Type 0) (cq : C → Edge → ℤ �
         let here = subst (All P) (drop-append_seam so_far.gone there) (All-drop P (length so_far.gone) (so_far.gone ++ there) all) in
         (Decides-int_eq (begin_of one).at tick.0).0 (All-head P (begin_of one) (begins_among ms rest tick.0) here)
 
-    still_within : (new : Meters C D) → new.waiting ≡ rest → new.measures.now ≡ ms → AreWithin (length new.measures.now) new.waiting
+    -- so its time is in range
+    pub in_time : (one : Measure) → slice_get ms k ≡ Some one → (pos 0 ≤ℤ tick.0) × (tick.0 ≤ℤ pos (2 ^ 56))
+    in_time one found =
+        let time = (measure_is ms k one so_far.proper found).time in
+        let low = time.low in
+        let high = time.high in
+        let at = one_now one found in (omega (arith, ints, low, at), omega (arith, ints, high, at))
+
+    still_within : (new : Meters) → new.waiting ≡ rest → new.measures.now ≡ ms → AreWithin (length new.measures.now) new.waiting
     still_within new waiting measures =
         subst (AreWithin (length new.measures.now)) (sym waiting)
         (subst (λ (xs : List Measure). AreWithin (length xs) rest) (sym measures) (rest_within (length ms) tick (Some k) old.waiting rest took so_far.within))
 
     -- it has begun
-    pub next_begun : (new : Meters C D) (one : Measure) → slice_get ms k ≡ Some one → new.waiting ≡ rest → new.measures.now ≡ ms
-        → HasDoings cp cq cr (with_begins cr (with_begins cr x (begins_of Ru so_far.gone)) (begins_of Ru (begin_then tick.0 one ∷ []))) new.ru
-        → HasDoings dp dq cd (with_begins cd (with_begins cd y (begins_of Du so_far.gone)) (begins_of Du (begin_then tick.0 one ∷ []))) new.du
-        → IsBeginning cp cq dp dq bs tick.0 cr cd x y new
+    pub next_begun : (new : Meters) (one : Measure) → slice_get ms k ≡ Some one → new.waiting ≡ rest → new.measures.now ≡ ms
+        → HasDoings cr (with_begins cr (with_begins cr x (begins_of Ru so_far.gone)) (begins_of Ru (begin_then tick.0 one ∷ []))) new.ru
+        → HasDoings cd (with_begins cd (with_begins cd y (begins_of Du so_far.gone)) (begins_of Du (begin_then tick.0 one ∷ []))) new.du
+        → IsBeginning bs tick.0 cr cd x y new
     next_begun new one found waiting measures ru du =
         let begun : begin_then tick.0 one ≡ begin_of one = ap (λ (t : ℤ). begin_then t one) (sym (one_now one found)) in
         let now = λ (t : ℤ). ap₂ (λ (xs : List Measure) (q : List Landing). begins_among xs q t) measures waiting in
@@ -115,14 +118,14 @@ module _ {C D : Type 0} (cp : C → Edge → Type 0) (cq : C → Edge → ℤ �
           gone = gone;
           parts = found_parts one found ∙ sym (append_assoc so_far.gone (begin_of one ∷ []) (begins_among ms rest tick.0))
               ∙ ap (λ (xs : List Begin). gone ++ xs) (sym (now tick.0));
-          ru = subst (λ (z : Doings). HasDoings cp cq cr z new.ru)
+          ru = subst (λ (z : Doings). HasDoings cr z new.ru)
               (ap (λ (b : Begin). with_begins cr (with_begins cr x (begins_of Ru so_far.gone)) (begins_of Ru (b ∷ []))) begun ∙ begins_more cr Ru x so_far.gone (begin_of one ∷ [])) ru;
-          du = subst (λ (z : Doings). HasDoings dp dq cd z new.du)
+          du = subst (λ (z : Doings). HasDoings cd z new.du)
               (ap (λ (b : Begin). with_begins cd (with_begins cd y (begins_of Du so_far.gone)) (begins_of Du (b ∷ []))) begun ∙ begins_more cd Du y so_far.gone (begin_of one ∷ [])) du;
         }
 
     -- there is none at its place
-    pub next_passed : (new : Meters C D) → slice_get ms k ≡ None → new.waiting ≡ rest → new.measures.now ≡ ms → new.ru ≡ old.ru → new.du ≡ old.du → IsBeginning cp cq dp dq bs tick.0 cr cd x y new
+    pub next_passed : (new : Meters) → slice_get ms k ≡ None → new.waiting ≡ rest → new.measures.now ≡ ms → new.ru ≡ old.ru → new.du ≡ old.du → IsBeginning bs tick.0 cr cd x y new
     next_passed new none waiting measures ru du =
         let now = λ (t : ℤ). ap₂ (λ (xs : List Measure) (q : List Landing). begins_among xs q t) measures waiting in
         let gone = taken_here ms tick k old.waiting rest took ∙ ap (λ (o : Option Measure). map begin_of (option_to_list o) ++ begins_among ms rest tick.0) none in
@@ -133,14 +136,14 @@ module _ {C D : Type 0} (cp : C → Edge → Type 0) (cq : C → Edge → ℤ �
           within = still_within new waiting measures;
           gone = so_far.gone;
           parts = so_far.parts ∙ ap (λ (xs : List Begin). so_far.gone ++ xs) (gone ∙ sym (now tick.0));
-          ru = subst (HasDoings cp cq cr (with_begins cr x (begins_of Ru so_far.gone))) (sym ru) so_far.ru;
-          du = subst (HasDoings dp dq cd (with_begins cd y (begins_of Du so_far.gone))) (sym du) so_far.du;
+          ru = subst (HasDoings cr (with_begins cr x (begins_of Ru so_far.gone))) (sym ru) so_far.ru;
+          du = subst (HasDoings cd (with_begins cd y (begins_of Du so_far.gone))) (sym du) so_far.du;
         }
 
   -- none of the tick is left
-  pub all_begun : (tick : Ticks) (old new : Meters C D) → IsBeginning cp cq dp dq bs tick.0 cr cd x y old → new.waiting ≡ old.waiting → new.measures.now ≡ old.measures.now
+  pub all_begun : (tick : Ticks) (old new : Meters) → IsBeginning bs tick.0 cr cd x y old → new.waiting ≡ old.waiting → new.measures.now ≡ old.measures.now
       → new.ru ≡ old.ru → new.du ≡ old.du → AreRising new.waiting → first_time old.waiting ≢ Some tick
-      → MetersStand cp cq dp dq bs (tick.0 +ℤ pos 1) cr cd (with_begins cr x (begins_of Ru (due tick.0 bs))) (with_begins cd y (begins_of Du (due tick.0 bs))) new
+      → MetersStand bs (tick.0 +ℤ pos 1) cr cd (with_begins cr x (begins_of Ru (due tick.0 bs))) (with_begins cd y (begins_of Du (due tick.0 bs))) new
   all_begun tick old new so_far waiting measures ru du rising other =
       let from = refused_from tick old.waiting so_far.list (subst AreRising waiting rising) other in
       let none = begins_none old.measures.now tick.0 old.waiting from in
@@ -152,10 +155,10 @@ module _ {C D : Type 0} (cp : C → Edge → Type 0) (cq : C → Edge → ℤ �
           list = subst (AreFrom (tick.0 +ℤ pos 1)) (sym waiting) from;
           within = subst (AreWithin (length new.measures.now)) (sym waiting) (subst (λ (xs : List Measure). AreWithin (length xs) old.waiting) (sym measures) so_far.within);
         };
-        ru = subst (λ (xs : List Begin). HasDoings cp cq cr (with_begins cr x (begins_of Ru xs)) new.ru) all
-            (subst (HasDoings cp cq cr (with_begins cr x (begins_of Ru so_far.gone))) (sym ru) so_far.ru);
-        du = subst (λ (xs : List Begin). HasDoings dp dq cd (with_begins cd y (begins_of Du xs)) new.du) all
-            (subst (HasDoings dp dq cd (with_begins cd y (begins_of Du so_far.gone))) (sym du) so_far.du);
+        ru = subst (λ (xs : List Begin). HasDoings cr (with_begins cr x (begins_of Ru xs)) new.ru) all
+            (subst (HasDoings cr (with_begins cr x (begins_of Ru so_far.gone))) (sym ru) so_far.ru);
+        du = subst (λ (xs : List Begin). HasDoings cd (with_begins cd y (begins_of Du xs)) new.du) all
+            (subst (HasDoings cd (with_begins cd y (begins_of Du so_far.gone))) (sym du) so_far.du);
       }
 
 -- one fewer waits
@@ -171,28 +174,19 @@ fewer_wait tick k old new rest took same =
 abbrev of_side : ℤ → Measure → Side → Begin
 of_side tick one side = record { side = side; id = one.id; kind = one.kind; at = tick }
 
-module _ {C D : Type 0} (cp : C → Edge → Type 0) (cq : C → Edge → ℤ → Type 0) (dp : D → Edge → Type 0) (dq : D → Edge → ℤ → Type 0) (tick : ℤ) (one : Measure) (cr cd : Compensation) (x y : Doings)
-    (old new : Meters C D) (measures : new.measures.now ≡ old.measures.now) (waiting : new.waiting ≡ old.waiting) where
-  pub begun_ru : one.side ≡ Ru → HasDoings cp cq cr (told_in cr x (begins tick one.id one.kind)) new.ru → HasDoings dp dq cd y new.du → HasBegun cp cq dp dq tick one cr cd x y old new
+module _ (tick : ℤ) (one : Measure) (cr cd : Compensation) (x y : Doings) (old new : Meters) (measures : new.measures.now ≡ old.measures.now) (waiting : new.waiting ≡ old.waiting) where
+  pub begun_ru : one.side ≡ Ru → HasDoings cr (told_in cr x (begins tick one.id one.kind)) new.ru → HasDoings cd y new.du → HasBegun tick one cr cd x y old new
   begun_ru is ru du = record {
-    ru = subst (λ (s : Side). HasDoings cp cq cr (with_begins cr x (begins_of Ru (of_side tick one s ∷ []))) new.ru) (sym is) ru;
-    du = subst (λ (s : Side). HasDoings dp dq cd (with_begins cd y (begins_of Du (of_side tick one s ∷ []))) new.du) (sym is) du;
+    ru = subst (λ (s : Side). HasDoings cr (with_begins cr x (begins_of Ru (of_side tick one s ∷ []))) new.ru) (sym is) ru;
+    du = subst (λ (s : Side). HasDoings cd (with_begins cd y (begins_of Du (of_side tick one s ∷ []))) new.du) (sym is) du;
     measures = measures;
     waiting = waiting;
   }
 
-  pub begun_du : one.side ≡ Du → HasDoings cp cq cr x new.ru → HasDoings dp dq cd (told_in cd y (begins tick one.id one.kind)) new.du → HasBegun cp cq dp dq tick one cr cd x y old new
+  pub begun_du : one.side ≡ Du → HasDoings cr x new.ru → HasDoings cd (told_in cd y (begins tick one.id one.kind)) new.du → HasBegun tick one cr cd x y old new
   begun_du is ru du = record {
-    ru = subst (λ (s : Side). HasDoings cp cq cr (with_begins cr x (begins_of Ru (of_side tick one s ∷ []))) new.ru) (sym is) ru;
-    du = subst (λ (s : Side). HasDoings dp dq cd (with_begins cd y (begins_of Du (of_side tick one s ∷ []))) new.du) (sym is) du;
+    ru = subst (λ (s : Side). HasDoings cr (with_begins cr x (begins_of Ru (of_side tick one s ∷ []))) new.ru) (sym is) ru;
+    du = subst (λ (s : Side). HasDoings cd (with_begins cd y (begins_of Du (of_side tick one s ∷ []))) new.du) (sym is) du;
     measures = measures;
     waiting = waiting;
   }
-
--- ---- when a measurement begins
-
-pub begins_late : (one : Measure) (tick : ℤ) → IsMeasure one → (begin_of one).at ≡ tick → pos 0 ≤ℤ tick
-begins_late one tick h at = let low = h.time.low in omega (arith, ints, low, at)
-
-pub begins_early : (one : Measure) (tick : ℤ) → IsMeasure one → (begin_of one).at ≡ tick → tick ≤ℤ pos (2 ^ 56)
-begins_early one tick h at = let high = h.time.high in omega (arith, ints, high, at)

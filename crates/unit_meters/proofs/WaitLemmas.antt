@@ -79,7 +79,7 @@ wait_later ms (l ∷ q) now to none from within =
           (All-tail (λ (x : Landing). x.index < length ms) l q within),
     )
 
-pub awaits_until : {C D : Type 0} (bs : List Begin) (now to : ℤ) (m : Meters C D) → Awaits bs now m → now ≤ℤ (to +ℤ pos 1) → NoneBeginsTo bs now to → Awaits bs (to +ℤ pos 1) m
+pub awaits_until : (bs : List Begin) (now to : ℤ) (m : Meters) → Awaits bs now m → now ≤ℤ (to +ℤ pos 1) → NoneBeginsTo bs now to → Awaits bs (to +ℤ pos 1) m
 awaits_until bs now to m h order none = record {
   proper = h.proper;
   begins = λ t low. h.begins t (at_most now (to +ℤ pos 1) t order low);

@@ -5,11 +5,9 @@ use Rattle.std.specs.Option.{option_to_list}
 use Rattle.air_source.specs.Units.{same_side}
 use Rattle.air_source.specs.declared.events.Side.{Side}
 use Rattle.air_source.specs.declared.events.Side.TheVariants.{Ru, Du}
-use Rattle.delay_exchange.specs.Meters.{HasDoings}
-use Rattle.delay_laws.specs.Nodes.{Compensation}
+use Rattle.delay_exchange.specs.Units.{HasDoings}
+use Rattle.delay_measure.specs.declared.edge.Compensation.{Compensation}
 use Rattle.delay_laws.specs.Ticks.{Begin, due}
-use Rattle.delay_measure.specs.declared.edge.Edge.{Edge}
-use Rattle.delay_measure.specs.declared.edge.Edge.TheVariants.{Sending, Receiving}
 use Rattle.delay_model.specs.Doings.{Doings, with_begins}
 use Rattle.fh_document.specs.Proper.{IsMeasure}
 use Rattle.fh_document.specs.declared.document.Measure.{Measure}
@@ -42,10 +40,6 @@ begins_of side bs = filter (λ b. same_side side b.side) bs
 abbrev pub NoneBeginsTo : List Begin → ℤ → ℤ → Type 0
 NoneBeginsTo bs now to = (t : ℤ) → now ≤ℤ t → t ≤ℤ to → due t bs ≡ []
 
--- a closure has these two answers
-abbrev pub AnswersAs : {C : Type 0} → (C → Edge → ℤ → Type 0) → C → Compensation → Type 0
-AnswersAs post comp c = post comp Sending c.sending × post comp Receiving c.receiving
-
 -- ---- those that wait
 
 -- the one at a place of the list
@@ -56,7 +50,7 @@ measure_at measures l = map begin_of (option_to_list (slice_get measures l.index
 abbrev pub begins_among : List Measure → List Landing → ℤ → List Begin
 begins_among measures waiting tick = flat_map (measure_at measures) (at_time tick waiting)
 
-abbrev pub begins_waiting : {C D : Type 0} → Meters C D → ℤ → List Begin
+abbrev pub begins_waiting : Meters → ℤ → List Begin
 begins_waiting m tick = begins_among m.measures.now m.waiting tick
 
 -- each that waits has its place in a list of so many
@@ -64,7 +58,7 @@ abbrev pub AreWithin : ℕ → List Landing → Type 0
 AreWithin count q = All (λ l. l.index < count) q
 
 -- those that wait are those of a list of measurements from a tick on
-pub record Awaits {C D : Type 0} (bs : List Begin) (now : ℤ) (m : Meters C D) : Type 0 where
+pub record Awaits (bs : List Begin) (now : ℤ) (m : Meters) : Type 0 where
   pub proper : All IsMeasure m.measures.now
   pub begins : (t : ℤ) → now ≤ℤ t → begins_waiting m t ≡ due t bs
   pub list : AreFrom now m.waiting
@@ -73,16 +67,14 @@ pub record Awaits {C D : Type 0} (bs : List Begin) (now : ℤ) (m : Meters C D) 
 -- ---- with what the units have
 
 -- at the start of a tick: of these measurements those from then on wait, and the units, with these compensations, have this
-pub record MetersStand {C D : Type 0} (ru_pre : C → Edge → Type 0) (ru_post : C → Edge → ℤ → Type 0) (du_pre : D → Edge → Type 0) (du_post : D → Edge → ℤ → Type 0)
-    (bs : List Begin) (now : ℤ) (cr cd : Compensation) (x y : Doings) (m : Meters C D) : Type 0 where
+pub record MetersStand (bs : List Begin) (now : ℤ) (cr cd : Compensation) (x y : Doings) (m : Meters) : Type 0 where
   pub waits : Awaits bs now m
-  pub ru : HasDoings ru_pre ru_post cr x m.ru
-  pub du : HasDoings du_pre du_post cd y m.du
+  pub ru : HasDoings cr x m.ru
+  pub du : HasDoings cd y m.du
 
 -- one measurement has begun at a tick, where the units had this, and all others wait as before
-pub record HasBegun {C D : Type 0} (ru_pre : C → Edge → Type 0) (ru_post : C → Edge → ℤ → Type 0) (du_pre : D → Edge → Type 0) (du_post : D → Edge → ℤ → Type 0)
-    (tick : ℤ) (one : Measure) (cr cd : Compensation) (x y : Doings) (old new : Meters C D) : Type 0 where
-  pub ru : HasDoings ru_pre ru_post cr (with_begins cr x (begins_of Ru (begin_then tick one ∷ []))) new.ru
-  pub du : HasDoings du_pre du_post cd (with_begins cd y (begins_of Du (begin_then tick one ∷ []))) new.du
+pub record HasBegun (tick : ℤ) (one : Measure) (cr cd : Compensation) (x y : Doings) (old new : Meters) : Type 0 where
+  pub ru : HasDoings cr (with_begins cr x (begins_of Ru (begin_then tick one ∷ []))) new.ru
+  pub du : HasDoings cd (with_begins cd y (begins_of Du (begin_then tick one ∷ []))) new.du
   pub measures : new.measures.now ≡ old.measures.now
   pub waiting : new.waiting ≡ old.waiting

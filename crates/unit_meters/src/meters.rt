@@ -5,7 +5,7 @@ ghost use Rattle.unit_meters.specs.Begins.{begin_time};
 
 use air_source::Side;
 use delay_exchange::UnitMeter;
-use delay_measure::Edge;
+use delay_measure::Compensation;
 use fh_base::{List, NoMemory};
 use fh_document::Measure;
 use fh_time::{Ticks, of_ns};
@@ -14,13 +14,13 @@ use std::alloc::Global;
 
 /// The delay measurement of both units, and the measurements that have not begun yet.
 #[derive(Drop)]
-pub struct Meters<'a, C: Fn(Edge) -> i64, D: Fn(Edge) -> i64> {
+pub struct Meters<'a> {
     measures: &'a List<Measure>,
     waiting: LandingQueue,
     /// The radio unit's.
-    pub ru: UnitMeter<C>,
+    pub ru: UnitMeter,
     /// The distributed unit's.
-    pub du: UnitMeter<D>,
+    pub du: UnitMeter,
 }
 
 /// When a measurement begins, in ticks.
@@ -45,19 +45,18 @@ fn times_of(alloc: Global, measures: &List<Measure>) -> Result<Vec<Ticks>, NoMem
     Ok(times)
 }
 
-impl<'a, C: Fn(Edge) -> i64, D: Fn(Edge) -> i64> Meters<'a, C, D> {
+impl<'a> Meters<'a> {
     ghost use Rattle.std.specs.Prelude.{ℤ, pos, ◌+ℤ◌, ◌≤ℤ◌, ◌^◌, List as SpecList, OnOk};
     ghost use Rattle.air_source.specs.declared.events.Side.TheVariants.{Du as AtDu, Ru as AtRu};
-    ghost use Rattle.delay_exchange.specs.Meters.{HasDoings};
-    ghost use Rattle.delay_exchange.specs.Units.{meter_of};
-    ghost use Rattle.delay_laws.specs.Nodes.{Compensation};
+    ghost use Rattle.delay_exchange.specs.Units.{HasDoings};
+    ghost use Rattle.delay_measure.specs.declared.edge.Compensation.{Compensation as SpecCompensation};
     ghost use Rattle.delay_laws.specs.Ticks.{Begin, due};
-    ghost use Rattle.delay_measure.specs.Kept.{IsCompensation, IsKept};
+    ghost use Rattle.delay_measure.specs.Kept.{IsInRange};
     ghost use Rattle.delay_model.specs.Doings.{Doings, nothing, with_begins};
     ghost use Rattle.fh_time.specs.Least.{IsLeastOf};
-    ghost use Rattle.unit_meters.specs.Begins.{AnswersAs, Awaits, HasBegun, MetersStand, NoneBeginsTo, begin_of, begins_of};
+    ghost use Rattle.unit_meters.specs.Begins.{Awaits, HasBegun, MetersStand, NoneBeginsTo, begin_of, begins_of};
 
-    /// All these measurements wait, with a closure for each unit that answers its two compensations.
+    /// All these measurements wait, with the compensation of each unit.
     ///
     /// # Errors
     ///
@@ -65,14 +64,13 @@ impl<'a, C: Fn(Edge) -> i64, D: Fn(Edge) -> i64> Meters<'a, C, D> {
     pub fn make(
         alloc: Global,
         measures: &'a List<Measure>,
-        ru: C,
-        du: D,
-    ) -> Result<Meters<'a, C, D>, NoMemory>
+        ru: Compensation,
+        du: Compensation,
+    ) -> Result<Meters<'a>, NoMemory>
         requires measures { All IsMeasure measures.now }
-        requires ru { IsCompensation C.pre C.post ru }
-        requires du { IsCompensation D.pre D.post du }
-        ensures { (cr : Compensation) (cd : Compensation) → AnswersAs C.post ru cr → AnswersAs D.post du cd
-            → IfOk result (λ m. (now : ℤ) → now ≤ℤ pos 0 → MetersStand C.pre C.post D.pre D.post (map begin_of measures.now) now cr cd nothing nothing m) }
+        requires ru { IsInRange ru }
+        requires du { IsInRange du }
+        ensures { IfOk result (λ m. (now : ℤ) → now ≤ℤ pos 0 → MetersStand (map begin_of measures.now) now ru du nothing nothing m) }
     {
         let times = times_of(alloc, measures)?;
         let waiting = LandingQueue::make(alloc, times.as_slice())?;
@@ -97,9 +95,9 @@ impl<'a, C: Fn(Edge) -> i64, D: Fn(Edge) -> i64> Meters<'a, C, D> {
     ///
     /// [`NoMemory`] where memory runs out.
     pub fn begin(&mut self, tick: Ticks) -> Result<(), NoMemory>
-        requires { (bs : SpecList Begin) × (cr : Compensation) × (cd : Compensation) × (x : Doings) × (y : Doings) × MetersStand C.pre C.post D.pre D.post bs tick.0 cr cd x y self.old }
-        ensures { (bs : SpecList Begin) (cr : Compensation) (cd : Compensation) (x : Doings) (y : Doings) → MetersStand C.pre C.post D.pre D.post bs tick.0 cr cd x y self.old
-            → OnOk result (MetersStand C.pre C.post D.pre D.post bs (tick.0 +ℤ pos 1) cr cd (with_begins cr x (begins_of AtRu (due tick.0 bs))) (with_begins cd y (begins_of AtDu (due tick.0 bs))) self.new) }
+        requires { (bs : SpecList Begin) × (cr : SpecCompensation) × (cd : SpecCompensation) × (x : Doings) × (y : Doings) × MetersStand bs tick.0 cr cd x y self.old }
+        ensures { (bs : SpecList Begin) (cr : SpecCompensation) (cd : SpecCompensation) (x : Doings) (y : Doings) → MetersStand bs tick.0 cr cd x y self.old
+            → OnOk result (MetersStand bs (tick.0 +ℤ pos 1) cr cd (with_begins cr x (begins_of AtRu (due tick.0 bs))) (with_begins cd y (begins_of AtDu (due tick.0 bs))) self.new) }
     {
         while let Some(k) = self.waiting.take_at(tick) {
             if let Some(measure) = self.measures.get(k) {
@@ -111,12 +109,10 @@ impl<'a, C: Fn(Edge) -> i64, D: Fn(Edge) -> i64> Meters<'a, C, D> {
 
     /// Begins one measurement, at its unit.
     fn begin_one(&mut self, tick: Ticks, measure: &Measure) -> Result<(), NoMemory>
-        requires ru { IsKept C.pre C.post (meter_of self.old.ru) }
-        requires du { IsKept D.pre D.post (meter_of self.old.du) }
         requires low { pos 0 ≤ℤ tick.0 }
         requires high { tick.0 ≤ℤ pos (2 ^ 56) }
-        ensures { (cr : Compensation) (cd : Compensation) (x : Doings) (y : Doings) → HasDoings C.pre C.post cr x self.old.ru → HasDoings D.pre D.post cd y self.old.du
-            → OnOk result (HasBegun C.pre C.post D.pre D.post tick.0 measure.now cr cd x y self.old self.new) }
+        ensures { (cr : SpecCompensation) (cd : SpecCompensation) (x : Doings) (y : Doings) → HasDoings cr x self.old.ru → HasDoings cd y self.old.du
+            → OnOk result (HasBegun tick.0 measure.now cr cd x y self.old self.new) }
     {
         match measure.side {
             Side::Ru => self.ru.begin(tick, measure.id, measure.kind),

@@ -4,10 +4,10 @@ use Rattle.unit_meters.proofs.TimeLemmas.{begins_are, waiting_from, waiting_with
 use Rattle.unit_meters.proofs.meters.Meters.make.Goals as goal
 
 pub times_of-requires : goal.times_of-requires
-times_of-requires g c = c.requires.measures
+times_of-requires c = c.requires.measures
 
 pub returns : goal.returns
-returns g c cr cd ru du now early =
+returns c now early =
     let ms = c.args.measures.now in
     let times = c.as_slice.result.now in
     let are : times ≡ map begin_time ms = c.as_slice.ensures.value ∙ c.in_ok-times.ensures in
@@ -18,6 +18,6 @@ returns g c cr cd ru du now early =
         list = waiting_from now ms times _ early are c.requires.measures c.in_ok-waiting.ensures.placed;
         within = waiting_within ms times _ are c.in_ok-waiting.ensures.placed;
       };
-      ru = c.make-2.ensures.doings cr ru.0 ru.1;
-      du = c.make-3.ensures.doings cd du.0 du.1;
+      ru = c.make-2.ensures;
+      du = c.make-3.ensures;
     }
