@@ -2,15 +2,14 @@
 use Rattle.std.proofs.Common.{◌≡◌, ℕ, ℤ, pos, ◌≤ℤ◌, List, [], ◌∷◌, ◌++◌, refl, sym, ap, ◌∙◌, subst, append_assoc}
 use Rattle.air_source.specs.declared.events.Event.{Event}
 use Rattle.air_source.specs.declared.events.Side.{Side}
-use Rattle.delay_exchange.specs.Meters.{HasDoings}
+use Rattle.delay_exchange.specs.Units.{HasDoings}
 use Rattle.delay_exchange.specs.declared.unit.UnitMeter.{UnitMeter}
-use Rattle.delay_laws.specs.Nodes.{Compensation}
+use Rattle.delay_measure.specs.declared.edge.Compensation.{Compensation}
 use Rattle.delay_model.specs.Doings.{Doings, results_of, with_frame, with_frames}
 use Rattle.replay_laws.proofs.HeardLemmas.{arrivals-append, arrivals-own}
 use Rattle.replay_laws.proofs.ToldLemmas.{none_told, told_next, told_one}
 use Rattle.replay_laws.specs.Events.{arrival_told}
 use Rattle.replay_laws.specs.Heard.{arrivals_heard}
-use Rattle.delay_measure.specs.declared.edge.Edge.{Edge}
 use Rattle.frame_deliveries.specs.Landing.{arrival_at, landing_at}
 use Rattle.frame_ways.specs.Landed.{bytes_of}
 use Rattle.frame_ways.specs.Ways.{HasLanded, Lands, LandsNext, OnWay, landings_on}
@@ -68,16 +67,16 @@ landed_next tick h xs frame =
 -- ---- the frames so far
 
 -- some of those that come to a unit at a tick were told, each with its delays, the unit took them, its meter was told them, and the rest is on its way
-pub record AreTold {A C : Type 0} (grew : A → List Event → A → Type 0) (pre : C → Edge → Type 0) (post : C → Edge → ℤ → Type 0) (side : Side) (v : OnWay) (tick : ℤ) (c : Compensation)
-    (x : Doings) (takes_old takes_now : Config → List Allocation → History → Type 0) (m : UnitMeter C) (now : Way) (before after : A) : Type 0 where
+pub record AreTold {A : Type 0} (grew : A → List Event → A → Type 0) (side : Side) (v : OnWay) (tick : ℤ) (c : Compensation)
+    (x : Doings) (takes_old takes_now : Config → List Allocation → History → Type 0) (m : UnitMeter) (now : Way) (before after : A) : Type 0 where
   pub gone : List Arrival
   pub lands : Lands v tick gone now
   pub heard : grew before (told_of_frames side c tick x gone) after
-  pub made : HasDoings pre post c (with_frames c tick x gone) m
+  pub made : HasDoings c (with_frames c tick x gone) m
   pub takes : (k : Config) (planned : List Allocation) (h : History) → takes_old k planned h → takes_now k planned (landed tick h gone)
 
-module _ {A C : Type 0} (grew : A → List Event → A → Type 0) (pre : C → Edge → Type 0) (post : C → Edge → ℤ → Type 0) (side : Side) (v : OnWay) (tick : ℤ) (c : Compensation) (x : Doings) where
-  pub none_are_told : (takes_old : Config → List Allocation → History → Type 0) (m : UnitMeter C) (w : Way) (a : A) → MayLand pre post v tick c x w m → grew a [] a → AreTold grew pre post side v tick c x takes_old takes_old m w a a
+module _ {A : Type 0} (grew : A → List Event → A → Type 0) (side : Side) (v : OnWay) (tick : ℤ) (c : Compensation) (x : Doings) where
+  pub none_are_told : (takes_old : Config → List Allocation → History → Type 0) (m : UnitMeter) (w : Way) (a : A) → MayLand v tick c x w m → grew a [] a → AreTold grew side v tick c x takes_old takes_old m w a a
   none_are_told takes_old m w a may none = record {
     gone = [];
     lands = none_landed v tick w may.waits;
@@ -86,8 +85,8 @@ module _ {A C : Type 0} (grew : A → List Event → A → Type 0) (pre : C → 
     takes = λ k planned h stands. subst (takes_old k planned) (landed_none tick h) stands;
   }
 
-  module _ (more : (a b d : A) (first second : List Event) → grew a first b → grew b second d → grew a (first ++ second) d) (f : Landed) (takes_old takes_now : Config → List Allocation → History → Type 0) (m : UnitMeter C)
-      (before now : Way) (a b : A) (so_far : AreTold grew pre post side v tick c x takes_old takes_now m before a b) (next : LandsNext v tick so_far.gone f now) where
+  module _ (more : (a b d : A) (first second : List Event) → grew a first b → grew b second d → grew a (first ++ second) d) (f : Landed) (takes_old takes_now : Config → List Allocation → History → Type 0) (m : UnitMeter)
+      (before now : Way) (a b : A) (so_far : AreTold grew side v tick c x takes_old takes_now m before a b) (next : LandsNext v tick so_far.gone f now) where
     abbrev all : List Arrival
     all = landing_at (landings_on v) tick
 
@@ -118,16 +117,16 @@ module _ {A C : Type 0} (grew : A → List Event → A → Type 0) (pre : C → 
         go (y ∷ ys) is = late y (ys ++ one ∷ next.comes) is
 
     -- one more was told
-    pub one_more_told : (takes_new : Config → List Allocation → History → Type 0) (n : UnitMeter C) (e : A) → grew b here e → HasDoings pre post c has_then n
+    pub one_more_told : (takes_new : Config → List Allocation → History → Type 0) (n : UnitMeter) (e : A) → grew b here e → HasDoings c has_then n
         → ((k : Config) (planned : List Allocation) (h : History) → takes_now k planned h → takes_new k planned (arrived (at_clock h tick) (bytes_of f)))
-        → AreTold grew pre post side v tick c x takes_old takes_new n now a e
+        → AreTold grew side v tick c x takes_old takes_new n now a e
     one_more_told takes_new n e heard made takes =
         let told = told-append side c tick x so_far.gone (one ∷ []) ∙ ap (λ (es : List Event). first ++ es) (told_one side has_then.results [] one) in
         record {
           gone = so_far.gone ++ one ∷ [];
           lands = next.lands;
           heard = subst (λ (es : List Event). grew a es e) (sym told) (more a b e first here so_far.heard heard);
-          made = subst (λ (z : Doings). HasDoings pre post c z n) (sym (with_frames-append c tick x so_far.gone (one ∷ []))) made;
+          made = subst (λ (z : Doings). HasDoings c z n) (sym (with_frames-append c tick x so_far.gone (one ∷ []))) made;
           takes = λ k planned h stands. subst (takes_new k planned) (landed_next tick h so_far.gone (bytes_of f)) (takes k planned (landed tick h so_far.gone) (so_far.takes k planned h stands));
         }
 
@@ -166,11 +165,11 @@ module _ {A C : Type 0} (grew : A → List Event → A → Type 0) (pre : C → 
         (halts_moved grew stopped (HasTaken stands side (landed tick h so_far.gone)) (HasTaken stands side h) [] first here b e (λ told rest is t. taken_behind stands h told t) s)))
 
   -- none is left
-  module _ (takes_old takes_now : Config → List Allocation → History → Type 0) (m : UnitMeter C) (before now : Way) (a b : A) (so_far : AreTold grew pre post side v tick c x takes_old takes_now m before a b) (over : HasLanded v tick so_far.gone now) where
-    pub all_landed : HaveLanded grew pre post side v tick c x m now a b
+  module _ (takes_old takes_now : Config → List Allocation → History → Type 0) (m : UnitMeter) (before now : Way) (a b : A) (so_far : AreTold grew side v tick c x takes_old takes_now m before a b) (over : HasLanded v tick so_far.gone now) where
+    pub all_landed : HaveLanded grew side v tick c x m now a b
     all_landed = record {
       heard = subst (λ (xs : List Arrival). grew a (told_of_frames side c tick x xs) b) (sym over.all) so_far.heard;
-      made = subst (λ (xs : List Arrival). HasDoings pre post c (with_frames c tick x xs) m) (sym over.all) so_far.made;
+      made = subst (λ (xs : List Arrival). HasDoings c (with_frames c tick x xs) m) (sym over.all) so_far.made;
       waits = over.stands;
     }
 

@@ -46,7 +46,7 @@ returns-in_err-take_in-clause-wants g a c x k planned h has takes wants =
 pub returns-clause-heard : goal.returns-clause-heard
 returns-clause-heard g a c x has =
     let made = a.in_ok-take_in.ensures.made c x has in
-    rw (← a.as_slice-bytes.ensures, ← a.results.ensures.has c _ made.has)
+    rw (← a.as_slice-bytes.ensures, ← a.results.ensures c _ made)
     (on_ok_weaker a.tell_results.result
     (λ more. g.met.A.Air.grew_more a.args.out.now a.arrival.new.self a.tell_results.new.out (arrival_event a.args.side (arrival_at a.args.at.0 a.as_slice-bytes.result.now) ∷ [])
     (map (result_event a.args.side a.args.at.0) a.results.result.now) a.in_ok-arrival.ensures.heard more) a.tell_results.ensures.heard)
@@ -66,7 +66,7 @@ returns-clause-stop g a c x k planned h has takes failed =
     let bytes = a.as_slice-bytes.result.now in
     let made = a.in_ok-take_in.ensures.made c x has in
     let stands = g.U.TakesFrames.may_take a.take_in.new.unit k planned at in
-    rw (← a.as_slice-bytes.ensures, ← a.results.ensures.has c _ made.has)
+    rw (← a.as_slice-bytes.ensures, ← a.results.ensures c _ made)
     (stops_telling g.A.Air.grew side (arrival_at at bytes) a.results.result.now (HasTaken stands side h) [] (g.A.Air.stopped Failed) g.met.A.Air.grew_more a.args.out.now a.arrival.new.self
     a.tell_results.new.out a.in_ok-arrival.ensures.heard (taken_frame stands side h at bytes (a.take_in.ensures.took k planned h takes)) (IfErr-at_err _ failed a.tell_results.ensures.stop))
 
@@ -77,7 +77,7 @@ returns-clause-wants g a c x k planned h has takes wants =
     let bytes = a.as_slice-bytes.result.now in
     let made = a.in_ok-take_in.ensures.made c x has in
     let stands = g.U.TakesFrames.may_take a.take_in.new.unit k planned at in
-    rw (← a.as_slice-bytes.ensures, ← a.results.ensures.has c _ made.has)
+    rw (← a.as_slice-bytes.ensures, ← a.results.ensures c _ made)
     (inl (stops_telling g.A.Air.grew side (arrival_at at bytes) a.results.result.now (HasTaken stands side h) [] (g.A.Air.stopped NoMemory) g.met.A.Air.grew_more a.args.out.now a.arrival.new.self
     a.tell_results.new.out a.in_ok-arrival.ensures.heard (taken_frame stands side h at bytes (a.take_in.ensures.took k planned h takes)) (IfErr-at_err _ wants a.tell_results.ensures.stop)))
 

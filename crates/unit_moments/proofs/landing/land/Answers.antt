@@ -10,7 +10,7 @@ use Rattle.unit_moments.proofs.landing.land.Goals as goal
 
 pub loop-frame-init : goal.loop-frame-init
 loop-frame-init g a = record {
-  lands = λ v c x may. none_are_told g.A.Air.grew (goal.C-pre g) (goal.C-post g) a.args.side v a.args.tick.0 c x _ a.args.meter.now a.args.way.now a.args.out.now may (g.met.A.Air.grew_none a.args.out.now);
+  lands = λ v c x may. none_are_told g.A.Air.grew a.args.side v a.args.tick.0 c x _ a.args.meter.now a.args.way.now a.args.out.now may (g.met.A.Air.grew_none a.args.out.now);
   unit = a.requires.unit;
   same = g.met.A.Air.same_none a.args.out.now;
   still = refl;
@@ -22,17 +22,12 @@ hear-requires-clause-short g a =
     let so_far = a.loop-frame.invariant.lands some.0 some.1 some.2 some.3 in
     (a.in-Some.ensures.next some.0 so_far.gone so_far.lands).short
 
-pub hear-requires-clause-meter : goal.hear-requires-clause-meter
-hear-requires-clause-meter g a =
-    let some = a.requires.some in
-    (a.loop-frame.invariant.lands some.0 some.1 some.2 some.3).made.kept
-
 pub hear-requires-clause-low : goal.hear-requires-clause-low
 hear-requires-clause-low g a =
     let some = a.requires.some in
     let one = a.loop-frame in
     let so_far = one.invariant.lands some.0 some.1 some.2 some.3 in
-    some_comes g.A.Air.grew (goal.C-pre g) (goal.C-post g) a.args.side some.0 a.args.tick.0 some.1 some.2 g.met.A.Air.grew_more a.in-Some.frame _ _ one.meter
+    some_comes g.A.Air.grew a.args.side some.0 a.args.tick.0 some.1 some.2 g.met.A.Air.grew_more a.in-Some.frame _ _ one.meter
     one.way a.next_at.new.self a.args.out.now one.out so_far (a.in-Some.ensures.next some.0 so_far.gone so_far.lands) some.3.late
 
 pub hear-requires-clause-high : goal.hear-requires-clause-high
@@ -49,7 +44,7 @@ loop-frame-preserved g a =
       lands = λ v c x may.
           let so_far = old.lands v c x may in
           let has = with_frames c tick x so_far.gone in
-          one_more_told g.A.Air.grew (goal.C-pre g) (goal.C-post g) a.args.side v tick c x g.met.A.Air.grew_more f _ _ one.meter one.way a.next_at.new.self a.args.out.now one.out
+          one_more_told g.A.Air.grew a.args.side v tick c x g.met.A.Air.grew_more f _ _ one.meter one.way a.next_at.new.self a.args.out.now one.out
           so_far (a.in-Some.ensures.next v so_far.gone so_far.lands) _ a.hear.new.meter a.hear.new.out (told.heard c has so_far.made) (told.made c has so_far.made) told.took;
       unit = (old.unit.0, old.unit.1, arrived (at_clock old.unit.2 tick) (bytes_of f), told.took old.unit.0 old.unit.1 old.unit.2 old.unit.3);
       same = g.met.A.Air.same_more _ _ _ old.same a.hear.ensures.same;
@@ -62,7 +57,7 @@ returns-in_err-hear-clause-stop g a v c x k planned h may takes failed =
     let tick = a.args.tick.0 in
     let one = a.loop-frame in
     let so_far = one.invariant.lands v c x may in
-    stops_here g.A.Air.grew (goal.C-pre g) (goal.C-post g) a.args.side v tick c x g.met.A.Air.grew_more a.in-Some.frame _ _ one.meter one.way a.next_at.new.self a.args.out.now one.out
+    stops_here g.A.Air.grew a.args.side v tick c x g.met.A.Air.grew_more a.in-Some.frame _ _ one.meter one.way a.next_at.new.self a.args.out.now one.out
     so_far (a.in-Some.ensures.next v so_far.gone so_far.lands) (g.A.Air.stopped Failed) (g.U.TakesFrames.may_take a.hear.new.unit k planned tick) h a.hear.new.out
     (a.hear.ensures.stop c (with_frames c tick x so_far.gone) k planned (landed tick h so_far.gone) so_far.made (so_far.takes k planned h takes) (same ∙ failed))
 
@@ -72,7 +67,7 @@ returns-in_err-hear-clause-wants g a v c x k planned h may takes wants =
     let tick = a.args.tick.0 in
     let one = a.loop-frame in
     let so_far = one.invariant.lands v c x may in
-    halts_here g.A.Air.grew (goal.C-pre g) (goal.C-post g) a.args.side v tick c x g.met.A.Air.grew_more a.in-Some.frame _ _ one.meter one.way a.next_at.new.self a.args.out.now one.out
+    halts_here g.A.Air.grew a.args.side v tick c x g.met.A.Air.grew_more a.in-Some.frame _ _ one.meter one.way a.next_at.new.self a.args.out.now one.out
     so_far (a.in-Some.ensures.next v so_far.gone so_far.lands) (g.A.Air.stopped NoMemory) (g.U.TakesFrames.may_take a.hear.new.unit k planned tick) h a.hear.new.out
     (a.hear.ensures.wants c (with_frames c tick x so_far.gone) k planned (landed tick h so_far.gone) so_far.made (so_far.takes k planned h takes) (same ∙ wants))
 
@@ -80,14 +75,14 @@ pub returns-clause-landed : goal.returns-clause-landed
 returns-clause-landed g a v c x may =
     let one = a.loop-frame in
     let so_far = one.invariant.lands v c x may in
-    all_landed g.A.Air.grew (goal.C-pre g) (goal.C-post g) a.args.side v a.args.tick.0 c x _ _ one.meter one.way a.next_at.new.self a.args.out.now one.out so_far
+    all_landed g.A.Air.grew a.args.side v a.args.tick.0 c x _ _ one.meter one.way a.next_at.new.self a.args.out.now one.out so_far
     (a.in_default.ensures.next v so_far.gone so_far.lands)
 
 pub returns-clause-took : goal.returns-clause-took
 returns-clause-took g a v c x k planned h may takes =
     let one = a.loop-frame in
     let so_far = one.invariant.lands v c x may in
-    all_taken g.A.Air.grew (goal.C-pre g) (goal.C-post g) a.args.side v a.args.tick.0 c x _ _ one.meter one.way a.next_at.new.self a.args.out.now one.out so_far
+    all_taken g.A.Air.grew a.args.side v a.args.tick.0 c x _ _ one.meter one.way a.next_at.new.self a.args.out.now one.out so_far
     (a.in_default.ensures.next v so_far.gone so_far.lands) k planned h takes
 
 pub returns-in_err-hear-clause-cause : goal.returns-in_err-hear-clause-cause

@@ -1,5 +1,5 @@
 use Rattle.std.proofs.Common.{◌≡◌, List}
-use Rattle.delay_laws.specs.Nodes.{Compensation}
+use Rattle.delay_measure.specs.declared.edge.Compensation.{Compensation}
 use Rattle.delay_model.specs.Doings.{Doings}
 use Rattle.frame_ways.specs.Ways.{OnWay, frames_on_way}
 use Rattle.unit_model.specs.Standing.{History}
@@ -11,8 +11,8 @@ use Rattle.unit_moments.proofs.landing.land.Given as goal
 
 abbrev pub invariant-loop-frame : goal.invariant-loop-frame
 invariant-loop-frame g l = record {
-  lands : (v : OnWay) (c : Compensation) (x : Doings) → MayLand (goal.C-pre g) (goal.C-post g) v l.tick.0 c x l.initial.way l.initial.meter
-      → AreTold g.A.Air.grew (goal.C-pre g) (goal.C-post g) l.side v l.tick.0 c x (λ k planned h. g.U.TakesFrames.may_take l.initial.unit k planned l.tick.0 h)
+  lands : (v : OnWay) (c : Compensation) (x : Doings) → MayLand v l.tick.0 c x l.initial.way l.initial.meter
+      → AreTold g.A.Air.grew l.side v l.tick.0 c x (λ k planned h. g.U.TakesFrames.may_take l.initial.unit k planned l.tick.0 h)
       (λ k planned h. g.U.TakesFrames.may_take l.unit k planned l.tick.0 h) l.meter l.way l.initial.out l.out;
   unit : (k : Config) × (planned : List Allocation) × (h : History) × g.U.TakesFrames.may_take l.unit k planned l.tick.0 h;
   same : g.A.Air.same l.initial.out l.out;
