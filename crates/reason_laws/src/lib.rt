@@ -1,11 +1,4 @@
 //! The reasons of a replay are true: what is kept for them is what the units decoded of all that came.
 //!
-//! The functions here do nothing: each one's contract is its law.
+//! There are no functions: a law is stated in `specs/` and proved as a lemma in `proofs/`.
 #![tactic(auto)]
-
-mod laws;
-
-pub use laws::{
-    blocks_are_told, givers_are_blocks, grown_are_generations, judgements_are_decoded,
-    records_are_decoded,
-};
