@@ -17,7 +17,8 @@ use Rattle.line_runs.proofs.MapLemmas.{run_lines_map}
 use Rattle.reason_records.specs.Keys.{run_key}
 use Rattle.reason_records.specs.declared.keys.SymbolKey.{SymbolKey}
 use Rattle.reason_records.specs.declared.runs.CellRun.{CellRun}
-use Rattle.explain_records.specs.Missing.{missing_cell_of, missing_prb_at, missing_prbs, missing_prbs_by, missing_prbs_of, missing_run_line, missing_text}
+use Rattle.explain_records.specs.Missing.{missing_cell_of, missing_line_of, missing_prb_at, missing_prbs, missing_prbs_by, missing_prbs_of, missing_related, missing_run_line, missing_text}
+use Rattle.explain_records.specs.Stored.{SameBySymbol}
 use Rattle.explain_records.specs.declared.missing.MissingPrb.{MissingPrb}
 
 -- ---- a run by the records of its symbol
@@ -131,3 +132,7 @@ text_is c events =
     ∙ ap (run_lines goes_on_missing missing_run_line) (cells_of_runs c (kept c events) (cell_runs c events) (kept_have c events)
     ∙ ap (missing_cells c (kept c events)) (runs_hold_cells c events))
     ∙ lines_same (pieces goes_on_missing (missing_of c events))
+
+-- of records that are the same of each symbol
+pub missing_told : (c : Config) (events : List Event) (ordered : Kept) → SameBySymbol (kept c events) ordered → missing_text ordered (cell_runs c events) ≡ why_lines c events
+missing_told c events ordered same = ap (run_lines missing_related missing_line_of) (same_runs (kept c events) ordered same (cell_runs c events)) ∙ text_is c events

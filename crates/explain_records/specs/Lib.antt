@@ -4,4 +4,3 @@ pub mod Stored
 pub mod OfLines
 pub mod Missing
 pub mod MissingSteps
-pub mod Laws

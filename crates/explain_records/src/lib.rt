@@ -5,7 +5,6 @@
 mod commands;
 mod given;
 mod headers;
-mod laws;
 mod missing;
 mod of_lines;
 mod ordered;
@@ -15,9 +14,8 @@ mod store;
 
 pub use commands::{Asked, accepted_command, command_reason};
 pub use given::giver_of;
-pub use laws::missing_are_told;
 pub use missing::{is_next, tell_missing};
-pub use of_lines::{command_record, data_record, header_record, lines_tell_records};
+pub use of_lines::{command_record, data_record, header_record};
 pub use ordered::OrderedKept;
 pub use reasons::{AtSymbol, missing_reason};
 pub use same::{same_reason, word_place};

@@ -3,7 +3,7 @@ ghost use Rattle.std.specs.Prelude.{◌≡◌, ◌<◌, ◌^◌, pos};
 ghost use Rattle.std.specs.Int.{int_gap};
 ghost use Rattle.explain_model.specs.Margins.{control_class, data_class_of};
 ghost use Rattle.explain_reasons.specs.Records.{distance_by, distance_in};
-ghost use Rattle.explain_records.specs.OfLines.{LinesTellRecords, command_of_line, data_of_line, header_of_line, why_of};
+ghost use Rattle.explain_records.specs.OfLines.{command_of_line, data_of_line, header_of_line, why_of};
 
 use air_source::Side;
 use explain_lines::{ControlLine, DataLine, Timing, WholeAnswer, WholeLine};
@@ -140,8 +140,3 @@ pub fn header_record(side: Side, ep: usize, line: &WholeLine) -> Option<HeaderRe
         None => None,
     }
 }
-
-/// What is kept of a line is what is kept of its judgement.
-pub fn lines_tell_records()
-    ensures { LinesTellRecords }
-{}
