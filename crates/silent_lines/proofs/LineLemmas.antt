@@ -1,17 +1,21 @@
 -- Each line of a valid plan fits its endpoint.
 use Rattle.std.proofs.Common.{◌≡◌, ℕ, ◌+◌, ◌<◌, ◌≤◌, ◌^◌, ◌==◌, not, ◌&&◌, nat_lt, inl, inr, Bool, true, false, List, [], ◌∷◌, refl, arith}
-use Rattle.std.specs.Prelude.{if◌then◌else◌}
+use Rattle.std.specs.Prelude.{All, if◌then◌else◌}
 use Rattle.std.specs.List.{AllByRecursion}
 use Rattle.std.proofs.lemmas.Bool.{ltb-false}
 use Rattle.fh_time.specs.Carrier.{count_of, first_of, is_outside}
 use Rattle.fh_time.specs.declared.carrier.TheConstants.{CARRIER_PRBS}
 use Rattle.fragment_laws.specs.Apart.{IsIn}
+use Rattle.window_config.specs.Configs.{IsConfig}
+use Rattle.window_config.specs.Plans.{IsPlanLine}
+use Rattle.window_config.specs.declared.config.Config.{Config}
 use Rattle.window_config.specs.declared.endpoints.EndpointConfig.{EndpointConfig}
+use Rattle.window_config.specs.declared.plan.PlanLine.{PlanLine}
 use Rattle.plan_model.specs.Lines.{planned}
+use Rattle.plan_model.specs.Valid.{IsValid}
 use Rattle.plan_model.specs.declared.lines.PlannedLine.{PlannedLine}
 use Rattle.schedule_laws.proofs.LineLemmas.{IsGoodLine, line_good}
 use Rattle.silent_lines.specs.Silent.{IsSilentLine}
-use Rattle.silent_lines.specs.PlanLaws.{ValidLinesAreSilentLines}
 
 -- the PRBs of a line are those of its carrier
 within : (prbs start num : ℕ) → prbs ≤ CARRIER_PRBS → is_outside prbs start num ≡ false → first_of start num + count_of prbs num < 2 ^ 16
@@ -35,6 +39,6 @@ each_in : {A : Type 0} (P : A → Type 0) (xs : List A) → ((x : A) → IsIn x 
 each_in P [] h = tt
 each_in P (x ∷ xs) h = (h x (inl refl), each_in P xs (λ y there. h y (inr there)))
 
-pub lines_fit : ValidLinesAreSilentLines
+pub lines_fit : (c : Config) (plan : List PlanLine) → IsConfig c → All IsPlanLine plan → IsValid c plan → AllByRecursion IsSilentLine (planned c.endpoints plan)
 lines_fit c plan config fit valid =
     each_in IsSilentLine (planned c.endpoints plan) (λ p there. fits c.endpoints p (line_good c plan config fit valid p there))

@@ -13,7 +13,7 @@ use Rattle.window_config.specs.declared.plan.PlanLine.{PlanLine}
 use Rattle.unit_model.specs.Claims.{first_prb, in_mask, prb_count}
 use Rattle.unit_model.specs.Lists.{each}
 use Rattle.unit_model.specs.Meetings.{find_endpoint}
-use Rattle.plan_model.specs.Lines.{line_allocation, planned_from, planned_with}
+use Rattle.plan_model.specs.Lines.{line_allocation, planned, planned_from, planned_with}
 use Rattle.plan_model.specs.declared.lines.PlannedLine.{PlannedLine}
 use Rattle.explain_model.specs.Pieces.{pieces}
 use Rattle.explain_reasons.proofs.AloneLemmas.{others_never_matter}
@@ -21,17 +21,17 @@ use Rattle.explain_reasons.proofs.SeenLemmas.{runs_hold_cells}
 use Rattle.explain_reasons.specs.Commanded.{command_reason}
 use Rattle.explain_reasons.specs.Reasons.{Kept, kept}
 use Rattle.explain_reasons.specs.Seen.{Seen, cell_runs, is_heard, seen}
-use Rattle.explain_reasons.specs.Silent.{SilentPrb, SilentSymbol, goes_on_silent, is_dl, line_elements, silent_line, silent_lines_of, silent_mask, silent_of, silent_of_line, silent_prb, silent_prbs, silent_symbol, silent_symbol_lines, silent_symbols}
+use Rattle.explain_reasons.specs.Silent.{SilentPrb, SilentSymbol, goes_on_silent, is_dl, line_elements, silent_line, silent_lines, silent_lines_of, silent_mask, silent_of, silent_of_line, silent_prb, silent_prbs, silent_symbol, silent_symbol_lines, silent_symbols}
 use Rattle.explain_records.specs.Stored.{SameBySymbol}
 use Rattle.line_runs.specs.Runs.{lines_of_runs, piece_line, run_lines}
 use Rattle.line_runs.proofs.MapLemmas.{run_lines_map}
 use Rattle.reason_records.specs.Keys.{run_key}
+use Rattle.reason_records.specs.declared.keys.SymbolKey.{SymbolKey}
 use Rattle.reason_records.specs.declared.runs.CellRun.{CellRun}
 use Rattle.reason_records.specs.declared.sections.CommandRecord.{CommandRecord}
 use Rattle.symbol_records.specs.Keys.{of_symbol}
 use Rattle.explain_records.proofs.MissingLemmas.{each_same}
-use Rattle.silent_lines.specs.Laws.{LinesAreNumbered, SameRunsBySymbol, SilentAreTold}
-use Rattle.silent_lines.specs.Silent.{commands_of, has_element, line_symbol, silent_item, silent_item_if, silent_items, silent_items_at, silent_items_if, silent_items_of, silent_items_of_symbol, silent_line_of, silent_mask_by, silent_related, symbol_key}
+use Rattle.silent_lines.specs.Silent.{commands_of, has_element, line_symbol, silent_item, silent_item_if, silent_items, silent_items_at, silent_items_if, silent_items_of, silent_items_of_symbol, silent_line_of, silent_mask_by, silent_related, silent_text, symbol_key}
 use Rattle.silent_lines.specs.declared.items.SilentItem.{SilentItem}
 use Rattle.silent_lines.proofs.HeardLemmas.{IsFound, heard_is, line_found}
 use Rattle.silent_lines.proofs.ListLemmas.{all_append, all_each, all_weaker, map_each}
@@ -151,7 +151,7 @@ prbs_told s =
 -- ---- a replay
 
 module _ (c : Config) (events : List Event) (ordered : Kept) (sorted : List CellRun) (numbers : List ℕ) (same : SameBySymbol (kept c events) ordered)
-    (by_symbol : SameRunsBySymbol (cell_runs c events) sorted) where
+    (by_symbol : (key : SymbolKey) → of_symbol run_key key sorted ≡ of_symbol run_key key (cell_runs c events)) where
   abbrev commands : List CommandRecord
   commands = (kept c events).commanded
 
@@ -247,11 +247,14 @@ module _ (c : Config) (events : List Event) (ordered : Kept) (sorted : List Cell
           ∙ ap₂ (λ x y. x ++ y) (line_told p (line_found c.endpoints k line found is)) told
           ∙ sym (flat_map-append silent_symbol_lines (silent_of commands (seen events) numbers p) (flat_map (silent_of commands (seen events) numbers) (planned_from c.endpoints (k + 1) plan)))
 
-pub silent_told : SilentAreTold
+-- of every plan, whatever the configuration and the events
+pub silent_told : (c : Config) (plan : List PlanLine) (numbers : List ℕ) (events : List Event) (ordered : Kept) (sorted : List CellRun) → SameBySymbol (kept c events) ordered
+    → ((key : SymbolKey) → of_symbol run_key key sorted ≡ of_symbol run_key key (cell_runs c events))
+    → silent_text ordered sorted numbers (planned c.endpoints plan) ≡ silent_lines c plan numbers events
 unfolding silent_lines_of silent_symbols
 silent_told c plan numbers events ordered sorted same by_symbol = plan_told c events ordered sorted numbers same by_symbol 0 plan
 
--- ---- the places of a plan's lines
+-- ---- the places of a plan's lines are below their number
 
 below : (es : List EndpointConfig) (k n : ℕ) (plan : List PlanLine) → k + length plan ≤ n → AllByRecursion (λ (p : PlannedLine). p.index < n) (planned_from es k plan)
 unfolding planned_from
@@ -263,5 +266,6 @@ below es k n (line ∷ plan) le = one (find_endpoint es line.id) (below es (k + 
     one None rest = rest
     one (Some found) rest = (let b : k < n = omega (arith, le) in b, rest)
 
-pub are_numbered : LinesAreNumbered
+pub are_numbered : (es : List EndpointConfig) (plan : List PlanLine) (numbers : List ℕ) → length numbers ≡ length plan
+    → AllByRecursion (λ (p : PlannedLine). p.index < length numbers) (planned es plan)
 are_numbered es plan numbers same = below es 0 (length numbers) plan (omega (arith, same))

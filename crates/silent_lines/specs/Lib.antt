@@ -1,4 +1,2 @@
 pub mod Silent
 pub mod SilentSteps
-pub mod Laws
-pub mod PlanLaws
