@@ -3,5 +3,4 @@ pub mod StartLemmas
 pub mod ShownLemmas
 pub mod TextLemmas
 pub mod TellLemmas
-pub mod RecordLemmas
 pub mod ProperLemmas

@@ -24,9 +24,9 @@ use Rattle.explain_reasons.specs.Seen.{Seen, cell_runs, ep_found, ep_of, is_at, 
 use Rattle.explain_reasons.specs.Unused.{key_at}
 use Rattle.explain_reasons.proofs.SeenLemmas.{runs_hold_cells}
 use Rattle.reason_records.specs.Keys.{run_key, same_symbol}
+use Rattle.reason_records.specs.declared.keys.SymbolKey.{SymbolKey}
 use Rattle.reason_records.specs.declared.runs.CellRun.{CellRun}
 use Rattle.symbol_records.specs.Keys.{of_symbol}
-use Rattle.unused_lines.specs.Laws.{SameRuns}
 use Rattle.unused_lines.specs.Unused.{is_shown_by, shows}
 
 -- ---- one of a list
@@ -171,7 +171,7 @@ module _ (c : Config) (config : IsConfig c) (side : Side) (s : SymbolStart) (at 
   all_show [] h = tt
   all_show (r ∷ rs) h = (run_shows r h.0, all_show rs h.1)
 
-  pub shown_same : (events : List Event) (sorted : List CellRun) → SameRuns (cell_runs c events) sorted
+  pub shown_same : (events : List Event) (sorted : List CellRun) → ((key : SymbolKey) → of_symbol run_key key sorted ≡ of_symbol run_key key (cell_runs c events))
       → is_shown_by (of_symbol run_key (key_at side s) sorted) s.endpoint.id prb ≡ is_shown_at (seen events) side s.endpoint.id s.slot s.symbol prb
   unfolding cell_runs is_shown_at
   shown_same events sorted same =

@@ -28,7 +28,6 @@ use Rattle.reason_records.specs.declared.data.DataRecord.{DataRecord}
 use Rattle.reason_records.specs.declared.keys.SymbolKey.{SymbolKey}
 use Rattle.reason_records.specs.declared.runs.CellRun.{CellRun}
 use Rattle.symbol_records.specs.Keys.{of_symbol}
-use Rattle.unused_lines.specs.Laws.{SameRuns, UnusedAreTold}
 use Rattle.unused_lines.specs.Unused.{symbol_text_in, symbols_text, unit_text, unused_line_of, unused_prb_of, unused_prbs_at, unused_prbs_with, unused_related, unused_text}
 use Rattle.unused_lines.specs.declared.blocks.UnitSymbol.{UnitSymbol}
 use Rattle.unused_lines.specs.declared.blocks.UnusedPrb.{UnusedPrb}
@@ -110,7 +109,7 @@ either_map f true xs = refl
 either_map f false xs = refl
 
 module _ (c : Config) (events : List Event) (ordered : Kept) (sorted : List CellRun) (config : IsConfig c) (all_same : SameBySymbol (kept c events) ordered)
-    (runs_same : SameRuns (cell_runs c events) sorted) where
+    (runs_same : (key : SymbolKey) → of_symbol run_key key sorted ≡ of_symbol run_key key (cell_runs c events)) where
   given_same : (key : SymbolKey) → filter (λ r. same_symbol (data_key r) key) ordered.given ≡ filter (λ r. same_symbol (data_key r) key) (kept c events).given
   given_same key = ap (λ (k : Kept). k.given) (all_same key)
 
@@ -156,5 +155,7 @@ module _ (c : Config) (events : List Event) (ordered : Kept) (sorted : List Cell
       ap₂ (λ x y. x ++ y) (unit_same Ru) (unit_same Du)
       ∙ sym (flat_map-append unused_symbol_lines (unused_of_unit c.endpoints (kept c events).given (seen events) Ru) (unused_of_unit c.endpoints (kept c events).given (seen events) Du))
 
-pub unused_told : UnusedAreTold
+-- for records and runs of cells that are the same of each symbol
+pub unused_told : (c : Config) (events : List Event) (ordered : Kept) (sorted : List CellRun) → IsConfig c → SameBySymbol (kept c events) ordered
+    → ((key : SymbolKey) → of_symbol run_key key sorted ≡ of_symbol run_key key (cell_runs c events)) → unused_text c.endpoints ordered sorted ≡ unused_lines c events
 unused_told c events ordered sorted config all_same runs_same = text_same c events ordered sorted config all_same runs_same

@@ -1,4 +1,3 @@
 pub mod Starts
 pub mod Unused
 pub mod UnusedSteps
-pub mod Laws

@@ -2,9 +2,7 @@
 #![tactic(auto)]
 
 mod blocks;
-mod laws;
 mod starts;
 mod telling;
 
-pub use laws::{given_are_proper, given_stay, unused_are_told};
 pub use telling::tell_unused;
