@@ -1,10 +1,11 @@
 -- Widths are known by their numbers.
 use Rattle.std.proofs.Common.{◌≡◌, ℕ, ◌+◌, Bool, true, false, subst, ap}
-use Rattle.std.specs.Prelude.{Result, Ok, ◌==◌, refl}
+use Rattle.std.specs.Prelude.{Result, Ok, Err, ◌==◌, refl}
 use Rattle.std.proofs.Math.Nat.{ℕ_set}
-use Rattle.std.proofs.lemmas.Bool.{eqb-false}
+use Rattle.std.proofs.lemmas.Bool.{eqb-false, eqb-true}
 use Rattle.eaxc_map.specs.declared.widths.Widths.{Widths}
 use Rattle.fh_document.specs.declared.refusals.DocWhy.{DocWhy}
+use Rattle.fh_document.specs.declared.refusals.DocWhy.TheVariants.{WidthSum}
 use Rattle.fh_document.specs.ConfigLines.{summed, widths_of}
 
 make : (du band carrier port : ℕ) → du + band + carrier + port ≡ 16 → Widths
@@ -32,3 +33,8 @@ widths_ok w du band carrier port a b c d =
     (subst (λ x. ◌≡◌ {A = Result Widths DocWhy} (Ok w) (widths_of du band x w.port)) c
     (subst (λ x. ◌≡◌ {A = Result Widths DocWhy} (Ok w) (widths_of du x w.carrier w.port)) b
     (subst (λ x. ◌≡◌ {A = Result Widths DocWhy} (Ok w) (widths_of x w.band w.carrier w.port)) a base)))
+
+pub summed_err : (du band carrier port : ℕ) (b : Bool) (is : (du + band + carrier + port == 16) ≡ b) → (du + band + carrier + port ≡ 16 → false ≡ true)
+    → ◌≡◌ {A = Result Widths DocWhy} (Err WidthSum) (summed du band carrier port b is)
+summed_err du band carrier port true is other = let e = other (eqb-true (du + band + carrier + port) 16 is) in cc
+summed_err du band carrier port false is other = refl

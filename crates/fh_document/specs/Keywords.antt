@@ -22,24 +22,34 @@ is_three One = false
 is_three Two = false
 is_three Three = true
 
--- what a first word configures in every version
-abbrev pub common_setting_of : List ℕ → Option Setting
-common_setting_of w =
-    if bytes_eq w (codes "widths") then Some Widths
-    else (if bytes_eq w (codes "t1a") then Some T1a
-    else (if bytes_eq w (codes "t2a") then Some T2a
-    else (if bytes_eq w (codes "advance") then Some Advance
-    else (if bytes_eq w (codes "ta3") then Some Ta3
-    else (if bytes_eq w (codes "ta4") then Some Ta4
+-- the times that are no window of a unit
+abbrev pub delay_setting_of : List ℕ → Option Setting
+delay_setting_of w =
+    if bytes_eq w (codes "advance") then Some Advance
     else (if bytes_eq w (codes "t12") then Some T12
     else (if bytes_eq w (codes "t34") then Some T34
     else (if bytes_eq w (codes "hold") then Some Hold
     else (if bytes_eq w (codes "gap") then Some Gap
+    else None))))
+
+-- the windows of the units, and other times
+abbrev pub window_setting_of : List ℕ → Option Setting
+window_setting_of w =
+    if bytes_eq w (codes "t1a") then Some T1a
+    else (if bytes_eq w (codes "t2a") then Some T2a
+    else (if bytes_eq w (codes "ta3") then Some Ta3
+    else (if bytes_eq w (codes "ta4") then Some Ta4
+    else delay_setting_of w)))
+
+-- what a first word configures in every version
+abbrev pub common_setting_of : List ℕ → Option Setting
+common_setting_of w =
+    if bytes_eq w (codes "widths") then Some Widths
     else (if bytes_eq w (codes "fragment") then Some Fragment
     else (if bytes_eq w (codes "source") then Some Source
     else (if bytes_eq w (codes "antenna") then Some Antenna
     else (if bytes_eq w (codes "comp") then Some Comp
-    else None)))))))))))))
+    else window_setting_of w))))
 
 -- what a first word configures
 abbrev pub setting_of : Version → List ℕ → Option Setting

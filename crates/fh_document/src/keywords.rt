@@ -1,6 +1,6 @@
 // The keywords of lines, and the order of their kinds.
 ghost use Rattle.std.specs.Prelude.{◌≡◌, ◌<◌};
-ghost use Rattle.fh_document.specs.Keywords.{is_after_one, is_three, common_setting_of, setting_of, transit_of, keyword_of, rank_of, number_of};
+ghost use Rattle.fh_document.specs.Keywords.{is_after_one, is_three, delay_setting_of, window_setting_of, common_setting_of, setting_of, transit_of, keyword_of, rank_of, number_of};
 
 use crate::document::Version;
 use line_words::Words;
@@ -59,26 +59,11 @@ pub(crate) fn is_three(version: Version) -> bool
     }
 }
 
-fn common_setting_of(word: &[u8]) -> Option<Setting>
-    ensures { result ≡ common_setting_of word.now }
+fn delay_setting_of(word: &[u8]) -> Option<Setting>
+    ensures { result ≡ delay_setting_of word.now }
 {
-    if word == b"widths".as_slice() {
-        return Some(Setting::Widths);
-    }
-    if word == b"t1a".as_slice() {
-        return Some(Setting::T1a);
-    }
-    if word == b"t2a".as_slice() {
-        return Some(Setting::T2a);
-    }
     if word == b"advance".as_slice() {
         return Some(Setting::Advance);
-    }
-    if word == b"ta3".as_slice() {
-        return Some(Setting::Ta3);
-    }
-    if word == b"ta4".as_slice() {
-        return Some(Setting::Ta4);
     }
     if word == b"t12".as_slice() {
         return Some(Setting::T12);
@@ -92,6 +77,33 @@ fn common_setting_of(word: &[u8]) -> Option<Setting>
     if word == b"gap".as_slice() {
         return Some(Setting::Gap);
     }
+    None
+}
+
+fn window_setting_of(word: &[u8]) -> Option<Setting>
+    ensures { result ≡ window_setting_of word.now }
+{
+    if word == b"t1a".as_slice() {
+        return Some(Setting::T1a);
+    }
+    if word == b"t2a".as_slice() {
+        return Some(Setting::T2a);
+    }
+    if word == b"ta3".as_slice() {
+        return Some(Setting::Ta3);
+    }
+    if word == b"ta4".as_slice() {
+        return Some(Setting::Ta4);
+    }
+    delay_setting_of(word)
+}
+
+fn common_setting_of(word: &[u8]) -> Option<Setting>
+    ensures { result ≡ common_setting_of word.now }
+{
+    if word == b"widths".as_slice() {
+        return Some(Setting::Widths);
+    }
     if word == b"fragment".as_slice() {
         return Some(Setting::Fragment);
     }
@@ -104,7 +116,7 @@ fn common_setting_of(word: &[u8]) -> Option<Setting>
     if word == b"comp".as_slice() {
         return Some(Setting::Comp);
     }
-    None
+    window_setting_of(word)
 }
 
 /// What a first word sets.
