@@ -92,6 +92,33 @@ module _ (cells : ℕ) (old new : List ℕ) (list : List Block) (are : AreNumber
   pub reach_same : (k : ℕ) → get_or (blocks_named list new) k None ≡ get_or (blocks_named list old) k None
   reach_same k = named_at list new k ∙ ap (λ (n : ℕ). block_named list n) (same k) ∙ sym (named_at list old k)
 
+-- ---- all are forgotten
+
+numbered : (list : List Block) (n : ℕ) → n ≤ length list → block_named list n ≡ None → n ≡ 0
+numbered list zero within none = refl
+numbered list (suc k) within none = absurd (some list k within none)
+  where
+    some : (list : List Block) (k : ℕ) → k < length list → slice_get list k ≡ None → ⊥
+    some [] k below none = omega (arith, below)
+    some (b ∷ list) zero below none = cc
+    some (b ∷ list) (suc k) below none = some list k (omega (arith, below)) none
+
+pub unnumbered : (cells : ℕ) (numbers : List ℕ) (list : List Block) (k : ℕ) → AreNumbers cells numbers list → get_or (blocks_named list numbers) k None ≡ None → get_or numbers k 0 ≡ 0
+unnumbered cells numbers list k are none = numbered list (get_or numbers k 0) (are.within k) (sym (named_at list numbers k) ∙ none)
+
+module _ (cells : ℕ) (old new : List ℕ) (list none : List Block) (are : AreNumbers cells old list) (len : length new ≡ length old) (empty : none ≡ [])
+    (blank : (k : ℕ) → get_or new k 0 ≡ 0) where
+  pub wiped_are : AreNumbers cells new none
+  wiped_are = record {
+    few = are.few;
+    most = omega (arith, len, are.most);
+    count = ap length empty ∙ sym (count_blank new blank);
+    within = λ k. omega (arith, blank k);
+  }
+
+  pub wiped_none : (k : ℕ) → get_or (blocks_named none new) k None ≡ None
+  wiped_none k = named_at none new k ∙ ap (λ (n : ℕ). block_named none n) (blank k)
+
 -- ---- a block whose samples are unpacked at the end of a list
 
 pub unpacked_last : (list pushed : List Block) (b x : Block) (n : ℕ) (samples wanted : List Wide) (ok : Bool) → pushed ≡ (if ok then list ++ b ∷ [] else list) → ok ≡ true

@@ -12,7 +12,6 @@ use Rattle.slot_rings.specs.Places.{claim_in, claims_in, no_claims}
 use Rattle.slot_rings.specs.Verdicts.{repeats_by, overlaps_by}
 use Rattle.slot_rings.specs.declared.claims.CellClaims.{CellClaims}
 use Rattle.slot_rings.proofs.RangeLemmas.{every_not, some_from}
-use Rattle.fh_time.specs.declared.symbols.TheConstants.{SLOT_SYMBOLS}
 use Rattle.unit_model.proofs.ClaimLemmas.{is_in as from_in, every_same, some_same, claimed_same, overlapped_same, every_one as every_from, some_one, some_not as some_at}
 
 pub repeats_found : (claims : Cell → ℕ → Option Claim) (a : Allocation)
@@ -99,12 +98,6 @@ in_other_row y z p f c n fits below ne = elim (cases_lt z y) [
   | inl less ↦ let rows = mul-le (z + 1) p y p (omega arith) (omega arith) in from_below (y * p + f) c (z * p + n) (omega (arith, rows))
   | inr more ↦ let rows = mul-le (y + 1) p z p (omega (arith, ne)) (omega arith) in from_above (y * p + f) c (z * p + n) (omega (arith, rows))
 ]
-
-pub row_fits : (y p f c room : ℕ) → y < SLOT_SYMBOLS → f + c ≤ p → SLOT_SYMBOLS * p ≤ room → y * p + f + c ≤ room
-row_fits y p f c room within fits has = let rows = mul-le (y + 1) p SLOT_SYMBOLS p (omega arith) (omega arith) in omega (arith, rows)
-
-pub cell_fits : (y p n room : ℕ) → y < SLOT_SYMBOLS → n < p → SLOT_SYMBOLS * p ≤ room → y * p + n < room
-cell_fits y p n room within fits has = let rows = mul-le (y + 1) p SLOT_SYMBOLS p (omega arith) (omega arith) in omega (arith, rows)
 
 pub cell_apart : (y z p m n : ℕ) → m < p → n < p → y * p + m ≡ z * p + n → (y ≡ z) × (m ≡ n)
 cell_apart y z p m n left right e = elim (cases_eq y z) [

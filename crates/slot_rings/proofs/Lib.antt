@@ -12,3 +12,4 @@ pub mod CountLemmas
 pub mod SpanLemmas
 pub mod RunLemmas
 pub mod ReportedLemmas
+pub mod WrittenLemmas

@@ -12,7 +12,7 @@ use Rattle.unit_model.specs.declared.cells.Cell.{Cell}
 use Rattle.unit_model.specs.declared.cells.Claim.{Claim}
 use Rattle.unit_model.specs.declared.verdicts.CommandVerdict.TheVariants.{Accepted}
 use Rattle.slot_rings.specs.Pending.{IsFlagged, due_in, flag_at}
-use Rattle.slot_rings.specs.Places.{PlaceValue, blank, cell_number, claim_in, empty_place, is_due, is_in_use, is_place_of, is_reported, claims_seen, no_claims, unreported, opened, place_claim}
+use Rattle.slot_rings.specs.Places.{PlaceValue, blank, cell_number, IsOpened, claim_in, is_due, is_in_use, is_place_of, is_reported, claims_seen, no_claims, unreported, place_claim}
 use Rattle.slot_rings.specs.Rings.{IsRing, RingValue, has_slot, place_index, place_of}
 use Rattle.slot_rings.specs.Starts.{ring_due}
 use Rattle.slot_rings.specs.Verdicts.{claim_after}
@@ -58,22 +58,18 @@ no_due g d none = due_less (λ re. None) g d (λ re below off. ap is_used (none 
 
 -- ---- the cells of a symbol, as a place changes
 
-pub due_empty : (prbs s : ℕ) (p : PlaceValue) → p.down ≡ [] → due_in prbs p s ≡ false
-due_empty prbs s p e = some_from 0 prbs _ (λ n low high.
-    no_due _ _ (λ re below. ap (λ (l : List CellClaims). claim_in (get_or l (cell_number prbs s 0 + n) no_claims) re) e ∙ no_claim re))
+pub due_wiped : (prbs s : ℕ) (p : PlaceValue) → ((k : ℕ) → get_or p.down k no_claims ≡ no_claims) → due_in prbs p s ≡ false
+due_wiped prbs s p none = some_from 0 prbs _ (λ n low high.
+    no_due _ _ (λ re below. ap (λ (m : CellClaims). claim_in m re) (none (cell_number prbs s 0 + n)) ∙ no_claim re))
 
 pub filled_quiet : (prbs s : ℕ) (p q : PlaceValue) → q.down ≡ p.down → due_in prbs p s ≡ false → due_in prbs q s ≡ false
 filled_quiet prbs s p q down off = some_same 0 prbs _ _ (λ n low high.
     ap (λ (ms : List CellClaims). is_due (claim_in (get_or ms (cell_number prbs s 0 + n) no_claims)) (is_reported ms (cell_number prbs s 0 + n))) down) ∙ off
 
-pub opened_quiet : (prbs s : ℕ) (slot : Slot) (p q : PlaceValue) → q ≡ opened slot p → due_in prbs p s ≡ false → due_in prbs q s ≡ false
+pub opened_quiet : (prbs s : ℕ) (slot : Slot) (p q : PlaceValue) → IsOpened slot p q → due_in prbs p s ≡ false → due_in prbs q s ≡ false
 opened_quiet prbs s slot p q is off = elim (cases_Bool (is_place_of p.slot slot)) [
-  | inl own ↦
-      let same : q ≡ p = rw own at is in
-      ap (λ (x : PlaceValue). due_in prbs x s) same ∙ off
-  | inr other ↦
-      let new : q ≡ empty_place (Some slot) p.prbs = rw other at is in
-      due_empty prbs s q (ap (λ (x : PlaceValue). x.down) new)
+  | inl own ↦ ap (λ (x : PlaceValue). due_in prbs x s) (is.own own) ∙ off
+  | inr other ↦ due_wiped prbs s q (is.other other).down
 ]
 
 unused_due : (g : ℕ → Option Claim) (c d : Bool) → is_due g c ≡ false → (c ≡ true → d ≡ true) → is_due g d ≡ false
@@ -214,7 +210,7 @@ flagged_told r flags new i symbol p q all flagged within read size others claims
 pub flagged_empty : (r : RingValue) (flags : List (List Bool)) → length flags ≡ length r.places → ((i : ℕ) → (get_or r.places i blank).down ≡ []) → IsFlagged r flags
 flagged_empty r flags size empty = record {
   size = size;
-  quiet = λ i s off. due_empty r.endpoint.prbs s (get_or r.places i blank) (empty i);
+  quiet = λ i s off. due_wiped r.endpoint.prbs s (get_or r.places i blank) (λ k. ap (λ (l : List CellClaims). get_or l k no_claims) (empty i));
 }
 
 pub downs_pushed : (xs : List PlaceValue) (p : PlaceValue) → ((i : ℕ) → (get_or xs i blank).down ≡ []) → p.down ≡ []

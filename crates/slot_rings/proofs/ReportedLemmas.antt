@@ -6,8 +6,11 @@ use Rattle.std.proofs.lemmas.Bool.Decides.{nat_tests}
 use Rattle.std.proofs.lemmas.List.{get_or-drop, get_or_past, take_rest}
 use Rattle.unit_model.specs.Claims.{is_from}
 use Rattle.fh_time.proofs.Orders.{both_ways}
+use Rattle.slot_rings.specs.Places.{claim_in, is_in_use, is_reported, no_claims, unreported}
+use Rattle.slot_rings.specs.declared.claims.CellClaims.{CellClaims}
 use Rattle.slot_rings.proofs.JudgeLemmas.{from_above, from_below}
 use Rattle.slot_rings.proofs.RunLemmas.{behind_all, not_before, not_last}
+use Rattle.slot_rings.proofs.SpanLemmas.{never_used}
 use Rattle.unit_model.proofs.ClaimLemmas.{is_in as from_in, starts_before as from_low, from_within as from_high}
 
 -- what a list has from one number on
@@ -54,6 +57,25 @@ still_reported old new uses from count here others i was = elim (cases_Bool (is_
       subst (λ (j : ℕ). old j ≡ true → new j ≡ true) at
       (λ was. here (i - from) (omega (arith, low, high)) ∙ true_or (old (from + (i - from))) (uses (from + (i - from))) was) was
 ]
+
+-- ---- of a cell without claims nothing is
+
+blank_flag : (m : CellClaims) → unreported m ≡ no_claims → m.reported ≡ false → m ≡ no_claims
+blank_flag m is none = ap (λ (b : Bool). record m { reported = b }) none ∙ is
+
+pub blank_reported : (old new : List CellClaims) (from count k : ℕ)
+    → ((j : ℕ) → j < count → is_reported new (from + j) ≡ (is_reported old (from + j) || is_in_use (claim_in (get_or old (from + j) no_claims))))
+    → ((i : ℕ) → is_from from count i ≡ false → is_reported new i ≡ is_reported old i)
+    → ((i : ℕ) → unreported (get_or new i no_claims) ≡ unreported (get_or old i no_claims))
+    → get_or old k no_claims ≡ no_claims → get_or new k no_claims ≡ no_claims
+blank_reported old new from count k here others claims blank = blank_flag (get_or new k no_claims) (claims k ∙ ap unreported blank) (elim (cases_Bool (is_from from count k)) [
+  | inr outside ↦ others k outside ∙ ap (λ (m : CellClaims). m.reported) blank
+  | inl inside ↦
+      let low = from_low from count k inside in
+      let at : from + (k - from) ≡ k = omega (arith, low) in
+      subst (λ (j : ℕ). get_or old j no_claims ≡ no_claims → is_reported new j ≡ false) at
+      (λ none. here (k - from) (omega (arith, low, from_high from count k inside)) ∙ ap (λ (m : CellClaims). m.reported || is_in_use (claim_in m)) none ∙ never_used) blank
+])
 
 -- a PRB behind the first so many is none of them
 pub prb_behind : (count n : ℕ) → count ≤ n → is_from 0 count n ≡ false

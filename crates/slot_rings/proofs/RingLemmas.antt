@@ -16,13 +16,13 @@ use Rattle.unit_model.specs.Proper.{IsSlot}
 use Rattle.unit_model.specs.declared.allocations.Allocation.{Allocation}
 use Rattle.unit_model.specs.declared.cells.Cell.{Cell}
 use Rattle.unit_model.specs.declared.cells.Claim.{Claim}
-use Rattle.slot_rings.specs.Places.{PlaceValue, blank, empty_place, opened, is_in_use, is_reported, unreported, is_place_of, claims_of, claims_seen, claim_in, no_claims, place_claim, place_block, place_reported, place_uplink, cell_number}
+use Rattle.slot_rings.specs.Places.{IsOpened, IsWiped, PlaceValue, blank, is_in_use, is_reported, unreported, is_place_of, claims_of, claims_seen, claim_in, no_claims, place_claim, place_block, place_reported, place_uplink, cell_number}
 use Rattle.slot_rings.specs.Rings.{RingValue, IsRing, SharePlace, SameClaims, SameBlocks, SameSlotReported, SameUplink, place_index, place_of, with_place, ring_claim, ring_block, ring_reported, ring_uplink, has_slot}
 use Rattle.slot_rings.specs.declared.claims.CellClaims.{CellClaims}
 use Rattle.unit_model.specs.declared.verdicts.CommandVerdict.TheVariants.{Accepted}
 use Rattle.slot_rings.specs.Verdicts.{verdict_by, claim_after}
 use Rattle.slot_rings.proofs.SeenLemmas.{mask_seen, verdict_seen}
-use Rattle.slot_rings.proofs.PlaceLemmas.{of_is, of_own, no_claim}
+use Rattle.slot_rings.proofs.PlaceLemmas.{of_own, no_claim}
 use Rattle.fh_time.specs.declared.symbols.TheConstants.{SLOT_SYMBOLS}
 use Rattle.unit_model.proofs.ClaimLemmas.{same_slot_is as slot_is}
 
@@ -97,20 +97,14 @@ some_own : (s t : Slot) → Some s ≡ Some t → s ≡ t
 some_own s t e = cc
 
 pub put_opened : (r : RingValue) (i : ℕ) (p q : PlaceValue) (slot : Slot) → IsRing r → i < length r.places → p ≡ get_or r.places i p
-    → IsSlot r.endpoint.numerology slot → i ≡ place_index r slot → q ≡ opened slot p → IsRing (put r i q)
-put_opened r i p q slot ring within read is i_is q_is = elim (cases_Bool (is_place_of p.slot slot)) [
-  | inl own ↦
-      let same : q ≡ p = rw own at q_is in
-      put_kept r i p q ring within read (ap (λ (x : PlaceValue). x.slot) same) (ap (λ (x : PlaceValue). x.prbs) same)
-  | inr other ↦
-      let there : p ≡ get_or r.places i blank = get_or_read r.places i p within read blank in
-      let new : q ≡ empty_place (Some slot) p.prbs = rw other at q_is in
-      put_ring r i q ring within
-      (ap (λ (x : PlaceValue). x.prbs) new ∙ ap (λ (x : PlaceValue). x.prbs) there ∙ ring.widths i within)
-      (λ s e.
-      let s_is : slot ≡ s = some_own slot s (sym (ap (λ (x : PlaceValue). x.slot) new) ∙ e) in
-      (subst (λ (x : Slot). IsSlot r.endpoint.numerology x) s_is is, subst (λ (x : Slot). place_index r x ≡ i) s_is (sym i_is)))
-]
+    → IsSlot r.endpoint.numerology slot → i ≡ place_index r slot → IsOpened slot p q → IsRing (put r i q)
+put_opened r i p q slot ring within read is i_is opened =
+    let there : p ≡ get_or r.places i blank = get_or_read r.places i p within read blank in
+    put_ring r i q ring within
+    (opened.prbs ∙ ap (λ (x : PlaceValue). x.prbs) there ∙ ring.widths i within)
+    (λ s e.
+    let s_is : slot ≡ s = some_own slot s (sym opened.slot ∙ e) in
+    (subst (λ (x : Slot). IsSlot r.endpoint.numerology x) s_is is, subst (λ (x : Slot). place_index r x ≡ i) s_is (sym i_is)))
 
 -- what was read is the slot's place
 pub read_is : (r s : RingValue) (i : ℕ) (p : PlaceValue) (slot : Slot) → IsRing r → r ≡ s → i ≡ place_index s slot → p ≡ get_or r.places i p → p ≡ place_of s slot
@@ -221,86 +215,72 @@ used_reported old new slot symbol ep prb endpoint was is step =
 
 -- ---- a slot that is given its place
 
-opened_owner : (slot : Slot) (p : PlaceValue) → (opened slot p).slot ≡ Some slot
-opened_owner slot p = elim (cases_Bool (is_place_of p.slot slot)) [
-  | inl own ↦ rw own (of_is p.slot slot own)
-  | inr other ↦ rw other refl
+module _ (prbs : ℕ) (p q : PlaceValue) (cell : Cell) (is : IsOpened cell.slot p q) where
+  owned : is_place_of q.slot cell.slot ≡ true
+  owned = ap (λ (o : Option Slot). is_place_of o cell.slot) is.slot ∙ of_own cell.slot
+
+  opened_claim : (re : ℕ) → place_claim prbs q cell re ≡ place_claim prbs p cell re
+  opened_claim re = elim (cases_Bool (is_place_of p.slot cell.slot)) [
+    | inl own ↦ ap (λ (x : PlaceValue). place_claim prbs x cell re) (is.own own)
+    | inr other ↦ rw (other, owned) (ap (λ (m : CellClaims). claim_in m re) (none cell.down (is.other other)) ∙ no_claim re)
+  ]
+    where
+      none : (b : Bool) → IsWiped q → get_or (claims_of q b) (cell_number prbs cell.symbol cell.prb) no_claims ≡ no_claims
+      none true wiped = wiped.down (cell_number prbs cell.symbol cell.prb)
+      none false wiped = wiped.up (cell_number prbs cell.symbol cell.prb)
+
+  opened_block : place_block prbs q cell ≡ place_block prbs p cell
+  opened_block = elim (cases_Bool (is_place_of p.slot cell.slot)) [
+    | inl own ↦ ap (λ (x : PlaceValue). place_block prbs x cell) (is.own own)
+    | inr other ↦ rw (other, owned) ((is.other other).blocks (cell_number prbs cell.symbol cell.prb))
+  ]
+
+  opened_reported : place_reported prbs q cell ≡ place_reported prbs p cell
+  opened_reported = elim (cases_Bool (is_place_of p.slot cell.slot)) [
+    | inl own ↦ ap (λ (x : PlaceValue). place_reported prbs x cell) (is.own own)
+    | inr other ↦ rw (other, owned) (ap (λ (m : CellClaims). m.reported) ((is.other other).down (cell_number prbs cell.symbol cell.prb)))
+  ]
+
+opened_uplink : (p q : PlaceValue) (slot : Slot) → IsOpened slot p q → place_uplink q slot ≡ place_uplink p slot
+opened_uplink p q slot is = elim (cases_Bool (is_place_of p.slot slot)) [
+  | inl own ↦ ap (λ (x : PlaceValue). place_uplink x slot) (is.own own)
+  | inr other ↦
+      let o : is_place_of q.slot slot ≡ true = ap (λ (x : Option Slot). is_place_of x slot) is.slot ∙ of_own slot in
+      rw (other, o) (is.other other).uplink
 ]
 
-opened_kept : (slot : Slot) (p : PlaceValue) → is_place_of p.slot slot ≡ true → opened slot p ≡ p
-opened_kept slot p own = rw own refl
+module _ (old new : RingValue) (slot : Slot) (ring : IsRing old) (only : new ≡ with_place old slot (place_of new slot)) (is : IsOpened slot (place_of old slot) (place_of new slot)) where
+  prbs_same : new.endpoint.prbs ≡ old.endpoint.prbs
+  prbs_same = ap (λ (r : RingValue). r.endpoint.prbs) only
 
-opened_claim : (prbs : ℕ) (p : PlaceValue) (cell : Cell) (re : ℕ) → place_claim prbs (opened cell.slot p) cell re ≡ place_claim prbs p cell re
-opened_claim prbs p cell re = elim (cases_Bool (is_place_of p.slot cell.slot)) [
-  | inl own ↦ ap (λ (q : PlaceValue). place_claim prbs q cell re) (opened_kept cell.slot p own)
-  | inr other ↦ let o = of_own cell.slot in rw (other, o) (none (claims_of (empty_place (Some cell.slot) p.prbs) cell.down) (no_claims_yet cell.down))
-]
-  where
-    no_claims_yet : (b : Bool) → claims_of (empty_place (Some cell.slot) p.prbs) b ≡ []
-    no_claims_yet true = refl
-    no_claims_yet false = refl
-
-    none : (ms : List CellClaims) → ms ≡ [] → claim_in (get_or ms (cell_number prbs cell.symbol cell.prb) no_claims) re ≡ None
-    none ms e = ap (λ (l : List CellClaims). claim_in (get_or l (cell_number prbs cell.symbol cell.prb) no_claims) re) e ∙ no_claim re
-
-opened_block : (prbs : ℕ) (p : PlaceValue) (cell : Cell) → place_block prbs (opened cell.slot p) cell ≡ place_block prbs p cell
-opened_block prbs p cell = elim (cases_Bool (is_place_of p.slot cell.slot)) [
-  | inl own ↦ ap (λ (q : PlaceValue). place_block prbs q cell) (opened_kept cell.slot p own)
-  | inr other ↦ let o = of_own cell.slot in rw (other, o) refl
-]
-
-opened_reported : (prbs : ℕ) (p : PlaceValue) (cell : Cell) → place_reported prbs (opened cell.slot p) cell ≡ place_reported prbs p cell
-opened_reported prbs p cell = elim (cases_Bool (is_place_of p.slot cell.slot)) [
-  | inl own ↦ ap (λ (q : PlaceValue). place_reported prbs q cell) (opened_kept cell.slot p own)
-  | inr other ↦ let o = of_own cell.slot in rw (other, o) refl
-]
-
-opened_uplink : (p : PlaceValue) (slot : Slot) → place_uplink (opened slot p) slot ≡ place_uplink p slot
-opened_uplink p slot = elim (cases_Bool (is_place_of p.slot slot)) [
-  | inl own ↦ ap (λ (q : PlaceValue). place_uplink q slot) (opened_kept slot p own)
-  | inr other ↦ let o = of_own slot in rw (other, o) refl
-]
-
-module _ (old new : RingValue) (slot : Slot) (ring : IsRing old) (is : new ≡ with_place old slot (opened slot (place_of old slot))) where
-  endpoint_same : new.endpoint ≡ old.endpoint
-  endpoint_same = ap (λ (r : RingValue). r.endpoint) is
-
-  place_is : (s : Slot) → place_index old s ≡ place_index old slot → place_of new s ≡ opened slot (place_of old slot)
-  place_is s share = ap (λ (r : RingValue). place_of r s) is ∙ put_own old (place_index old slot) (opened slot (place_of old slot)) s ring (sym share)
+  opened_at : (cell : Cell) → cell.slot ≡ slot → IsOpened cell.slot (place_of old cell.slot) (place_of new cell.slot)
+  opened_at cell at = subst (λ (s : Slot). IsOpened s (place_of old s) (place_of new s)) (sym at) is
 
   pub opened_has : has_slot new slot ≡ true
-  opened_has = ap (λ (p : PlaceValue). is_place_of p.slot slot) (place_is slot refl) ∙ ap (λ (o : Option Slot). is_place_of o slot) (opened_owner slot (place_of old slot)) ∙ of_own slot
+  opened_has = ap (λ (o : Option Slot). is_place_of o slot) is.slot ∙ of_own slot
 
   pub opened_claims : SameClaims slot old new
   opened_claims cell re at =
-      let there : place_of new cell.slot ≡ opened cell.slot (place_of old cell.slot) =
-      subst (λ (s : Slot). place_of new s ≡ opened s (place_of old s)) (sym at) (place_is slot refl) in
-      ap (λ (p : PlaceValue). place_claim new.endpoint.prbs p cell re) there
-      ∙ ap (λ (n : ℕ). place_claim n (opened cell.slot (place_of old cell.slot)) cell re) (ap (λ e. e.prbs) endpoint_same)
-      ∙ opened_claim old.endpoint.prbs (place_of old cell.slot) cell re
+      ap (λ (n : ℕ). place_claim n (place_of new cell.slot) cell re) prbs_same
+      ∙ opened_claim old.endpoint.prbs (place_of old cell.slot) (place_of new cell.slot) cell (opened_at cell at) re
 
   pub opened_blocks : SameBlocks slot old new
   opened_blocks cell at =
-      let there : place_of new cell.slot ≡ opened cell.slot (place_of old cell.slot) =
-      subst (λ (s : Slot). place_of new s ≡ opened s (place_of old s)) (sym at) (place_is slot refl) in
-      ap (λ (p : PlaceValue). place_block new.endpoint.prbs p cell) there
-      ∙ ap (λ (n : ℕ). place_block n (opened cell.slot (place_of old cell.slot)) cell) (ap (λ e. e.prbs) endpoint_same)
-      ∙ opened_block old.endpoint.prbs (place_of old cell.slot) cell
+      ap (λ (n : ℕ). place_block n (place_of new cell.slot) cell) prbs_same
+      ∙ opened_block old.endpoint.prbs (place_of old cell.slot) (place_of new cell.slot) cell (opened_at cell at)
 
   pub opened_all_reported : SameSlotReported slot old new
   opened_all_reported cell at =
-      let there : place_of new cell.slot ≡ opened cell.slot (place_of old cell.slot) =
-      subst (λ (s : Slot). place_of new s ≡ opened s (place_of old s)) (sym at) (place_is slot refl) in
-      ap (λ (p : PlaceValue). place_reported new.endpoint.prbs p cell) there
-      ∙ ap (λ (n : ℕ). place_reported n (opened cell.slot (place_of old cell.slot)) cell) (ap (λ e. e.prbs) endpoint_same)
-      ∙ opened_reported old.endpoint.prbs (place_of old cell.slot) cell
+      ap (λ (n : ℕ). place_reported n (place_of new cell.slot) cell) prbs_same
+      ∙ opened_reported old.endpoint.prbs (place_of old cell.slot) (place_of new cell.slot) cell (opened_at cell at)
 
   pub opened_uplinks : SameUplink slot old new
-  opened_uplinks = ap (λ (p : PlaceValue). place_uplink p slot) (place_is slot refl) ∙ opened_uplink (place_of old slot) slot
+  opened_uplinks = opened_uplink (place_of old slot) (place_of new slot) slot is
 
   pub opened_parted : (s : Slot) → SharePlace old s slot → (s ≡ slot → ⊥) → has_slot new s ≡ false
   opened_parted s share ne =
-      ap (λ (p : PlaceValue). is_place_of p.slot s) (place_is s share) ∙ ap (λ (o : Option Slot). is_place_of o s) (opened_owner slot (place_of old slot))
+      ap (λ (o : Option Slot). is_place_of o s) (ap (λ (r : RingValue). (place_of r s).slot) only
+      ∙ ap (λ (p : PlaceValue). p.slot) (put_own old (place_index old slot) (place_of new slot) s ring (sym share)) ∙ is.slot)
       ∙ false_from_ne_true _ (λ same. ne (sym (slot_is slot s same)))
 
 -- ---- a claim in a slot that has its place

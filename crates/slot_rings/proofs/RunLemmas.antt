@@ -2,7 +2,6 @@
 use Rattle.std.proofs.Common.{◌≡◌, ◌≢◌, ℕ, zero, suc, ◌+◌, ◌-◌, ◌*◌, ◌<◌, ◌≤◌, inl, inr, Bool, true, false, List, [], length, take, drop, get_or, refl, ap, sym, subst, ◌∙◌, arith, Option, Some, None}
 use Rattle.std.proofs.lemmas.Bool.{cases_eq, false_from_ne_true}
 use Rattle.std.proofs.lemmas.Bool.Decides.{nat_tests}
-use Rattle.std.proofs.lemmas.Nat.{mul-le}
 use Rattle.std.proofs.lemmas.List.{drop-drop}
 use Rattle.bfp_codec.specs.declared.methods.Method.{Method}
 use Rattle.bfp_codec.specs.declared.samples.Wide.{Wide}
@@ -12,7 +11,6 @@ use Rattle.unit_model.specs.Lists.{or_else}
 use Rattle.unit_model.specs.declared.cells.Block.{Block}
 use Rattle.slot_rings.specs.Runs.{packed_block, unpacked_run}
 use Rattle.slot_rings.proofs.JudgeLemmas.{cell_apart}
-use Rattle.fh_time.specs.declared.symbols.TheConstants.{SLOT_SYMBOLS}
 use Rattle.unit_model.proofs.ClaimLemmas.{starts_before as from_low, is_in as inside_from, from_within as from_high}
 
 -- number k of n PRBs
@@ -64,9 +62,6 @@ module _ (old mid new : List (Option Block)) (from k id : ℕ) (run : List (List
   more_others i h = others i (not_last from k i h) ∙ same i (not_before from k i h)
 
 -- ---- the numbers of some cells of a symbol
-
-pub cells_fit : (y p n count : ℕ) → y < SLOT_SYMBOLS → n + count ≤ p → y * p + n + count ≤ SLOT_SYMBOLS * p
-cells_fit y p n count within fits = let rows = mul-le (y + 1) p SLOT_SYMBOLS p (omega arith) (omega arith) in omega (arith, rows)
 
 pub cells_outside : (y z p m n count : ℕ) → m < p → n + count ≤ p → (y ≡ z → is_from n count m ≡ false) → is_from (z * p + n) count (y * p + m) ≡ false
 cells_outside y z p m n count left fits apart = false_from_ne_true _ (λ inside.

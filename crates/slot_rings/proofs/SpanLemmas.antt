@@ -3,6 +3,7 @@ use Rattle.std.proofs.Common.{◌≡◌, ℕ, ◌+◌, ◌<◌, not, ◌&&◌, t
 use Rattle.slot_rings.specs.Places.{cell_number, claim_in, is_due, is_in_use, no_claims}
 use Rattle.slot_rings.specs.declared.claims.CellClaims.{CellClaims}
 use Rattle.slot_rings.proofs.PendingLemmas.{no_due}
+use Rattle.slot_rings.proofs.PlaceLemmas.{no_claim}
 
 -- none is due of cells without claims
 pub none_due : (prbs symbol base n : ℕ) (claims seen : List CellClaims) (d : Bool) → base ≡ cell_number prbs symbol 0 → claims ≡ seen
@@ -17,6 +18,9 @@ not_in_use false e = refl
 not_in_use true e = cc
 
 -- nor in use
+pub never_used : is_in_use (claim_in no_claims) ≡ false
+never_used = not_in_use (is_in_use (claim_in no_claims)) (no_due (claim_in no_claims) false (λ re below. no_claim re))
+
 pub none_used : (prbs symbol from n : ℕ) (claims : List CellClaims) → from ≡ cell_number prbs symbol 0
     → ((re : ℕ) → re < 12 → claim_in (get_or claims (cell_number prbs symbol n) no_claims) re ≡ None)
     → is_in_use (claim_in (get_or claims (from + n) no_claims)) ≡ false

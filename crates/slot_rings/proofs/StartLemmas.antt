@@ -10,10 +10,10 @@ use Rattle.fh_time.proofs.Orders.{both_ways as unequal}
 use Rattle.unit_model.specs.Claims.{is_from}
 use Rattle.unit_model.specs.declared.allocations.Allocation.{Allocation}
 use Rattle.slot_rings.specs.Pending.{IsFlagged, due_in, flag_at}
-use Rattle.slot_rings.specs.Places.{PlaceValue, blank, empty_place, is_place_of, opened}
+use Rattle.slot_rings.specs.Places.{IsOpened, PlaceValue, blank, is_place_of}
 use Rattle.slot_rings.specs.Rings.{IsRing, RingValue, has_slot, place_index, place_of}
 use Rattle.slot_rings.specs.Starts.{HaveStarts, IsDueFrom, IsLeast, StartsFrom, ring_due, start_at}
-use Rattle.slot_rings.proofs.PendingLemmas.{due_elsewhere, due_empty, due_has}
+use Rattle.slot_rings.proofs.PendingLemmas.{due_elsewhere, due_wiped, due_has}
 use Rattle.slot_rings.proofs.PlaceLemmas.{of_is}
 use Rattle.slot_rings.proofs.RingLemmas.{index_within, put, symbols_are}
 use Rattle.std.proofs.lemmas.Int.{ints}
@@ -71,15 +71,13 @@ starts_kept r starts i p q have within read slot quiet =
 
 -- a place that a slot is given
 pub starts_opened : (r : RingValue) (starts : List Ticks) (i : ℕ) (p q : PlaceValue) (slot : Slot) → HaveStarts r starts → i < length r.places → p ≡ get_or r.places i p
-    → q ≡ opened slot p → HaveStarts (put r i q) starts
-starts_opened r starts i p q slot have within read q_is = elim (cases_Bool (is_place_of p.slot slot)) [
+    → IsOpened slot p q → HaveStarts (put r i q) starts
+starts_opened r starts i p q slot have within read is = elim (cases_Bool (is_place_of p.slot slot)) [
   | inl own ↦
-      let same : q ≡ p = rw own at q_is in
-      starts_kept r starts i p q have within read (ap (λ (x : PlaceValue). x.slot) same) (λ s off. ap (λ (x : PlaceValue). due_in r.endpoint.prbs x s) same ∙ off)
+      starts_kept r starts i p q have within read (ap (λ (x : PlaceValue). x.slot) (is.own own)) (λ s off. ap (λ (x : PlaceValue). due_in r.endpoint.prbs x s) (is.own own) ∙ off)
   | inr other ↦
-      let new : q ≡ empty_place (Some slot) p.prbs = rw other at q_is in
       starts_put r starts starts i p q have within read refl (λ j. int_le_own (start_at starts j))
-      (λ was s x is few due. absurd (unequal (due_in r.endpoint.prbs q s) due (due_empty r.endpoint.prbs s q (ap (λ (y : PlaceValue). y.down) new))))
+      (λ was s x is_x few due. absurd (unequal (due_in r.endpoint.prbs q s) due (due_wiped r.endpoint.prbs s q (is.other other).down)))
 ]
 
 -- a place in which an allocation claims cells

@@ -8,3 +8,4 @@ pub mod Verdicts
 pub mod Rows
 pub mod Runs
 pub mod Symbols
+pub mod Written

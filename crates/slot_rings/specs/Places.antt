@@ -1,5 +1,5 @@
 -- What is kept of one slot of an endpoint, and what it answers of a cell.
-use Rattle.std.specs.Prelude.{ℕ, ◌+◌, ◌*◌, Bool, false, not, ◌==◌, ◌&&◌, if◌then◌else◌, List, [], get_or, Option, Some, None}
+use Rattle.std.specs.Prelude.{◌≡◌, ℕ, ◌+◌, ◌*◌, Bool, true, false, not, ◌==◌, ◌&&◌, if◌then◌else◌, List, [], get_or, Option, Some, None}
 use Rattle.fh_time.specs.declared.values.Slot.{Slot}
 use Rattle.unit_model.specs.Claims.{in_mask, same_slot}
 use Rattle.unit_model.specs.Radiated.{used_mask}
@@ -52,9 +52,19 @@ abbrev pub is_place_of : Option Slot → Slot → Bool
 is_place_of None slot = false
 is_place_of (Some s) slot = same_slot s slot
 
--- a place after it was given to a slot: it forgets what it kept of another one
-abbrev pub opened : Slot → PlaceValue → PlaceValue
-opened slot p = if is_place_of p.slot slot then p else empty_place (Some slot) p.prbs
+-- nothing is kept of any cell, and no uplink section
+pub record IsWiped (p : PlaceValue) : Type 0 where
+  pub down : (k : ℕ) → get_or p.down k no_claims ≡ no_claims
+  pub up : (k : ℕ) → get_or p.up k no_claims ≡ no_claims
+  pub blocks : (k : ℕ) → get_or p.blocks k None ≡ None
+  pub uplink : p.uplink ≡ []
+
+-- a place before and after it was given to a slot: it forgets what it kept of another one
+pub record IsOpened (s : Slot) (old new : PlaceValue) : Type 0 where
+  pub slot : new.slot ≡ Some s
+  pub prbs : new.prbs ≡ old.prbs
+  pub own : is_place_of old.slot s ≡ true → new ≡ old
+  pub other : is_place_of old.slot s ≡ false → IsWiped new
 
 abbrev pub claims_of : PlaceValue → Bool → List CellClaims
 claims_of p down = if down then p.down else p.up

@@ -3,9 +3,11 @@ ghost use Rattle.std.specs.Prelude.{◌≡◌, ◌≢◌, ℕ, ◌+◌, ◌^◌,
 ghost use Rattle.bfp_codec.specs.Layout.{HasWidth, length_of, unpacked_of};
 ghost use Rattle.unit_model.specs.Claims.{is_from};
 ghost use Rattle.unit_model.specs.Lists.{or_else};
+ghost use Rattle.slot_rings.specs.Written.{AreBlankElsewhere};
 
 use crate::lists::{items_from, reach};
 use crate::packed::PackedRun;
+use crate::written::{Spans, wipe};
 use bfp_codec::{Method, Wide, unpack_into};
 use fh_base::NoMemory;
 use std::alloc::Global;
@@ -137,11 +139,13 @@ impl Blocks {
         })
     }
 
-    /// Forgets all.
-    pub(crate) fn clear(&mut self)
-        ensures { self.new ≡ no_blocks self.old.cells }
+    /// Forgets all, where no cells have blocks but those that may have been written, on a carrier of so many PRBs.
+    pub(crate) fn wipe(&mut self, spans: &Spans, prbs: u16)
+        requires { AreBlankElsewhere None prbs spans.now self.old.items }
+        ensures none { (k : ℕ) → get_or self.new.items k None ≡ None }
+        ensures cells { self.new.cells ≡ self.old.cells }
     {
-        self.numbers.clear();
+        wipe(&mut self.numbers, spans, prbs, 0);
         self.list.clear();
     }
 

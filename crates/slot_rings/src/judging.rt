@@ -6,12 +6,14 @@ ghost use Rattle.unit_model.specs.Commands.{is_uplink};
 ghost use Rattle.unit_model.specs.Lists.{every, some};
 ghost use Rattle.slot_rings.specs.Places.{claim_in, claims_in, is_reported, no_claims};
 ghost use Rattle.slot_rings.specs.Rows.{AreRows};
+ghost use Rattle.slot_rings.specs.Written.{AreBlankElsewhere};
 ghost use Rattle.slot_rings.specs.Verdicts.{repeats_by, overlaps_by, verdict_by};
 ghost use Rattle.fh_time.specs.declared.symbols.TheConstants.{SLOT_SYMBOLS};
 
 use crate::claims::{CellClaims, NONE};
-use crate::lists::{extend_from, reach};
+use crate::lists::{put_all, reach};
 use crate::rows::{Row, note, row_at};
+use crate::written::{Spans, is_unwritten, widen};
 use fh_time::SLOT_SYMBOLS;
 use unit_model::{Allocation, CommandVerdict, SLOT_SECTIONS};
 
@@ -165,18 +167,19 @@ pub(crate) fn verdict(
     }
 }
 
-/// Claims the cells from number `from` on, of which nothing was written yet: all are the same.
+/// Claims the cells from number `from` on, which are blank: all are the same.
 fn claim_fresh(claims: &mut Vec<CellClaims>, from: usize, count: usize, a: &Allocation)
-    requires fresh { vec_len claims.old ≤ from }
+    requires fresh { (k : ℕ) → from ≤ k → k < from + count → get_or claims.old.items k no_claims ≡ no_claims }
     requires room { from + count ≤ vec_capacity claims.old }
     requires small { from + count < 2 ^ 32 }
     ensures each { (k re : ℕ) → re < 12 → claim_in (get_or claims.new.items k no_claims) re
         ≡ (if is_from from count k && in_mask a.now.mask re then Some (claim_of a.now) else claim_in (get_or claims.old.items k no_claims) re) }
+    ensures others { (k : ℕ) → is_from from count k ≡ false → get_or claims.new.items k no_claims ≡ get_or claims.old.items k no_claims }
     ensures reported { (k : ℕ) → is_reported claims.new.items k ≡ is_reported claims.old.items k }
     ensures capacity { vec_capacity claims.old ≤ vec_capacity claims.new }
 {
     let one = NONE.with(a.section, a.mask, a.idle);
-    extend_from(claims, from, count, NONE, one);
+    put_all(claims, from, count, NONE, one);
 }
 
 /// Claims the cells from number `from` on, whatever was claimed of them.
@@ -187,6 +190,7 @@ fn claim_more(claims: &mut Vec<CellClaims>, from: usize, count: usize, a: &Alloc
         → is_overlapped a.now.section a.now.mask (claim_in (get_or claims.old.items k no_claims)) ≡ false }
     ensures each { (k re : ℕ) → re < 12 → claim_in (get_or claims.new.items k no_claims) re
         ≡ (if is_from from count k && in_mask a.now.mask re then Some (claim_of a.now) else claim_in (get_or claims.old.items k no_claims) re) }
+    ensures others { (k : ℕ) → is_from from count k ≡ false → get_or claims.new.items k no_claims ≡ get_or claims.old.items k no_claims }
     ensures reported { (k : ℕ) → is_reported claims.new.items k ≡ is_reported claims.old.items k }
     ensures capacity { vec_capacity claims.old ≤ vec_capacity claims.new }
 {
@@ -196,18 +200,27 @@ fn claim_more(claims: &mut Vec<CellClaims>, from: usize, count: usize, a: &Alloc
     }
 }
 
-/// Claims the cells from number `from` on.
-fn claim_row(claims: &mut Vec<CellClaims>, from: usize, count: usize, a: &Allocation)
-    requires room { from + count ≤ vec_capacity claims.old }
-    requires small { from + count < 2 ^ 32 }
-    requires free { (k : ℕ) → from ≤ k → k < from + count
+/// Claims the cells of a symbol that an allocation covers.
+fn claim_row(claims: &mut Vec<CellClaims>, spans: &mut Spans, symbol: usize, a: &Allocation)
+    requires symbol { symbol < SLOT_SYMBOLS }
+    requires inside { is_outside a.now.endpoint.prbs a.now.start_prb a.now.num_prb ≡ false }
+    requires room { SLOT_SYMBOLS * a.now.endpoint.prbs ≤ vec_capacity claims.old }
+    requires blank { AreBlankElsewhere no_claims a.now.endpoint.prbs spans.old claims.old.items }
+    requires free { (k : ℕ) → symbol * a.now.endpoint.prbs + first_prb a.now ≤ k → k < symbol * a.now.endpoint.prbs + first_prb a.now + prb_count a.now
         → is_overlapped a.now.section a.now.mask (claim_in (get_or claims.old.items k no_claims)) ≡ false }
+    ensures blank { AreBlankElsewhere no_claims a.now.endpoint.prbs spans.new claims.new.items }
     ensures each { (k re : ℕ) → re < 12 → claim_in (get_or claims.new.items k no_claims) re
-        ≡ (if is_from from count k && in_mask a.now.mask re then Some (claim_of a.now) else claim_in (get_or claims.old.items k no_claims) re) }
+        ≡ (if is_from (symbol * a.now.endpoint.prbs + first_prb a.now) (prb_count a.now) k && in_mask a.now.mask re then Some (claim_of a.now)
+        else claim_in (get_or claims.old.items k no_claims) re) }
     ensures reported { (k : ℕ) → is_reported claims.new.items k ≡ is_reported claims.old.items k }
     ensures capacity { vec_capacity claims.old ≤ vec_capacity claims.new }
 {
-    if claims.len() <= from {
+    let prbs = a.prbs();
+    let from = symbol * a.endpoint.prbs as usize + prbs.first as usize;
+    let count = prbs.count as usize;
+    let fresh = is_unwritten(spans, symbol, prbs);
+    widen(spans, symbol, prbs);
+    if fresh {
         claim_fresh(claims, from, count, a);
     } else {
         claim_more(claims, from, count, a);
@@ -215,11 +228,13 @@ fn claim_row(claims: &mut Vec<CellClaims>, from: usize, count: usize, a: &Alloca
 }
 
 /// Claims all that an allocation names, where nothing is claimed against it.
-fn claim_cells(claims: &mut Vec<CellClaims>, a: &Allocation)
+fn claim_cells(claims: &mut Vec<CellClaims>, spans: &mut Spans, a: &Allocation)
     requires within { a.now.symbol + a.now.num_symbol ≤ SLOT_SYMBOLS }
     requires inside { is_outside a.now.endpoint.prbs a.now.start_prb a.now.num_prb ≡ false }
     requires room { SLOT_SYMBOLS * a.now.endpoint.prbs ≤ vec_capacity claims.old }
+    requires blank { AreBlankElsewhere no_claims a.now.endpoint.prbs spans.old claims.old.items }
     requires free { overlaps_by (claims_in a.now.endpoint.prbs claims.old.items) a.now ≡ false }
+    ensures blank { AreBlankElsewhere no_claims a.now.endpoint.prbs spans.new claims.new.items }
     ensures each { (symbol prb re : ℕ) → prb < a.now.endpoint.prbs → re < 12
         → claim_in (get_or claims.new.items (symbol * a.now.endpoint.prbs + prb) no_claims) re
         ≡ (if (is_from a.now.symbol a.now.num_symbol symbol && is_from (first_prb a.now) (prb_count a.now) prb) && in_mask a.now.mask re then Some (claim_of a.now)
@@ -227,20 +242,26 @@ fn claim_cells(claims: &mut Vec<CellClaims>, a: &Allocation)
     ensures reported { (k : ℕ) → is_reported claims.new.items k ≡ is_reported claims.old.items k }
     ensures capacity { vec_capacity claims.old ≤ vec_capacity claims.new }
 {
-    let prbs = a.endpoint.prbs as usize;
     let first = a.symbol as usize;
     for symbol in first..first + a.num_symbol as usize {
-        claim_row(claims, symbol * prbs + first_prb(a), prb_count(a), a);
+        claim_row(claims, spans, symbol, a);
     }
 }
 
 /// The same, and notes what is known of its symbols.
-pub(crate) fn claim(claims: &mut Vec<CellClaims>, rows: &mut [Row; SLOT_SYMBOLS], a: &Allocation)
+pub(crate) fn claim(
+    claims: &mut Vec<CellClaims>,
+    spans: &mut Spans,
+    rows: &mut [Row; SLOT_SYMBOLS],
+    a: &Allocation,
+)
     requires rows { AreRows a.now.endpoint.prbs claims.old.items rows.old }
     requires within { a.now.symbol + a.now.num_symbol ≤ SLOT_SYMBOLS }
     requires inside { is_outside a.now.endpoint.prbs a.now.start_prb a.now.num_prb ≡ false }
     requires room { SLOT_SYMBOLS * a.now.endpoint.prbs ≤ vec_capacity claims.old }
+    requires blank { AreBlankElsewhere no_claims a.now.endpoint.prbs spans.old claims.old.items }
     requires free { overlaps_by (claims_in a.now.endpoint.prbs claims.old.items) a.now ≡ false }
+    ensures blank { AreBlankElsewhere no_claims a.now.endpoint.prbs spans.new claims.new.items }
     ensures rows { AreRows a.now.endpoint.prbs claims.new.items rows.new }
     ensures each { (symbol prb re : ℕ) → prb < a.now.endpoint.prbs → re < 12
         → claim_in (get_or claims.new.items (symbol * a.now.endpoint.prbs + prb) no_claims) re
@@ -249,6 +270,6 @@ pub(crate) fn claim(claims: &mut Vec<CellClaims>, rows: &mut [Row; SLOT_SYMBOLS]
     ensures reported { (k : ℕ) → is_reported claims.new.items k ≡ is_reported claims.old.items k }
     ensures capacity { vec_capacity claims.old ≤ vec_capacity claims.new }
 {
-    claim_cells(claims, a);
+    claim_cells(claims, spans, a);
     note(rows, a);
 }

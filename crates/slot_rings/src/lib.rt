@@ -23,6 +23,7 @@ mod rows;
 mod scans;
 mod starts;
 mod symbol_cells;
+mod written;
 
 pub use blocks::LentBlocks;
 pub use claims::CellClaims;

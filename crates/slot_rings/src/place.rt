@@ -10,7 +10,9 @@ ghost use Rattle.unit_model.specs.declared.verdicts.CommandVerdict.TheVariants.{
 ghost use Rattle.slot_rings.specs.Verdicts.{uplink_after};
 ghost use Rattle.slot_rings.specs.Places.{claim_in, is_in_use, is_place_of, is_reported, no_claims, unreported};
 ghost use Rattle.slot_rings.specs.Rows.{AreRows};
+ghost use Rattle.slot_rings.specs.Written.{AreBlankElsewhere};
 ghost use Rattle.slot_rings.specs.declared.rows.Row.{Row};
+ghost use Rattle.slot_rings.specs.declared.rows.Span.{Span};
 ghost use Rattle.slot_rings.specs.Runs.{packed_block, packed_samples};
 ghost use Rattle.fh_time.specs.declared.carrier.TheConstants.{CARRIER_PRBS};
 ghost use Rattle.fh_time.specs.declared.symbols.TheConstants.{SLOT_SYMBOLS};
@@ -22,14 +24,15 @@ use crate::judging::{claim, is_uplink, verdict};
 use crate::lists::reach;
 use crate::packed::PackedRun;
 use crate::rows::{EMPTY, Row, Span, row_at, span_of};
+use crate::written::{Spans, UNWRITTEN, widen, wipe};
 use fh_base::NoMemory;
-use fh_time::{SLOT_SYMBOLS, Slot};
+use fh_time::{PrbSpan, SLOT_SYMBOLS, Slot};
 use std::alloc::Global;
 use std::marker::Model;
 use unit_model::{Allocation, Block, CommandVerdict, SLOT_SECTIONS};
 
-/// What is kept of one slot of an endpoint. Its memory is taken when it is made, as room in lists that begin empty: so a
-/// place is wiped by ending its lists.
+/// What is kept of one slot of an endpoint. Its memory is taken when it is made, as room in lists that begin empty. It is wiped
+/// where its lists were written, and nowhere else.
 #[derive(Drop)]
 pub(crate) struct Place {
     // whose slot it is
@@ -38,6 +41,10 @@ pub(crate) struct Place {
     prbs: u16,
     down: Vec<CellClaims>,
     up: Vec<CellClaims>,
+    // where these lists, and the blocks, may have been written
+    down_spans: Spans,
+    up_spans: Spans,
+    block_spans: Spans,
     // what the claims of each symbol are
     down_rows: [Row; SLOT_SYMBOLS],
     up_rows: [Row; SLOT_SYMBOLS],
@@ -47,11 +54,12 @@ pub(crate) struct Place {
 }
 
 impl Model for Place {
-    ghost use Rattle.std.specs.Prelude.{◌*◌, ◌≤◌, length, reverse, vec_capacity};
+    ghost use Rattle.std.specs.Prelude.{◌*◌, ◌≤◌, length, reverse, vec_capacity, None};
     ghost use Rattle.fh_time.specs.declared.symbols.TheConstants.{SLOT_SYMBOLS};
     ghost use Rattle.unit_model.specs.declared.uplink.TheConstants.{SLOT_SECTIONS};
-    ghost use Rattle.slot_rings.specs.Places.{PlaceValue};
+    ghost use Rattle.slot_rings.specs.Places.{PlaceValue, no_claims};
     ghost use Rattle.slot_rings.specs.Rows.{AreRows};
+    ghost use Rattle.slot_rings.specs.Written.{AreBlankElsewhere};
 
     ghost Value = { PlaceValue };
 
@@ -59,7 +67,9 @@ impl Model for Place {
 
     ghost invariant = { λ p. (SLOT_SYMBOLS * p.prbs ≤ vec_capacity p.down) × (SLOT_SYMBOLS * p.prbs ≤ vec_capacity p.up) × (SLOT_SYMBOLS * p.prbs ≤ p.blocks.cells)
         × (SLOT_SECTIONS ≤ vec_capacity p.uplink) × (length p.uplink.items ≤ SLOT_SECTIONS)
-        × AreRows p.prbs p.down.items p.down_rows × AreRows p.prbs p.up.items p.up_rows };
+        × AreRows p.prbs p.down.items p.down_rows × AreRows p.prbs p.up.items p.up_rows
+        × AreBlankElsewhere no_claims p.prbs p.down_spans p.down.items × AreBlankElsewhere no_claims p.prbs p.up_spans p.up.items
+        × AreBlankElsewhere None p.prbs p.block_spans p.blocks.items };
 }
 
 /// Whether two slots are the same one.
@@ -124,6 +134,7 @@ fn set_used_reported(claims: &mut Vec<CellClaims>, from: usize, count: usize)
     ensures others { (i : ℕ) → is_from from count i ≡ false → is_reported claims.new.items i ≡ is_reported claims.old.items i }
     ensures claims { (i : ℕ) → unreported (get_or claims.new.items i no_claims) ≡ unreported (get_or claims.old.items i no_claims) }
     ensures rows { (prbs : ℕ) (rows : List Row) → AreRows prbs claims.old.items rows → AreRows prbs claims.new.items rows }
+    ensures blank { (prbs : ℕ) (spans : List Span) → AreBlankElsewhere no_claims prbs spans claims.old.items → AreBlankElsewhere no_claims prbs spans claims.new.items }
     ensures capacity { vec_capacity claims.old ≤ vec_capacity claims.new }
 {
     reach(claims, from + count, NONE);
@@ -135,7 +146,7 @@ fn set_used_reported(claims: &mut Vec<CellClaims>, from: usize, count: usize)
 
 impl Place {
     ghost use Rattle.slot_rings.specs.Blocks.{block_lent};
-    ghost use Rattle.slot_rings.specs.Places.{cell_number, claim_in, no_claims, empty_place, opened, claims_seen, blocks_seen, place_claim, place_uplink};
+    ghost use Rattle.slot_rings.specs.Places.{cell_number, claim_in, no_claims, IsOpened, IsWiped, empty_place, claims_seen, blocks_seen, place_claim, place_uplink};
     ghost use Rattle.slot_rings.specs.Verdicts.{overlaps_by, verdict_by, claim_after};
 
     /// Takes all memory, for so many PRBs.
@@ -153,6 +164,9 @@ impl Place {
             prbs,
             down,
             up,
+            down_spans: UNWRITTEN,
+            up_spans: UNWRITTEN,
+            block_spans: UNWRITTEN,
             down_rows: [EMPTY; SLOT_SYMBOLS],
             up_rows: [EMPTY; SLOT_SYMBOLS],
             blocks,
@@ -174,25 +188,30 @@ impl Place {
         self.slot
     }
 
-    /// Gives it to a slot, and forgets all.
-    fn wipe(&mut self, slot: Slot)
-        ensures { self.new ≡ empty_place (Some slot) self.old.prbs }
+    /// Forgets all.
+    fn wipe(&mut self)
+        ensures wiped { IsWiped self.new }
+        ensures slot { self.new.slot ≡ self.old.slot }
+        ensures prbs { self.new.prbs ≡ self.old.prbs }
     {
-        self.slot = Some(slot);
-        self.down.clear();
-        self.up.clear();
+        wipe(&mut self.down, &self.down_spans, self.prbs, NONE);
+        wipe(&mut self.up, &self.up_spans, self.prbs, NONE);
+        self.blocks.wipe(&self.block_spans, self.prbs);
+        self.down_spans = UNWRITTEN;
+        self.up_spans = UNWRITTEN;
+        self.block_spans = UNWRITTEN;
         self.down_rows = [EMPTY; SLOT_SYMBOLS];
         self.up_rows = [EMPTY; SLOT_SYMBOLS];
-        self.blocks.clear();
         self.uplink.clear();
     }
 
     /// Gives it to a slot, and forgets what is of another one.
     pub(crate) fn open(&mut self, slot: Slot)
-        ensures { self.new ≡ opened slot self.old }
+        ensures { IsOpened slot self.old self.new }
     {
         if !self.has(slot) {
-            self.wipe(slot);
+            self.wipe();
+            self.slot = Some(slot);
         }
     }
 
@@ -279,9 +298,9 @@ impl Place {
         ensures kept { self.new ≡ record self.old { down = self.new.down; up = self.new.up } }
     {
         if a.down {
-            claim(&mut self.down, &mut self.down_rows, a);
+            claim(&mut self.down, &mut self.down_spans, &mut self.down_rows, a);
         } else {
-            claim(&mut self.up, &mut self.up_rows, a);
+            claim(&mut self.up, &mut self.up_spans, &mut self.up_rows, a);
         }
     }
 
@@ -320,25 +339,40 @@ impl Place {
         }
     }
 
-    /// Gives a downlink cell a block, where it has none.
-    pub(crate) fn fill(&mut self, k: usize, block: &Block)
-        requires { k < SLOT_SYMBOLS * self.old.prbs }
+    /// Gives a downlink cell a block, where it has none: that with number `k`, at a PRB of a symbol.
+    pub(crate) fn fill(&mut self, symbol: u8, prb: u16, k: usize, block: &Block)
+        requires symbol { symbol < SLOT_SYMBOLS }
+        requires prb { prb < self.old.prbs }
+        requires number { k ≡ cell_number self.old.prbs symbol prb }
         ensures here { get_or self.new.blocks k None ≡ or_else (get_or self.old.blocks k None) (Some block.now) }
         ensures others { (i : ℕ) → i ≢ k → get_or self.new.blocks i None ≡ get_or self.old.blocks i None }
         ensures kept { self.new ≡ record self.old { blocks = self.new.blocks } }
     {
+        let prbs = PrbSpan {
+            first: prb,
+            count: 1,
+        };
+        widen(&mut self.block_spans, symbol as usize, prbs);
         self.blocks.fill(k, block);
     }
 
-    /// Gives downlink cells from number `from` on the samples of packed PRBs, each where it has no block.
-    pub(crate) fn fill_run(&mut self, from: usize, run: &PackedRun<'_>)
+    /// Gives downlink cells from number `from` on, at the PRBs of a symbol from one on, the samples of packed PRBs, each where it has
+    /// no block.
+    pub(crate) fn fill_run(&mut self, symbol: u8, first: u16, from: usize, run: &PackedRun<'_>)
         requires width { HasWidth run.now.method }
-        requires room { from + run.now.count ≤ SLOT_SYMBOLS * self.old.prbs }
+        requires symbol { symbol < SLOT_SYMBOLS }
+        requires room { first + run.now.count ≤ self.old.prbs }
+        requires number { from ≡ cell_number self.old.prbs symbol first }
         ensures here { (k : ℕ) → k < run.now.count → get_or self.new.blocks (from + k) None
             ≡ or_else (get_or self.old.blocks (from + k) None) (Some (packed_block run.now.id (packed_samples run.now) k)) }
         ensures others { (i : ℕ) → is_from from run.now.count i ≡ false → get_or self.new.blocks i None ≡ get_or self.old.blocks i None }
         ensures kept { self.new ≡ record self.old { blocks = self.new.blocks } }
     {
+        let prbs = PrbSpan {
+            first,
+            count: run.count,
+        };
+        widen(&mut self.block_spans, symbol as usize, prbs);
         self.blocks.fill_run(from, run);
     }
 

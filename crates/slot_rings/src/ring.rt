@@ -8,7 +8,7 @@ ghost use Rattle.unit_model.specs.Lists.{every, some, or_else};
 ghost use Rattle.unit_model.specs.Proper.{IsSlot};
 ghost use Rattle.unit_model.specs.declared.cells.Cell.{Cell};
 ghost use Rattle.unit_model.specs.declared.verdicts.CommandVerdict.TheVariants.{Accepted};
-ghost use Rattle.slot_rings.specs.Places.{blank, claim_in, no_claims, is_place_of, is_due, is_in_use, is_reported, unreported, opened, place_claim, place_uplink, cell_number};
+ghost use Rattle.slot_rings.specs.Places.{blank, claim_in, no_claims, is_place_of, is_due, is_in_use, is_reported, unreported, IsOpened, place_claim, place_uplink, cell_number};
 ghost use Rattle.slot_rings.specs.Runs.{packed_block, packed_samples};
 ghost use Rattle.slot_rings.specs.Verdicts.{verdict_by, claim_after, uplink_after};
 ghost use Rattle.fh_time.specs.declared.symbols.TheConstants.{SLOT_SYMBOLS};
@@ -286,7 +286,8 @@ impl SlotRing {
     /// Lets a slot have its place.
     fn open_place(&mut self, slot: Slot)
         requires { IsSlot self.old.endpoint.numerology slot }
-        ensures only { self.new ≡ with_place self.old slot (opened slot (place_of self.old slot)) }
+        ensures only { self.new ≡ with_place self.old slot (place_of self.new slot) }
+        ensures opened { IsOpened slot (place_of self.old slot) (place_of self.new slot) }
         ensures ring { IsRing self.old }
     {
         let index = self.index(slot);
@@ -324,31 +325,36 @@ impl SlotRing {
     }
 
     /// Gives a cell its block in a slot's place.
-    fn fill_place(&mut self, slot: Slot, number: usize, block: &Block)
+    fn fill_place(&mut self, slot: Slot, symbol: u8, prb: u16, block: &Block)
         requires slot { IsSlot self.old.endpoint.numerology slot }
-        requires number { number < SLOT_SYMBOLS * self.old.endpoint.prbs }
+        requires symbol { symbol < SLOT_SYMBOLS }
+        requires prb { prb < self.old.endpoint.prbs }
         ensures only { self.new ≡ with_place self.old slot (place_of self.new slot) }
-        ensures here { get_or (place_of self.new slot).blocks number None ≡ or_else (get_or (place_of self.old slot).blocks number None) (Some block.now) }
-        ensures others { (i : ℕ) → i ≢ number → get_or (place_of self.new slot).blocks i None ≡ get_or (place_of self.old slot).blocks i None }
+        ensures here { get_or (place_of self.new slot).blocks (cell_number self.old.endpoint.prbs symbol prb) None
+            ≡ or_else (get_or (place_of self.old slot).blocks (cell_number self.old.endpoint.prbs symbol prb) None) (Some block.now) }
+        ensures others { (i : ℕ) → i ≢ cell_number self.old.endpoint.prbs symbol prb → get_or (place_of self.new slot).blocks i None ≡ get_or (place_of self.old slot).blocks i None }
         ensures kept { place_of self.new slot ≡ record (place_of self.old slot) { blocks = (place_of self.new slot).blocks } }
     {
+        let number = self.number(symbol, prb);
         let index = self.index(slot);
-        self.places[index].fill(number, block);
+        self.places[index].fill(symbol, prb, number, block);
     }
 
     /// Gives cells of a slot's place, from one number on, the samples of packed PRBs.
-    fn fill_run_place(&mut self, slot: Slot, number: usize, run: &PackedRun<'_>)
+    fn fill_run_place(&mut self, slot: Slot, symbol: u8, first: u16, run: &PackedRun<'_>)
         requires slot { IsSlot self.old.endpoint.numerology slot }
-        requires number { number + run.now.count ≤ SLOT_SYMBOLS * self.old.endpoint.prbs }
+        requires symbol { symbol < SLOT_SYMBOLS }
+        requires prbs { first + run.now.count ≤ self.old.endpoint.prbs }
         requires width { HasWidth run.now.method }
         ensures only { self.new ≡ with_place self.old slot (place_of self.new slot) }
-        ensures here { (k : ℕ) → k < run.now.count → get_or (place_of self.new slot).blocks (number + k) None
-            ≡ or_else (get_or (place_of self.old slot).blocks (number + k) None) (Some (packed_block run.now.id (packed_samples run.now) k)) }
-        ensures others { (i : ℕ) → is_from number run.now.count i ≡ false → get_or (place_of self.new slot).blocks i None ≡ get_or (place_of self.old slot).blocks i None }
+        ensures here { (k : ℕ) → k < run.now.count → get_or (place_of self.new slot).blocks (cell_number self.old.endpoint.prbs symbol first + k) None
+            ≡ or_else (get_or (place_of self.old slot).blocks (cell_number self.old.endpoint.prbs symbol first + k) None) (Some (packed_block run.now.id (packed_samples run.now) k)) }
+        ensures others { (i : ℕ) → is_from (cell_number self.old.endpoint.prbs symbol first) run.now.count i ≡ false → get_or (place_of self.new slot).blocks i None ≡ get_or (place_of self.old slot).blocks i None }
         ensures kept { place_of self.new slot ≡ record (place_of self.old slot) { blocks = (place_of self.new slot).blocks } }
     {
+        let number = self.number(symbol, first);
         let index = self.index(slot);
-        self.places[index].fill_run(number, run);
+        self.places[index].fill_run(symbol, first, number, run);
     }
 
     /// Sets as reported those of the first so many cells of a symbol that are in use, in a slot's place. Where these are all of
@@ -460,8 +466,7 @@ impl SlotRing {
         ensures uplink { SameUplink slot self.old self.new }
         ensures touches { TouchesOnly slot self.old self.new }
     {
-        let number = self.number(symbol, prb);
-        self.fill_place(slot, number, &block);
+        self.fill_place(slot, symbol, prb, &block);
     }
 
     /// Gives downlink cells of a symbol, from PRB `first` on, the samples of packed PRBs, each cell where it has no block, in a
@@ -482,8 +487,7 @@ impl SlotRing {
         ensures uplink { SameUplink slot self.old self.new }
         ensures touches { TouchesOnly slot self.old self.new }
     {
-        let number = self.number(symbol, first);
-        self.fill_run_place(slot, number, run);
+        self.fill_run_place(slot, symbol, first, run);
     }
 
     /// Sets as reported the downlink cells of a symbol that are in use at the first so many PRBs, in a slot that has its place.

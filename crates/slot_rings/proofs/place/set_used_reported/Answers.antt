@@ -1,8 +1,9 @@
-use Rattle.std.proofs.Common.{ℕ, Bool, ◌+◌, ◌∙◌, ap, arith, get_or}
+use Rattle.std.proofs.Common.{◌≡◌, ℕ, Bool, ◌+◌, ◌∙◌, ap, arith, get_or}
 use Rattle.std.specs.Prelude.{◌||◌}
+use Rattle.unit_model.specs.Claims.{is_from}
 use Rattle.slot_rings.specs.Places.{claim_in, is_in_use, is_reported, no_claims}
 use Rattle.slot_rings.specs.declared.claims.CellClaims.{CellClaims}
-use Rattle.slot_rings.proofs.ReportedLemmas.{reported_just, reported_others}
+use Rattle.slot_rings.proofs.ReportedLemmas.{blank_reported, reported_just, reported_others}
 use Rattle.slot_rings.proofs.RowLemmas.{rows_same}
 use Rattle.slot_rings.proofs.place.set_used_reported.Goals as goal
 
@@ -23,3 +24,12 @@ loop-k-preserved c =
 
 pub returns-clause-rows : goal.returns-clause-rows
 returns-clause-rows c prbs rows = rows_same prbs c.args.claims.now.items c.loop-k.claims.items rows c.loop-k.invariant.claims
+
+pub returns-clause-blank : goal.returns-clause-blank
+returns-clause-blank c prbs spans are = record {
+  each = λ k none.
+      blank_reported c.args.claims.now.items c.loop-k.claims.items c.args.from c.args.count k
+      (λ j below. c.loop-k.invariant.here j (omega (arith, below, c.loop-k-test.false)))
+      (λ i out. c.loop-k.invariant.others i (ap (λ (n : ℕ). is_from c.args.from n i) (let e : c.loop-k.k ≡ c.args.count = omega (arith, c.loop-k-test.false, c.loop-k.auto.k-end) in e) ∙ out))
+      c.loop-k.invariant.claims (are.each k none);
+}

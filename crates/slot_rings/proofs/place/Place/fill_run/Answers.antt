@@ -1,0 +1,26 @@
+use Rattle.std.proofs.Common.{◌≡◌, ◌∙◌, ℕ, ap, arith, sym, None}
+use Rattle.unit_model.specs.Claims.{is_from}
+use Rattle.slot_rings.specs.Places.{PlaceValue, cell_number}
+use Rattle.slot_rings.proofs.WrittenLemmas.{blank_still}
+use Rattle.slot_rings.proofs.place.Place.fill_run.Goals as goal
+
+pub invariant_of-self : goal.invariant_of-self
+invariant_of-self c =
+    let i = c.self.inside in
+    let v = c.self.invariant in
+    let count = c.args.run.now.count in
+    let prbs : i.prbs ≡ c.args.self.now.prbs = ap (λ (p : PlaceValue). p.prbs) c.self.view_is in
+    let at : c.args.from ≡ cell_number i.prbs c.args.symbol c.args.first = c.requires.number ∙ ap (λ (n : ℕ). cell_number n c.args.symbol c.args.first) (sym prbs) in (
+      v.0,
+      v.1,
+      omega (arith, v.2, c.fill_run.ensures.cells),
+      v.3,
+      v.4,
+      v.5,
+      v.6,
+      v.7,
+      v.8,
+      blank_still None i.prbs c.args.symbol c.args.first count i.blocks.items c.fill_run.new.self.items i.block_spans c.widen.new.spans (omega (arith, c.requires.room, prbs)) v.9
+          c.widen.ensures.own c.widen.ensures.more
+          (λ n out. c.fill_run.ensures.others n (ap (λ (from : ℕ). is_from from count n) at ∙ out)),
+    )
