@@ -29,7 +29,7 @@ use Rattle.measured_traffic.specs.Doings.{Doings, nothing, taken, with_begins, w
 use Rattle.measured_traffic.specs.Measured.{delay_frame, exchanges, flights_then, others_of}
 use Rattle.measured_traffic.specs.Replayed.{after_tick, begins_at, doings_at, doings_in, landings_for, leaving_flight, leaving_made, made_at, told_frames}
 use Rattle.measured_traffic.specs.Sides.{IsSideOf}
-use Rattle.measured_traffic.specs.Turns.{DoingsBegin, DoingsGoOn, DoingsWait, FlightsWait, IsQuietBetween, MadeLeave}
+use Rattle.measured_traffic.specs.Turns.{FlightsWait, IsQuietBetween}
 use Rattle.fh_time.proofs.Orders.{at_most}
 use Rattle.air_source.specs.Units.{other}
 use Rattle.unit_model.specs.Times.{tick_count}
@@ -57,10 +57,11 @@ none_left : (d : Document) (side : Side) (n : ℕ) → (doings_in d side n).made
 none_left d side zero = ap (λ (x : Doings). x.made) (doings_zero d side)
 none_left d side (suc n) = ap (λ (x : Doings). x.made) (doings_next d side n ∙ after_is d side (first_clock +ℤ pos n) (doings_in d side n))
 
-pub doings_begin : DoingsBegin
+-- a unit has nothing at the first clock, and goes on tick by tick: at the end of each what it made is sent
+pub doings_begin : (d : Document) (side : Side) → doings_at d side first_clock ≡ nothing
 doings_begin d side = ap (doings_in d side) (gap_none first_clock first_clock (≤ℤ_refl first_clock)) ∙ doings_zero d side
 
-pub doings_go_on : DoingsGoOn
+pub doings_go_on : (d : Document) (side : Side) (t : ℤ) → first_clock ≤ℤ t → doings_at d side (t +ℤ pos 1) ≡ taken [] (made_at d side t)
 doings_go_on d side t begun =
     let n = int_gap first_clock t in
     ap (doings_in d side) (next_gap first_clock t begun)
@@ -81,7 +82,8 @@ quiet_tick d side t x none calm made =
     ap (taken []) (told_nothing d side t x (landing_at (landings_for side d) t) none calm)
     ∙ ap (λ (ms : List (List ℕ)). taken ms x) (sym made)
 
-pub doings_wait : DoingsWait
+-- where neither unit begins anything and nothing lands, each has the same
+pub doings_wait : (d : Document) (side : Side) (now tick : ℤ) → first_clock ≤ℤ now → now ≤ℤ tick → IsQuietBetween d now tick → doings_at d side tick ≡ doings_at d side now
 doings_wait d side now tick begun order quiet =
     between (λ (t : ℤ). doings_at d side t ≡ doings_at d side now) now tick order refl (λ t low high same.
     doings_go_on d side t (at_most first_clock now t begun low)
@@ -192,7 +194,9 @@ module _ (d : Document) (is : IsReplayable d) (told : ComesAsTold d) where
 pub comes_as_told : (d : Document) → IsReplayable d → ComesAsTold d
 comes_as_told d is side t = messages_land d side t (documents_are_distinct d side is)
 
-pub made_leave : MadeLeave
+-- what a unit made at a tick leaves for the other then
+pub made_leave : (d : Document) (side : Side) (t : ℤ) → IsReplayable d → first_clock ≤ℤ t → t ≤ℤ end_of_time
+    → map leaving_flight (flights_then ((exchanges d).sent (other side)) t) ≡ map (leaving_made t) (made_at d side t).made
 made_leave d side t is low high = leaves_at d is (comes_as_told d is) side t low high
 
 pub flights_wait : FlightsWait

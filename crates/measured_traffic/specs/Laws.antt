@@ -1,30 +1,25 @@
 -- What holds of what lands with the frames of delay measurement.
-use Rattle.std.specs.Prelude.{◌≡◌, ℕ, ℤ, ◌<◌, ◌^◌, Bool, true, false, List, [], ◌∷◌, ◌++◌, All, filter}
+use Rattle.std.specs.Prelude.{◌≡◌, ℤ, ◌<◌, ◌^◌, Bool, true, false, List, [], ◌++◌, All, filter}
 use Rattle.std.specs.List.{flat_map}
 use Rattle.air_source.specs.declared.events.Side.{Side}
 use Rattle.air_source.specs.declared.events.Side.TheVariants.{Ru}
 use Rattle.bfp_codec.specs.Exponent.{Within}
-use Rattle.bfp_codec.specs.Layout.{AreBytes}
-use Rattle.delay_measure.specs.Payload.{WritesMessage}
 use Rattle.delay_measure.specs.declared.message.DelayMessage.{DelayMessage}
 use Rattle.document_traffic.specs.Landing.{all_delayed, jobs_for, planned_traffic}
 use Rattle.document_traffic.specs.Laws.{IsReplayable}
 use Rattle.document_traffic.specs.Sending.{Delayed}
-use Rattle.ecpri_frames.specs.Headers.{WritesHead}
 use Rattle.delay_laws.specs.Ticks.{Flight, landing}
-use Rattle.fault_counters.specs.declared.kinds.Counter.TheVariants.{Delay}
 use Rattle.fh_document.specs.declared.document.Document.{Document}
 use Rattle.replay_laws.specs.Moments.{all_arrivals, landing_at}
 use Rattle.replay_laws.specs.Passing.{AreLandings}
 use Rattle.replay_laws.specs.Traffic.{landings_at, reported_at}
-use Rattle.unit_model.specs.Meetings.{Arrival, Ignored, fragments}
+use Rattle.unit_model.specs.Meetings.{Arrival, fragments}
 use Rattle.unit_model.specs.Reports.{accepted_of, commands_of, data_of, met, timely_of}
 use Rattle.unit_model.specs.declared.allocations.Allocation.{Allocation}
 use Rattle.uplink_laws.specs.Premise.{jobs_of}
 use Rattle.window_config.specs.declared.config.Config.{Config}
-use Rattle.measured_traffic.specs.Measured.{delay_frame, delay_messages, exchanges, has_only_delays, others_of}
+use Rattle.measured_traffic.specs.Measured.{delay_messages, exchanges, has_only_delays, others_of}
 use Rattle.measured_traffic.specs.Replayed.{landings_for}
-use Rattle.ecpri_frames.specs.declared.heads.TheConstants.{ONE_WAY_DELAY}
 
 -- ---- frames
 
@@ -35,20 +30,6 @@ pub record IsDelayMessage (m : DelayMessage) : Type 0 where
   pub seconds : m.seconds < 2 ^ 48
   pub nanoseconds : m.nanoseconds < 2 ^ 32
   pub comp : Within 64 m.comp
-
--- a header of type 5 with 20 bytes of payload and a message's payload, as each is written, are its frame
-abbrev pub FramesAreWritten : Type 0
-FramesAreWritten =
-    (m : DelayMessage) (header payload : List ℕ) → AreBytes header → AreBytes payload
-    → WritesHead (record { more = false; kind = ONE_WAY_DELAY; size = 20 }) header → WritesMessage m payload → header ++ payload ≡ delay_frame m
-
--- of such a message the frame is read as it, and as nothing else
-abbrev pub FramesAreRead : Type 0
-FramesAreRead = (m : DelayMessage) → IsDelayMessage m → delay_messages (delay_frame m) ≡ m ∷ []
-
--- a unit counts the frame, whatever the message, and makes nothing else of it: it is no command and no fragment of data
-abbrev pub FramesAreCounted : Type 0
-FramesAreCounted = (side : Side) (c : Config) (at : ℤ) (m : DelayMessage) → met side c (record { at = at; frame = delay_frame m } ∷ []) ≡ Ignored Delay ∷ []
 
 -- ---- what arrivals leave a unit
 

@@ -12,10 +12,8 @@ use Rattle.replay_laws.specs.Moments.{end_of_time}
 use Rattle.replay_laws.specs.Passing.{IsCalm}
 use Rattle.unit_model.specs.Radiated.{first_clock}
 use Rattle.uplink_laws.specs.Turns.{left_from}
-use Rattle.measured_traffic.specs.Doings.{nothing, taken}
 use Rattle.measured_traffic.specs.Measured.{exchanges, flights_then}
-use Rattle.measured_traffic.specs.Replayed.{all_leaving, begins_at, doings_at, landings_for, leaving_flight, leaving_from, leaving_made, made_at}
-use Rattle.air_source.specs.Units.{other}
+use Rattle.measured_traffic.specs.Replayed.{all_leaving, begins_at, landings_for, leaving_flight, leaving_from}
 
 -- ---- what leaves
 
@@ -51,30 +49,12 @@ UplinkLeavesInTurn = (d : Document) → leaving_up d ≡ map leaving_answer (lef
 
 -- ---- what both units do
 
--- a unit has nothing at the first clock, and goes on tick by tick: at the end of each what it made is sent
-abbrev pub DoingsBegin : Type 0
-DoingsBegin = (d : Document) (side : Side) → doings_at d side first_clock ≡ nothing
-
-abbrev pub DoingsGoOn : Type 0
-DoingsGoOn = (d : Document) (side : Side) (t : ℤ) → first_clock ≤ℤ t → doings_at d side (t +ℤ pos 1) ≡ taken [] (made_at d side t)
-
--- what a unit made at a tick leaves for the other then
-abbrev pub MadeLeave : Type 0
-MadeLeave =
-    (d : Document) (side : Side) (t : ℤ) → IsReplayable d → first_clock ≤ℤ t → t ≤ℤ end_of_time
-    → map leaving_flight (flights_then ((exchanges d).sent (other side)) t)
-    ≡ map (leaving_made t) (made_at d side t).made
-
 -- neither unit begins anything from one tick on and before another, and nothing lands
 pub record IsQuietBetween (d : Document) (now tick : ℤ) : Type 0 where
   pub begins : (side : Side) (t : ℤ) → now ≤ℤ t → t <ℤ tick → begins_at d side t ≡ []
   pub calm : (side : Side) → IsCalm (landings_for side d) now tick
 
--- then a unit has the same
-abbrev pub DoingsWait : Type 0
-DoingsWait = (d : Document) (side : Side) (now tick : ℤ) → first_clock ≤ℤ now → now ≤ℤ tick → IsQuietBetween d now tick → doings_at d side tick ≡ doings_at d side now
-
--- and none of its frames leaves
+-- then none of the frames that a unit made leaves
 abbrev pub FlightsWait : Type 0
 FlightsWait =
     (d : Document) (side : Side) (now tick : ℤ) → IsReplayable d → first_clock ≤ℤ now → tick ≤ℤ (end_of_time +ℤ pos 1) → IsQuietBetween d now tick

@@ -7,16 +7,7 @@
 
 ghost use Rattle.measured_traffic.specs.Ends.{DocumentsAreOver};
 ghost use Rattle.measured_traffic.specs.Exchanged.{DelaysAreTold};
-ghost use Rattle.measured_traffic.specs.Laws.{FramesAreCounted, FramesAreRead, FramesAreWritten, LandingsAreReplayed, MeasurementRests, MessagesAreOwed, MessagesLand};
-ghost use Rattle.measured_traffic.specs.Turns.{DoingsBegin, DoingsGoOn, DoingsWait, FlightsWait, MadeLeave};
-
-/// The frame of a message of delay measurement is what `put_head` and `put_delay` write and is read as it, and a unit counts it and makes
-/// no command and no fragment of data of it.
-pub fn delay_frames_are_counted()
-    ensures written { FramesAreWritten }
-    ensures read { FramesAreRead }
-    ensures counted { FramesAreCounted }
-{}
+ghost use Rattle.measured_traffic.specs.Laws.{LandingsAreReplayed, MeasurementRests, MessagesAreOwed};
 
 /// Delay measurement changes nothing of what either unit decodes and reports in a document's replay, and nothing of the uplink messages.
 pub fn measurement_rests()
@@ -32,22 +23,6 @@ pub fn landings_are_replayed()
 /// Once all up to the end of time is reported and given for such a document, no cell is due at either unit, and no message, up to any time.
 pub fn documents_are_over()
     ensures { DocumentsAreOver }
-{}
-
-/// Of delay measurement comes at each tick, in order, what both units were said to be told then, where the frames of the classes c and u
-/// have no message of it and each of its messages is read back from its frame.
-pub fn measured_messages_land()
-    ensures { MessagesLand }
-{}
-
-/// What both units have of delay measurement goes on tick by tick, and the frames that a unit makes at a tick are those of class m that
-/// leave for the other then. Where nothing begins and nothing lands, each has the same and none of its frames leaves.
-pub fn doings_go_on()
-    ensures begin { DoingsBegin }
-    ensures more { DoingsGoOn }
-    ensures leave { MadeLeave }
-    ensures wait { DoingsWait }
-    ensures quiet { FlightsWait }
 {}
 
 /// The events of delays of a document's replay are the delays that became known to both units by what they were told and sent, in that
