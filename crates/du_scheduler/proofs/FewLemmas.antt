@@ -3,23 +3,14 @@ use Rattle.std.proofs.Common.{refl, ◌≡◌, ℕ, ◌+◌, ◌≤◌, inl, inr
 use Rattle.std.proofs.lemmas.Bool.{and_parts, ltb-true}
 use Rattle.fragment_laws.specs.Apart.{IsIn}
 use Rattle.plan_model.specs.Packs.{Message, PartFields, alone, packs, packs_behind, parts_of, same_symbol, size_of, takes, with_part}
-use Rattle.unit_model.specs.Terms.{MESSAGE_BYTES}
+use Rattle.plan_model.proofs.PackLemmas.{takes_room}
 
 module _ {P : Type 0} (f : PartFields P) (most : ℕ) where
-  takes_fewer : (m : Message P) (p : P) → takes f most m p ≡ true → length (parts_of (with_part m p)) ≤ most
-  takes_fewer m p h =
-      let one = and_parts (same_symbol f m.first p) _ h in
-      let two = and_parts (f.filter m.first == f.filter p) _ one.1 in
-      let three = and_parts (nat_lt (length (parts_of m)) most) (nat_le (size_of f m + f.size p) MESSAGE_BYTES) two.1 in
-      let lt = ltb-true (length (parts_of m)) most three.0 in
-      let more = length-append m.more (p ∷ []) in
-      omega (arith, lt, more)
-
   behind_few : (m : Message P) (ps : List P) (n : Message P) → 1 ≤ most → length (parts_of m) ≤ most → IsIn n (packs_behind f most m ps) → length (parts_of n) ≤ most
   unfolding packs_behind
   behind_few m [] n some h i = elim i [ inl e ↦ subst (λ (x : Message P). length (parts_of x) ≤ most) (sym e) h | inr t ↦ absurd t ]
   behind_few m (p ∷ ps) n some h i =
-      go (takes f most m p) refl i (λ t. behind_few (with_part m p) ps n some (takes_fewer m p t)) (behind_few (alone p) ps n some some)
+      go (takes f most m p) refl i (λ t. behind_few (with_part m p) ps n some (takes_room f most m p t).parts) (behind_few (alone p) ps n some some)
     where
       go : (b : Bool) → takes f most m p ≡ b → IsIn n (if b then packs_behind f most (with_part m p) ps else m ∷ packs_behind f most (alone p) ps)
           → (takes f most m p ≡ true → IsIn n (packs_behind f most (with_part m p) ps) → length (parts_of n) ≤ most) → (IsIn n (packs_behind f most (alone p) ps) → length (parts_of n) ≤ most) → length (parts_of n) ≤ most
