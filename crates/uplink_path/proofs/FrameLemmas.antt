@@ -8,6 +8,7 @@ use Rattle.unit_model.specs.Lists.{each}
 use Rattle.unit_model.specs.declared.jobs.UplinkJob.{UplinkJob}
 use Rattle.plan_model.specs.Departures.{departure}
 use Rattle.plan_model.specs.Packs.{Message, size_of}
+use Rattle.plan_model.specs.declared.sizes.MessageSize.{MessageSize}
 use Rattle.frame_bytes.specs.Cuts.{piece_frame}
 use Rattle.frame_bytes.specs.Messages.{message_of}
 use Rattle.uplink_model.specs.Frames.{Antenna, uplink_frame_of, head_of, samples_of}
@@ -23,17 +24,17 @@ use Rattle.ecpri_fragments.specs.Pieces.{piece_count}
 
 frame_is :
     (c : Config) (answer : Antenna) (e : EndpointConfig) (r : Rules) (p : Pending) (number wait : ℕ) (m : Message UplinkJob) (n before sub count : ℕ) (at : ℤ) (bytes : List ℕ)
-    → IsBehind c r p number wait m n before → count ≡ piece_count r.fragment p.size → at ≡ departure r.departures p.first.s.0 (before + sub)
-    → bytes ≡ piece_frame e.id (record { seq = number; last = sub + 1 == count; sub = sub }) (sub * r.fragment) (min (sub * r.fragment + r.fragment) p.size)
+    → IsBehind c r p number wait m n before → count ≡ piece_count r.fragment p.size.bytes → at ≡ departure r.departures p.first.s.0 (before + sub)
+    → bytes ≡ piece_frame e.id (record { seq = number; last = sub + 1 == count; sub = sub }) (sub * r.fragment) (min (sub * r.fragment + r.fragment) p.size.bytes)
     (message_of (carrier_of e) (samples_of answer e p.first) (head_of p.first) (sections_in p))
     → (let f : LinkFrame = record { at = record { 0 = at }; ep = p.first.ep; frame = bytes } in f) ≡ uplink_frame_of c answer e m n before sub
 frame_is c answer e r p number wait m n before sub count at bytes b count_is at_is bytes_is =
-    rw (at_is, bytes_is, count_is, b.number_is, b.rules, b.packed.size, b.packed.sections, b.packed.first) refl
+    rw (at_is, bytes_is, count_is, b.number_is, b.rules, b.packed.sections, b.packed.size, b.packed.first) refl
 
 -- a piece ends where the next one begins, or where the message ends
-pub ends_at : (answer : Antenna) (e : EndpointConfig) (p : Pending) (number sub count fragment end : ℕ) → end ≡ min (sub * fragment + fragment) p.size
+pub ends_at : (answer : Antenna) (e : EndpointConfig) (p : Pending) (number sub count fragment end : ℕ) → end ≡ min (sub * fragment + fragment) p.size.bytes
     → piece_frame e.id (record { seq = number; last = sub + 1 == count; sub = sub }) (sub * fragment) end (message_of (carrier_of e) (samples_of answer e p.first) (head_of p.first) (sections_in p))
-    ≡ piece_frame e.id (record { seq = number; last = sub + 1 == count; sub = sub }) (sub * fragment) (min (sub * fragment + fragment) p.size)
+    ≡ piece_frame e.id (record { seq = number; last = sub + 1 == count; sub = sub }) (sub * fragment) (min (sub * fragment + fragment) p.size.bytes)
     (message_of (carrier_of e) (samples_of answer e p.first) (head_of p.first) (sections_in p))
 ends_at answer e p number sub count fragment end is =
     ap (λ (x : ℕ). piece_frame e.id (record { seq = number; last = sub + 1 == count; sub = sub }) (sub * fragment) x
@@ -76,8 +77,8 @@ some_handed f sub count old new h = record { front = h.front; rest = each sub (c
 pub frame_handed :
     (c : Config) (answer : Antenna) (e : EndpointConfig) (r : Rules) (p : Pending) (number wait : ℕ) (m : Message UplinkJob) (n before sub count : ℕ) (at : ℤ) (bytes : List ℕ)
     (old now after : List LinkFrame)
-    → IsBehind c r p number wait m n before → count ≡ piece_count r.fragment p.size → at ≡ departure r.departures p.first.s.0 (before + sub)
-    → bytes ≡ piece_frame e.id (record { seq = number; last = sub + 1 == count; sub = sub }) (sub * r.fragment) (min (sub * r.fragment + r.fragment) p.size)
+    → IsBehind c r p number wait m n before → count ≡ piece_count r.fragment p.size.bytes → at ≡ departure r.departures p.first.s.0 (before + sub)
+    → bytes ≡ piece_frame e.id (record { seq = number; last = sub + 1 == count; sub = sub }) (sub * r.fragment) (min (sub * r.fragment + r.fragment) p.size.bytes)
     (message_of (carrier_of e) (samples_of answer e p.first) (head_of p.first) (sections_in p))
     → sub < count → after ≡ now ++ (let f : LinkFrame = record { at = record { 0 = at }; ep = p.first.ep; frame = bytes } in f) ∷ []
     → HandedUpTo (λ k. uplink_frame_of c answer e m n before k ∷ []) sub count old now → HandedUpTo (λ k. uplink_frame_of c answer e m n before k ∷ []) (sub + 1) count old after
@@ -86,8 +87,8 @@ frame_handed c answer e r p number wait m n before sub count at bytes old now af
     (more ∙ ap (λ (f : LinkFrame). now ++ f ∷ []) (frame_is c answer e r p number wait m n before sub count at bytes b count_is at_is bytes_is)) h
 
 pub count_as : (c : Config) (r : Rules) (p : Pending) (number wait : ℕ) (m : Message UplinkJob) (n before count : ℕ) → IsBehind c r p number wait m n before
-    → count ≡ piece_count r.fragment p.size → count ≡ frame_count c m
-count_as c r p number wait m n before count b is = is ∙ ap (λ (x : ℕ). piece_count r.fragment x) b.packed.size ∙ ap (λ (x : Rules). piece_count x.fragment (size_of (job_fields c.endpoints) m)) b.rules
+    → count ≡ piece_count r.fragment p.size.bytes → count ≡ frame_count c m
+count_as c r p number wait m n before count b is = is ∙ ap (λ (s : MessageSize). piece_count r.fragment s.bytes) b.packed.size ∙ ap (λ (x : Rules). piece_count x.fragment (size_of (job_fields c.endpoints) m)) b.rules
 
 -- ---- how long frames wait
 

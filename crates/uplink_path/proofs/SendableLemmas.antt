@@ -21,7 +21,7 @@ use Rattle.unit_model.specs.Proper.{IsAt}
 use Rattle.unit_model.specs.declared.jobs.UplinkJob.{UplinkJob}
 use Rattle.plan_model.specs.Packs.{Message, parts_of}
 use Rattle.plan_model.specs.Streams.{section_size}
-use Rattle.plan_model.proofs.ListLemmas.{endpoint_is}
+use Rattle.plan_model.specs.declared.sizes.MessageSize.{MessageSize}
 use Rattle.frame_bytes.specs.Messages.{SectionFits, message_size, sections_size}
 use Rattle.uplink_model.specs.Frames.{section_of}
 use Rattle.uplink_model.specs.Messages.{job_fields}
@@ -58,9 +58,9 @@ pub within_16 : (es : List EndpointConfig) (ep : ℕ) (e : EndpointConfig) → I
 within_16 es ep e is few = omega (arith, slice_get_within es ep e is, few)
 
 pub size_is : (c : Config) (p : Pending) (m : Message UplinkJob) (proper : IsProperMessage c m) → IsPacked c p m
-    → p.size ≡ message_size (carrier_of proper.first.endpoint) (sections_in p)
+    → p.size.bytes ≡ message_size (carrier_of proper.first.endpoint) (sections_in p)
 size_is c p m proper packed =
-    packed.size ∙ ap (λ (n : ℕ). 4 + n) (sizes c.endpoints proper.first.endpoint m.first.ep (parts_of m) proper.first.endpoint_is proper.parts)
+    ap (λ (s : MessageSize). s.bytes) packed.size ∙ ap (λ (n : ℕ). 4 + n) (sizes c.endpoints proper.first.endpoint m.first.ep (parts_of m) proper.first.endpoint_is proper.parts)
     ∙ ap (λ (ss : List DataSection). message_size (carrier_of proper.first.endpoint) ss) (sym packed.sections)
 
 low_56 : (a : ℤ) → neg_ℤ FRAME ≤ℤ a → neg_ℤ (pos (2 ^ 56)) ≤ℤ a
@@ -76,14 +76,14 @@ can_be_sent c u ms p m e n packed proper is good =
     let n14 = (symbols_few first.endpoint.numerology).1 in
     let n16 = (slots_few first.endpoint.numerology).1 in
     let symbol : p.first.symbol < SLOT_SYMBOLS = rw packed.first (omega (arith, first.symbol, n14)) in
-    let size : p.size ≡ message_size (carrier_of e) (sections_in p) = rw is (size_is c p m proper packed) in
+    let size : p.size.bytes ≡ message_size (carrier_of e) (sections_in p) = rw is (size_is c p m proper packed) in
     record {
       rules = n.kept;
       endpoint = good;
       low = rw packed.first (low_56 m.first.s.0 first.low);
       high = rw packed.first (high_56 m.first.s.0 proper.to first.high proper.high);
       symbol = symbol;
-      count = rw packed.count proper.few;
+      count = rw packed.size proper.few;
       fits = record {
         head = record {
           filter = omega arith;
@@ -93,7 +93,7 @@ can_be_sent c u ms p m e n packed proper is good =
         };
         width = good.width;
         sections = rw (packed.sections, is) (all_fit first.endpoint m.first.ep (parts_of m) proper.parts);
-        size = omega (arith, size, packed.size, proper.size);
+        size = let bytes = ap (λ (s : MessageSize). s.bytes) packed.size in omega (arith, size, bytes, proper.size);
       };
       size = size;
     }

@@ -1,9 +1,7 @@
 -- A job is taken into the message that is open, or opens its own.
-use Rattle.std.proofs.Common.{◌≡◌, ℕ, ◌+◌, ◌<◌, ◌≤◌, ◌==◌, ◌&&◌, nat_lt, nat_le, Bool, true, false, if◌then◌else◌, List, [], ◌∷◌, ◌++◌, map, length, sum, refl, sym, ap, ◌∙◌, arith, subst, append-nil, get_or, Option, None}
-use Rattle.std.proofs.lemmas.Bool.{and_parts, eqb-true, leb-true, ltb-true}
-use Rattle.std.proofs.lemmas.List.{length-append, map-append}
+use Rattle.std.proofs.Common.{◌≡◌, ℕ, ◌<◌, ◌≤◌, ◌==◌, Bool, true, false, if◌then◌else◌, List, [], ◌∷◌, ◌++◌, refl, sym, ap, ◌∙◌, arith, subst, append-nil, get_or, Option, None}
+use Rattle.std.proofs.lemmas.Bool.{and_parts, eqb-true}
 use Rattle.std.proofs.lemmas.List.Elements.{All-append, All-cons, All-nil}
-use Rattle.std.proofs.lemmas.List.Sums.{sum_by-append}
 use Rattle.std.proofs.lemmas.Option.{get_or_from_slice_get}
 use Rattle.fh_time.specs.Carrier.{is_outside}
 use Rattle.air_source.specs.Answers.{AnswersBy}
@@ -13,11 +11,13 @@ use Rattle.bfp_codec.specs.declared.samples.Wide.{Wide}
 use Rattle.window_config.specs.Configs.{IsConfig}
 use Rattle.window_config.specs.declared.config.Config.{Config}
 use Rattle.window_config.specs.declared.endpoints.EndpointConfig.{EndpointConfig}
-use Rattle.unit_model.specs.Claims.{same_slot}
 use Rattle.unit_model.specs.Proper.{IsAt}
 use Rattle.unit_model.specs.declared.jobs.UplinkJob.{UplinkJob}
 use Rattle.unit_model.proofs.OntoLemmas.{onto_none, onto_one}
-use Rattle.plan_model.specs.Packs.{Message, alone, parts_of, size_of, takes, with_part}
+use Rattle.plan_model.specs.Packs.{Message, alone, parts_of, takes, with_part}
+use Rattle.plan_model.specs.Sizes.{measured}
+use Rattle.plan_model.specs.declared.sizes.MessageSize.{MessageSize}
+use Rattle.plan_model.proofs.PackLemmas.{IsWithin, takes_room}
 use Rattle.uplink_model.specs.Frames.{Antenna, frames_behind, uplink_message_frames}
 use Rattle.uplink_model.specs.Messages.{job_fields, messages_behind, takes_job}
 use Rattle.uplink_path.specs.Emitting.{AreNumbered}
@@ -32,42 +32,26 @@ use Rattle.ecpri_fragments.specs.declared.place.TheConstants.{MESSAGE_BYTES}
 
 -- ---- what a message takes
 
--- what is said where it takes a job
-pub record Taking (c : Config) (m : Message UplinkJob) (j : UplinkJob) : Type 0 where
-  pub ep : j.ep ≡ m.first.ep
-  pub few : length (parts_of m) < c.pack
-  pub size : size_of (job_fields c.endpoints) m + (job_fields c.endpoints).size j ≤ MESSAGE_BYTES
-
-pub taking : (c : Config) (m : Message UplinkJob) (j : UplinkJob) → takes_job c m j ≡ true → Taking c m j
+-- a job that it takes is of its endpoint, and has room
+pub taking : (c : Config) (m : Message UplinkJob) (j : UplinkJob) → takes_job c m j ≡ true
+    → (j.ep ≡ m.first.ep) × IsWithin c.pack (measured (job_fields c.endpoints) (with_part m j))
 taking c m j is =
     let f = job_fields c.endpoints in
     let (ep, as_part) = and_parts (m.first.ep == j.ep) (takes f c.pack m j) is in
-    let (symbol, rest) = and_parts (same_slot m.first.slot j.slot && (m.first.symbol == j.symbol))
-    ((m.first.filter == j.filter) && (nat_lt (length (parts_of m)) c.pack && nat_le (size_of f m + f.size j) MESSAGE_BYTES)) as_part in
-    let (filter, sizes) = and_parts (m.first.filter == j.filter) (nat_lt (length (parts_of m)) c.pack && nat_le (size_of f m + f.size j) MESSAGE_BYTES) rest in
-    let (few, size) = and_parts (nat_lt (length (parts_of m)) c.pack) (nat_le (size_of f m + f.size j) MESSAGE_BYTES) sizes in
-    record {
-      ep = sym (eqb-true m.first.ep j.ep ep);
-      few = ltb-true (length (parts_of m)) c.pack few;
-      size = leb-true (size_of f m + f.size j) MESSAGE_BYTES size;
-    }
-
-size_with : (f : UplinkJob → ℕ) (js : List UplinkJob) (j : UplinkJob) → sum (map f (js ++ j ∷ [])) ≡ sum (map f js) + f j
-size_with f js j =
-    ap sum (map-append f js (j ∷ [])) ∙ sum_by-append (λ (n : ℕ). n) (map f js) (map f (j ∷ [])) ∙ omega arith
+    (sym (eqb-true m.first.ep j.ep ep), takes_room f c.pack m j as_part)
 
 -- ---- proper messages
 
 one_part : (c : Config) (j : UplinkJob) (can : CanTake c j) → IsPartOf can.proper.endpoint j.ep j
 one_part c j can = record { ep_is = refl; start_prb = can.proper.start_prb; prbs = can.proper.prbs }
 
-pub proper_alone : (c : Config) (p : Pending) (j : UplinkJob) → CanTake c j → IsPacked c p (alone j) → p.size ≤ MESSAGE_BYTES → IsProperMessage c (alone j)
+pub proper_alone : (c : Config) (p : Pending) (j : UplinkJob) → CanTake c j → IsPacked c p (alone j) → p.size.bytes ≤ MESSAGE_BYTES → IsProperMessage c (alone j)
 proper_alone c p j can packed short = record {
   to = can.to;
   first = can.proper;
   high = can.high;
   parts = All-cons (IsPartOf can.proper.endpoint j.ep) j [] (one_part c j can) (All-nil (IsPartOf can.proper.endpoint j.ep));
-  size = omega (arith, packed.size, short);
+  size = subst (λ (s : MessageSize). s.bytes ≤ MESSAGE_BYTES) packed.size short;
   few = omega arith;
 }
 
@@ -85,19 +69,17 @@ part_as e x ep j same is low prbs =
 pub proper_with : (c : Config) (m : Message UplinkJob) (j : UplinkJob) → IsConfig c → IsProperMessage c m → CanTake c j → takes_job c m j ≡ true
     → IsProperMessage c (with_part m j)
 proper_with c m j good proper can is =
-    let t = taking c m j is in
+    let (same, within) = taking c m j is in
     let e = proper.first.endpoint in
-    let sizes = size_with (job_fields c.endpoints).size (parts_of m) j in
-    let longer = length-append (parts_of m) (j ∷ []) in
     record {
       to = proper.to;
       first = proper.first;
       high = proper.high;
       parts = All-append (IsPartOf e m.first.ep) (parts_of m) (j ∷ []) proper.parts
-          (All-cons (IsPartOf e m.first.ep) j [] (part_as e can.proper.endpoint m.first.ep j t.ep (same_endpoint c m j proper can t.ep) can.proper.start_prb can.proper.prbs)
+          (All-cons (IsPartOf e m.first.ep) j [] (part_as e can.proper.endpoint m.first.ep j same (same_endpoint c m j proper can same) can.proper.start_prb can.proper.prbs)
           (All-nil (IsPartOf e m.first.ep)));
-      size = omega (arith, sizes, t.size);
-      few = omega (arith, longer, t.few, good.pack_high);
+      size = within.bytes;
+      few = let few = within.parts in omega (arith, few, good.pack_high);
     }
 
 -- ---- the job's endpoint as it is read
@@ -144,7 +126,7 @@ took_with post c ms p q om j u old n o can is packed = record {
 
 -- the one that is open was closed
 pub took_anew : {F : Type 0} (post : RePlace → Wide → Type 0) (c : Config) (ms : List (Message UplinkJob)) (p q : Pending) (om : Option (Message UplinkJob)) (j : UplinkJob) (u : Uplink F) (old new : List LinkFrame)
-    → (o : OpenIs c p om) → CanTake c j → takes_job c o.message j ≡ false → IsPacked c q (alone j) → q.size ≤ MESSAGE_BYTES
+    → (o : OpenIs c p om) → CanTake c j → takes_job c o.message j ≡ false → IsPacked c q (alone j) → q.size.bytes ≤ MESSAGE_BYTES
     → ((antenna : Antenna) → AnswersBy post antenna → new ≡ old ++ uplink_message_frames c antenna ms o.message) → AreNumbered c u (o.message ∷ ms)
     → TookJob post c ms om j u q old new
 took_anew post c ms p q om j u old new o can is packed short sent n = record {
@@ -159,7 +141,7 @@ took_anew post c ms p q om j u old new o can is packed short sent n = record {
 
 -- none was open
 pub took_first : {F : Type 0} (post : RePlace → Wide → Type 0) (c : Config) (ms : List (Message UplinkJob)) (q : Pending) (om : Option (Message UplinkJob)) (j : UplinkJob) (u : Uplink F) (old : List LinkFrame)
-    → om ≡ None → CanTake c j → IsPacked c q (alone j) → q.size ≤ MESSAGE_BYTES → AreNumbered c u ms → TookJob post c ms om j u q old old
+    → om ≡ None → CanTake c j → IsPacked c q (alone j) → q.size.bytes ≤ MESSAGE_BYTES → AreNumbered c u ms → TookJob post c ms om j u q old old
 took_first post c ms q om j u old none can packed short n = record {
   closed = [];
   message = alone j;

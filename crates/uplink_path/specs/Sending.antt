@@ -47,9 +47,9 @@ pub record CanBeSent (r : Rules) (e : EndpointConfig) (p : Pending) : Type 0 whe
   pub low : neg_ℤ (pos (2 ^ 56)) ≤ℤ p.first.s.0
   pub high : p.first.s.0 ≤ℤ pos (2 ^ 56)
   pub symbol : p.first.symbol < SLOT_SYMBOLS
-  pub count : p.count ≤ MESSAGE_SECTIONS
+  pub count : p.size.parts ≤ MESSAGE_SECTIONS
   pub fits : MessageFits (carrier_of e) (head_of p.first) (sections_in p)
-  pub size : p.size ≡ message_size (carrier_of e) (sections_in p)
+  pub size : p.size.bytes ≡ message_size (carrier_of e) (sections_in p)
 
 -- a message with its number, and so many frames of its symbol before it
 pub record IsBehind (c : Config) (r : Rules) (p : Pending) (number wait : ℕ) (m : Message UplinkJob) (n before : ℕ) : Type 0 where

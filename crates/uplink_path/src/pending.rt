@@ -8,9 +8,8 @@ ghost use Rattle.uplink_model.specs.Frames.{head_of, section_of};
 ghost use Rattle.plan_model.specs.Streams.{section_size};
 ghost use Rattle.ecpri_fragments.specs.declared.place.TheConstants.{MESSAGE_BYTES};
 
-use ecpri_fragments::MESSAGE_BYTES;
 use frame_bytes::DataSection;
-use plan_model::section_size;
+use plan_model::{MessageSize, section_size};
 use unit_model::UplinkJob;
 use uplane_sections::UHead;
 use window_config::{EndpointConfig, MESSAGE_SECTIONS};
@@ -20,9 +19,7 @@ use window_config::{EndpointConfig, MESSAGE_SECTIONS};
 pub(crate) struct Pending {
     pub(crate) first: UplinkJob,
     pub(crate) sections: [DataSection; MESSAGE_SECTIONS],
-    pub(crate) count: usize,
-    /// Its application bytes.
-    pub(crate) size: usize,
+    pub(crate) size: MessageSize,
 }
 
 /// A job's section.
@@ -59,7 +56,7 @@ impl Pending {
     pub(crate) fn alone(endpoint: &EndpointConfig, job: &UplinkJob) -> Pending
         requires { IsEndpoint endpoint.now }
         ensures packed { (c : SpecConfig) → IsAt c.endpoints job.now.ep endpoint.now → IsPacked c result (alone job.now) }
-        ensures small { result.size ≤ MESSAGE_BYTES }
+        ensures small { result.size.bytes ≤ MESSAGE_BYTES }
     {
         let mut sections = [DataSection {
             id: 0,
@@ -70,15 +67,14 @@ impl Pending {
         Pending {
             first: *job,
             sections,
-            count: 1,
-            size: 4 + section_size(endpoint, job.num_prb),
+            size: MessageSize::of_one(section_size(endpoint, job.num_prb)),
         }
     }
 
     /// Whether it takes a job of this endpoint too.
     pub(crate) fn takes(&self, endpoint: &EndpointConfig, pack: usize, job: &UplinkJob) -> bool
         requires endpoint { IsEndpoint endpoint.now }
-        requires short { self.now.size ≤ 2 ^ 20 }
+        requires short { self.now.size.bytes ≤ 2 ^ 20 }
         ensures value { (c : SpecConfig) (m : Message SpecJob) → IsPacked c self.now m → IsAt c.endpoints job.now.ep endpoint.now → pack ≡ c.pack
             → result ≡ takes_job c m job.now }
     {
@@ -86,19 +82,19 @@ impl Pending {
             && self.first.slot == job.slot
             && self.first.symbol == job.symbol
             && self.first.filter == job.filter
-            && self.count < pack
-            && self.size + section_size(endpoint, job.num_prb) <= MESSAGE_BYTES
+            && self
+                .size
+                .has_room(pack, section_size(endpoint, job.num_prb))
     }
 
     /// Takes a job.
     pub(crate) fn push(&mut self, endpoint: &EndpointConfig, job: &UplinkJob)
         requires endpoint { IsEndpoint endpoint.now }
-        requires short { self.old.size ≤ 2 ^ 20 }
-        requires room { self.old.count < 64 }
+        requires short { self.old.size.bytes ≤ 2 ^ 20 }
+        requires room { self.old.size.parts < 64 }
         ensures { (c : SpecConfig) (m : Message SpecJob) → IsPacked c self.old m → IsAt c.endpoints job.now.ep endpoint.now → IsPacked c self.new (with_part m job.now) }
     {
-        self.sections[self.count] = section_of(job);
-        self.count += 1;
-        self.size += section_size(endpoint, job.num_prb);
+        self.sections[self.size.parts] = section_of(job);
+        self.size = self.size.larger(section_size(endpoint, job.num_prb));
     }
 }

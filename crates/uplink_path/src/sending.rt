@@ -38,7 +38,7 @@ fn write_piece<F: Fn(RePlace) -> Wide>(
     requires kept { IsKept F.pre F.post antenna.now }
     requires symbol { message.now.first.symbol < SLOT_SYMBOLS }
     requires prbs { endpoint.now.prbs ≤ CARRIER_PRBS }
-    requires count { message.now.count ≤ MESSAGE_SECTIONS }
+    requires count { message.now.size.parts ≤ MESSAGE_SECTIONS }
     requires fits { MessageFits (carrier_of endpoint.now) (head_of message.now.first) (sections_in message.now) }
     requires sub { seq.sub < 128 }
     requires order { span.from ≤ span.to }
@@ -57,7 +57,7 @@ fn write_piece<F: Fn(RePlace) -> Wide>(
             prbs: endpoint.prbs,
         },
         head: head_of(&first),
-        sections: &message.sections[..message.count],
+        sections: &message.sections[..message.size.parts],
     };
     let (slot, symbol) = (first.slot, first.symbol);
     let source = |_place: usize, prb: u16| -> [Iq; 12]
@@ -94,13 +94,13 @@ pub(crate) fn send_message<F: Fn(RePlace) -> Wide, L: Link>(
         → IsBehind c rules.now message.now number wait m n before
         → OnErr result (SentSome (uplink_frames_from c answer endpoint.now m n before 0 (frame_count c m)) (L.sent link.old) (L.sent link.new)) }
 {
-    let count = frame_count(rules.fragment, message.size);
+    let count = frame_count(rules.fragment, message.size.bytes);
     let mut next = wait;
     for sub in 0..count {
         let from = sub * rules.fragment;
         let span = Span {
             from,
-            to: (from + rules.fragment).min(message.size),
+            to: (from + rules.fragment).min(message.size.bytes),
         };
         let seq = SeqField {
             seq: number,

@@ -1,5 +1,8 @@
 use Rattle.std.proofs.Common.{arith, sym, ap, ◌∙◌}
 use Rattle.plan_model.proofs.ListLemmas.{endpoint_is}
+use Rattle.plan_model.proofs.PackLemmas.{length_more}
+use Rattle.plan_model.specs.Packs.{parts_of}
+use Rattle.plan_model.specs.declared.sizes.MessageSize.{MessageSize}
 use Rattle.uplink_path.specs.declared.rules.Rules.{Rules}
 use Rattle.uplink_path.proofs.CloseLemmas.{none_is, open_is}
 use Rattle.uplink_path.proofs.FrameLemmas.{on_err}
@@ -13,7 +16,9 @@ push-requires-clause-room g c =
     let o = open_is k.config c.args.opened c.in-Some.message k.message c.in-Some.is k.is_open in
     let at = job_endpoint k.config c.args.self.now k.messages c.args.job.now c.index.result.now k.numbered k.can c.index.ensures in
     let is = sym (c.takes.ensures.value k.config o.message o.packed at (ap (λ (r : Rules). r.pack) k.numbered.rules)) ∙ c.if-takes.true in
-    omega (arith, (taking k.config o.message c.args.job.now is).few, o.packed.count, k.numbered.config.pack_high)
+    let few = (taking k.config o.message c.args.job.now is).1.parts in
+    let size = ap (λ (s : MessageSize). s.parts) o.packed.size in
+    omega (arith, few, size, length_more (parts_of o.message) c.args.job.now, k.numbered.config.pack_high)
 
 pub returns-then-takes-clause-took : goal.returns-then-takes-clause-took
 returns-then-takes-clause-took g c k ms om n is_open can =
