@@ -10,7 +10,7 @@ use Rattle.plan_model.specs.Packs.{PartFields, Message, Numbered, alone, frames_
 use Rattle.plan_model.proofs.ListLemmas.{in_either}
 use Rattle.plan_model.proofs.PackLemmas.{takes_room}
 use Rattle.schedule_laws.proofs.ListLemmas.{at_in}
-use Rattle.schedule_laws.proofs.PackLemmas.{parts_behind}
+use Rattle.schedule_laws.proofs.PackLemmas.{packs_hold, parts_behind}
 use Rattle.unit_model.proofs.ClaimLemmas.{slot_self as slot_own}
 use Rattle.fh_time.proofs.Orders.{above_next as later_tick}
 use Rattle.ecpri_fragments.specs.declared.place.TheConstants.{MESSAGE_BYTES}
@@ -131,35 +131,12 @@ module _ {P : Type 0} (f : PartFields P) (most : ℕ) where
     | inr r ↦ elim r [ inl e ↦ ap (λ z. same_symbol f m.first z) e ∙ takes_same m p t | inr x ↦ absurd x ]
   ]
 
-  behind_one : (m : Message P) (ps : List P) (n : Message P) → IsOne m → IsIn n (packs_behind f most m ps) → IsOne n
-  unfolding packs_behind
-  behind_one m [] n h i = elim i [ inl e ↦ subst IsOne (sym e) h | inr t ↦ absurd t ]
-  behind_one m (p ∷ ps) n h i = go (takes f most m p) refl i (λ t. behind_one (with_part m p) ps n (with_one m p h t)) (behind_one (alone p) ps n (alone_one p))
-    where
-      go : (b : Bool) → takes f most m p ≡ b → IsIn n (if b then packs_behind f most (with_part m p) ps else m ∷ packs_behind f most (alone p) ps)
-          → (takes f most m p ≡ true → IsIn n (packs_behind f most (with_part m p) ps) → IsOne n) → (IsIn n (packs_behind f most (alone p) ps) → IsOne n) → IsOne n
-      go true e k joined next = joined e k
-      go false e k joined next = elim k [ inl x ↦ subst IsOne (sym x) h | inr t ↦ next t ]
-
   pub one_symbol : (ps : List P) (n : Message P) → IsIn n (packs f most ps) → (q : P) → IsIn q (parts_of n) → same_symbol f n.first q ≡ true
-  one_symbol [] n i = absurd i
-  one_symbol (p ∷ ps) n i = behind_one (alone p) ps n (alone_one p) i
+  one_symbol ps n i = packs_hold f most IsOne with_one ps n (λ q k. alone_one q) i
 
   -- of at most 16,384 bytes
-  behind_short : (m : Message P) (ps : List P) (n : Message P) → ((q : P) → IsIn q ps → size_of f (alone q) ≤ MESSAGE_BYTES) → size_of f m ≤ MESSAGE_BYTES → IsIn n (packs_behind f most m ps) → size_of f n ≤ MESSAGE_BYTES
-  unfolding packs_behind
-  behind_short m [] n each h i = elim i [ inl e ↦ subst (λ (x : Message P). size_of f x ≤ MESSAGE_BYTES) (sym e) h | inr t ↦ absurd t ]
-  behind_short m (p ∷ ps) n each h i =
-      go (takes f most m p) refl i (λ t. behind_short (with_part m p) ps n (λ q k. each q (inr k)) (takes_room f most m p t).bytes) (behind_short (alone p) ps n (λ q k. each q (inr k)) (each p (inl refl)))
-    where
-      go : (b : Bool) → takes f most m p ≡ b → IsIn n (if b then packs_behind f most (with_part m p) ps else m ∷ packs_behind f most (alone p) ps)
-          → (takes f most m p ≡ true → IsIn n (packs_behind f most (with_part m p) ps) → size_of f n ≤ MESSAGE_BYTES) → (IsIn n (packs_behind f most (alone p) ps) → size_of f n ≤ MESSAGE_BYTES) → size_of f n ≤ MESSAGE_BYTES
-      go true e k joined next = joined e k
-      go false e k joined next = elim k [ inl x ↦ subst (λ (y : Message P). size_of f y ≤ MESSAGE_BYTES) (sym x) h | inr t ↦ next t ]
-
   pub all_short : (ps : List P) (n : Message P) → ((q : P) → IsIn q ps → size_of f (alone q) ≤ MESSAGE_BYTES) → IsIn n (packs f most ps) → size_of f n ≤ MESSAGE_BYTES
-  all_short [] n each i = absurd i
-  all_short (p ∷ ps) n each i = behind_short (alone p) ps n (λ q k. each q (inr k)) (each p (inl refl)) i
+  all_short = packs_hold f most (λ m. size_of f m ≤ MESSAGE_BYTES) (λ m p h t. (takes_room f most m p t).bytes)
 
 -- ---- numbers
 

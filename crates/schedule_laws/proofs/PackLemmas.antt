@@ -53,6 +53,23 @@ module _ {P : Type 0} (f : PartFields P) (most : ℕ) where
   has_message [] p i = absurd i
   has_message (q ∷ ps) p i = has_behind (alone q) ps p (elim i [ inl e ↦ inl (inl e) | inr t ↦ inr t ])
 
+  -- what holds of each part alone, and stays with each part that a message takes, holds of every message
+  module _ (Q : Message P → Type 0) (stays : (m : Message P) (p : P) → Q m → takes f most m p ≡ true → Q (with_part m p)) where
+    behind_hold : (m : Message P) (ps : List P) (n : Message P) → Q m → ((q : P) → IsIn q ps → Q (alone q)) → IsIn n (packs_behind f most m ps) → Q n
+    unfolding packs_behind
+    behind_hold m [] n h each i = elim i [ inl e ↦ subst Q (sym e) h | inr t ↦ absurd t ]
+    behind_hold m (p ∷ ps) n h each i =
+        go (takes f most m p) refl i (λ t. behind_hold (with_part m p) ps n (stays m p h t) (λ q k. each q (inr k))) (behind_hold (alone p) ps n (each p (inl refl)) (λ q k. each q (inr k)))
+      where
+        go : (b : Bool) → takes f most m p ≡ b → IsIn n (if b then packs_behind f most (with_part m p) ps else m ∷ packs_behind f most (alone p) ps)
+            → (takes f most m p ≡ true → IsIn n (packs_behind f most (with_part m p) ps) → Q n) → (IsIn n (packs_behind f most (alone p) ps) → Q n) → Q n
+        go true e k joined next = joined e k
+        go false e k joined next = elim k [ inl x ↦ subst Q (sym x) h | inr t ↦ next t ]
+
+    pub packs_hold : (ps : List P) (n : Message P) → ((q : P) → IsIn q ps → Q (alone q)) → IsIn n (packs f most ps) → Q n
+    packs_hold [] n each i = absurd i
+    packs_hold (p ∷ ps) n each i = behind_hold (alone p) ps n (each p (inl refl)) (λ q k. each q (inr k)) i
+
 -- ---- one part a message
 
 not_below : (k : ℕ) → nat_lt (suc k) 1 ≡ false
