@@ -33,7 +33,7 @@ use Rattle.explain_units.specs.Ears.{HearsFor}
 use Rattle.explain_units.specs.Known.{IsKnown, Known, after_all, all_said, nothing_known}
 use Rattle.explain_units.specs.MarginLines.{margins_said}
 use Rattle.explain_units.specs.Knowing.{known_of}
-use Rattle.explain_units.specs.Units.{IsElsewhere, IsUnitAfter, OthersLeaveIt, frame_lines, judged_next}
+use Rattle.explain_units.specs.Units.{IsElsewhere, IsUnitAfter, frame_lines, judged_next}
 use Rattle.explain_units.specs.declared.units.UnitLines.{UnitLines}
 use Rattle.fh_time.specs.declared.values.Ticks.{Ticks}
 use Rattle.replay_laws.proofs.HeardLemmas.{arrivals-append}
@@ -199,7 +199,8 @@ module _ (side : Side) (c : Config) (events : List Event) where
         (subst (λ (gs : List Kept). IsKnown side c gs (judged_before side (told c events)) (dated side c events) (known_of u.earlier)) (sym (kept_quiet e q)) h.earlier));
   }
 
-pub others_leave_it : OthersLeaveIt
+-- it changes nothing of what is kept of the unit
+pub others_leave_it : (side : Side) (c : Config) (events : List Event) (e : Event) (u : UnitLines) → IsElsewhere side e → IsUnitAfter side c events u → IsUnitAfter side c (events ++ e ∷ []) u
 others_leave_it side c events e u elsewhere h = leaves side c events e u (quiet side c events e elsewhere) h
 
 -- ---- no event

@@ -1,5 +1,5 @@
 -- What is kept of a unit after some events, and the lines of a further frame of it.
-use Rattle.std.specs.Prelude.{◌≡◌, ℕ, ℤ, List, [], ◌∷◌, ◌++◌, false}
+use Rattle.std.specs.Prelude.{◌≡◌, ℕ, ℤ, List, [], false}
 use Rattle.air_source.specs.Units.{same_side}
 use Rattle.air_source.specs.declared.events.Event.{Event}
 use Rattle.air_source.specs.declared.events.Event.TheVariants as event
@@ -38,7 +38,3 @@ IsElsewhere side (event.Arrival at_side at frame) = same_side at_side side ≡ f
 IsElsewhere side (event.Cell a) = Unit {0}
 IsElsewhere side (event.Delay at at_side id value) = Unit {0}
 IsElsewhere side (event.Count at_side counter value) = Unit {0}
-
--- such an event changes nothing of what is kept of the unit
-abbrev pub OthersLeaveIt : Type 0
-OthersLeaveIt = (side : Side) (c : Config) (events : List Event) (e : Event) (u : UnitLines) → IsElsewhere side e → IsUnitAfter side c events u → IsUnitAfter side c (events ++ e ∷ []) u

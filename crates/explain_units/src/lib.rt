@@ -6,7 +6,6 @@
 mod ear;
 mod earlier;
 mod given;
-pub mod laws;
 mod margins;
 mod telling;
 mod units;
