@@ -12,6 +12,7 @@ use Rattle.air_source.specs.declared.events.Side.TheVariants.{Du}
 use Rattle.window_config.specs.declared.config.Config.{Config}
 use Rattle.unit_model.specs.Claims.{claim_at}
 use Rattle.window_config.specs.declared.endpoints.EndpointConfig.{EndpointConfig}
+use Rattle.unit_model.specs.Proper.{IsAt, IsSlot}
 use Rattle.unit_model.specs.Radiated.{air_cell, cell_id, report_of, samples_under, used_mask, wait_of}
 use Rattle.unit_model.specs.Standing.{History, heard}
 use Rattle.unit_model.specs.declared.allocations.Allocation.{Allocation}
@@ -19,7 +20,7 @@ use Rattle.unit_model.specs.declared.cells.Block.{Block}
 use Rattle.unit_model.specs.declared.cells.Cell.{Cell}
 use Rattle.unit_model.specs.declared.cells.Claim.{Claim}
 use Rattle.unit_model.specs.declared.symbol_start.SymbolStart.{SymbolStart}
-use Rattle.unit_cells.specs.Cells.{IsSlotIn, cells_block}
+use Rattle.unit_cells.specs.Cells.{cells_block, endpoints_of}
 use Rattle.unit_cells.proofs.KeepLemmas.{at_rings}
 use Rattle.unit_symbols.specs.DueSymbols.{CountsTold}
 use Rattle.unit_laws.proofs.UnitLemmas.{heard_none}
@@ -145,12 +146,11 @@ module _ (c : Config) (planned : List Allocation) (u : Intake) (h : History) (ne
   pub own_symbol : symbol_at c.endpoints u.plan u.place.symbol ≡ Some next
   own_symbol = ap (λ (es : List EndpointConfig). symbol_at es u.plan u.place.symbol) (sym all.kept.holds.endpoints) ∙ is
 
-  pub slot_in : IsSlotIn u.memory.cells next.ep next.slot
-  slot_in = record {
-    endpoint = next.endpoint;
-    at = at_rings Du c u.memory.cells next.ep next.endpoint all.kept.holds.of (swept c planned u.memory u.clock.0 h next prb kept_at).endpoint;
-    slot_is = slot_is c planned u.memory u.clock.0 h next prb kept_at;
-  }
+  pub own_endpoint : IsAt (endpoints_of u.memory.cells) next.ep next.endpoint
+  own_endpoint = at_rings Du c u.memory.cells next.ep next.endpoint all.kept.holds.of (swept c planned u.memory u.clock.0 h next prb kept_at).endpoint
+
+  pub own_slot : IsSlot next.endpoint.numerology next.slot
+  own_slot = slot_is c planned u.memory u.clock.0 h next prb kept_at
 
   -- what the row has of it
   pub claim_few : HasClaimed u → (claim : PlannedClaim) → claim ≡ get_or u.row.items prb no_claim → claim.mask < 2 ^ 12

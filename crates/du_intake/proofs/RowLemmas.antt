@@ -9,9 +9,7 @@ use Rattle.std.proofs.lemmas.Nat.{and_mask, or_lt}
 use Rattle.std.proofs.lemmas.Option.{slice_get-get_or}
 use Rattle.fh_time.proofs.Orders.{not_none}
 use Rattle.fragment_laws.specs.Apart.{IsIn}
-use Rattle.unit_model.specs.Claims.{cell_at, in_mask, is_from}
-use Rattle.unit_cells.specs.Cells.{CellsValue, block_from, cells_block, ring_of}
-use Rattle.slot_rings.specs.Rings.{RingValue}
+use Rattle.unit_model.specs.Claims.{in_mask, is_from}
 use Rattle.air_source.specs.declared.events.AirCell.{AirCell}
 use Rattle.air_source.specs.declared.events.Side.TheVariants.{Du}
 use Rattle.bfp_codec.specs.declared.samples.Wide.{Wide}
@@ -205,11 +203,3 @@ report_some next prb m block samples few some is =
   where
     positive : (k : ℕ) → (k ≡ 0 → ⊥) → 0 < k
     positive k h = omega (arith, h)
-
--- a block stands for a cell in either direction
-pub either_way : (v : CellsValue) (next : SymbolStart) (prb : ℕ) → cells_block v (cell_at next.ep true next.slot next.symbol prb) ≡ cells_block v (uplink_cell_in next prb)
-either_way v next prb = go (ring_of v next.ep)
-  where
-    go : (o : Option RingValue) → block_from o (cell_at next.ep true next.slot next.symbol prb) ≡ block_from o (uplink_cell_in next prb)
-    go None = refl
-    go (Some r) = refl

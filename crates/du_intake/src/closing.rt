@@ -4,11 +4,11 @@ ghost use Rattle.air_source.specs.Causes.{HasAirCause};
 ghost use Rattle.air_source.specs.declared.events.Event.TheVariants.{Cell as Reported};
 ghost use Rattle.air_source.specs.declared.events.Side.TheVariants.{Du as AtDu};
 ghost use Rattle.window_config.specs.declared.config.Config.{Config as SpecConfig};
-ghost use Rattle.unit_model.specs.Proper.{IsTime};
+ghost use Rattle.unit_model.specs.Proper.{IsAt, IsSlot, IsTime};
 ghost use Rattle.unit_model.specs.Radiated.{report_of};
 ghost use Rattle.unit_model.specs.Standing.{History, at_clock, heard};
 ghost use Rattle.unit_model.specs.declared.allocations.Allocation.{Allocation as SpecAllocation};
-ghost use Rattle.unit_cells.specs.Cells.{IsSlotIn, cells_block};
+ghost use Rattle.unit_cells.specs.Cells.{cells_block, endpoints_of};
 ghost use Rattle.unit_symbols.specs.DueSymbols.{CountsTold};
 ghost use Rattle.du_intake.specs.Cursors.{uplink_cell_in};
 ghost use Rattle.du_intake.specs.Rows.{claim_of_planned};
@@ -39,14 +39,15 @@ fn planned_cell(
     m: &SymbolStart,
     prb: u16,
 ) -> Option<AirCell>
-    requires slot { IsSlotIn cells.now m.now.ep m.now.slot }
+    requires at { IsAt (endpoints_of cells.now) m.now.ep m.now.endpoint }
+    requires slot { IsSlot m.now.endpoint.numerology m.now.slot }
     requires few { claim.mask < 2 ^ 12 }
     ensures { option_to_list result ≡ report_of AtDu m.now.endpoint (uplink_cell_in m.now prb) m.now.start.0 (claim_of_planned claim) (cells_block cells.now (uplink_cell_in m.now prb)) }
 {
     if claim.mask == 0 {
         return None;
     }
-    let block = cells.block(m.ep, m.slot, m.symbol, prb).copied();
+    let block = cells.ring(m.ep).block(m.slot, m.symbol, prb).copied();
     Some(AirCell {
         side: Side::Du,
         at: m.start,

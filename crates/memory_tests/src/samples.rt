@@ -126,7 +126,7 @@ pub(crate) fn block_at(cells: &UnitCells, e: &EndpointConfig, symbol: u8, prb: u
     requires listed { endpoints_of cells.now ≡ e.now ∷ [] }
     requires slots { 0 < slots_of e.now.numerology }
 {
-    cells.block(0, SLOT, symbol, prb).copied()
+    cells.ring(0).block(SLOT, symbol, prb).copied()
 }
 
 /// The section that claims a downlink cell of the slot, 0 where none does.
@@ -134,5 +134,5 @@ pub(crate) fn claim_at(cells: &UnitCells, e: &EndpointConfig, symbol: u8, prb: u
     requires listed { endpoints_of cells.now ≡ e.now ∷ [] }
     requires slots { 0 < slots_of e.now.numerology }
 {
-    cells.symbol_cells(0, SLOT, symbol).cell(prb).section
+    cells.ring(0).symbol_cells(SLOT, symbol).cell(prb).section
 }

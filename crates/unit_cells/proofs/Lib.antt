@@ -3,7 +3,6 @@ pub mod NumberLemmas
 pub mod ListLemmas
 pub mod ApartLemmas
 pub mod ToldLemmas
-pub mod DueLemmas
 pub mod KeepLemmas
 pub mod RingsLemmas
 pub mod TimeLemmas

@@ -18,12 +18,12 @@ use Rattle.window_config.specs.declared.delays.Delays.{Delays}
 use Rattle.window_config.specs.declared.endpoints.EndpointConfig.{EndpointConfig}
 use Rattle.unit_model.specs.Claims.{claim_at}
 use Rattle.unit_model.specs.Terms.{Side}
-use Rattle.unit_model.specs.Proper.{IsAt, IsSlot}
+use Rattle.unit_model.specs.Proper.{IsAt}
 use Rattle.unit_model.specs.declared.cells.Cell.{Cell}
 use Rattle.unit_laws.specs.Far.{IsReached, IsReachedData}
 use Rattle.unit_model.specs.Sides.{IsLiveOn, reach_of}
 use Rattle.slot_rings.specs.Rings.{IsEmpty, RingValue, TouchesOnly}
-use Rattle.unit_cells.specs.Cells.{AreRings, CellsValue, HoldsLive, IsSlotIn, block_from, cells_block, cells_claim, cells_reported, cells_has, cells_uplink, claim_from, reported_from, endpoint_in, endpoints_of, has_from, ring_of, uplink_from}
+use Rattle.unit_cells.specs.Cells.{AreRings, CellsValue, HoldsLive, block_from, cells_block, cells_claim, cells_reported, cells_has, cells_uplink, claim_from, reported_from, endpoint_in, endpoints_of, has_from, ring_of, uplink_from}
 use Rattle.unit_cells.specs.Keeping.{Keeps}
 use Rattle.unit_cells.specs.Told.{told_block_at}
 use Rattle.unit_cells.specs.Steps.{InRing}
@@ -50,13 +50,8 @@ ring_there side d rs v ep read view below is =
     let within : ep < length v.rings = subst (λ (n : ℕ). ep < n) (length-map v.rings endpoint_in) below in
     slice_get_read v.rings (length v.rings) ep read refl within (subst (λ (xs : List RingValue). read ≡ get_or xs ep read) rings is)
 
--- what is known of a slot that its ring gives
-pub slot_there : (v : CellsValue) (ep : ℕ) (r : RingValue) (slot : Slot) → ring_of v ep ≡ Some r → IsSlot r.endpoint.numerology slot → IsSlotIn v ep slot
-slot_there v ep r slot there is = record {
-  endpoint = r.endpoint;
-  at = slice_get-map endpoint_in v.rings ep ∙ ap (option_map endpoint_in) there;
-  slot_is = is;
-}
+pub ring_at : (v : CellsValue) (ep : ℕ) (r : RingValue) → ring_of v ep ≡ Some r → IsAt (endpoints_of v) ep r.endpoint
+ring_at v ep r there = slice_get-map endpoint_in v.rings ep ∙ ap (option_map endpoint_in) there
 
 pub in_ring : (step : RingValue → RingValue → Type 0) (side : Side) (d : Delays) (rs : List RingValue) (v : CellsValue) (ep : ℕ) (e : EndpointConfig) (before after : RingValue)
     → rings_with side d rs ≡ v → IsAt (endpoints_of v) ep e → before ≡ get_or rs ep before → step before after → InRing ep step v (rings_with side d (set rs ep after))

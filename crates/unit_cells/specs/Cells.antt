@@ -1,26 +1,19 @@
 -- The rings of all endpoints of a unit, and what they answer of a cell.
-use Rattle.std.specs.Prelude.{◌≡◌, ℕ, ℤ, pos, ◌+◌, ◌<◌, ◌≤◌, ◌+ℤ◌, ◌<ℤ◌, ◌≤ℤ◌, Bool, true, false, List, [], length, map, slice_get, Option, Some, None}
+use Rattle.std.specs.Prelude.{◌≡◌, ℕ, ℤ, pos, ◌+◌, ◌<◌, ◌≤◌, ◌+ℤ◌, ◌<ℤ◌, Bool, false, List, [], length, map, slice_get, Option, Some, None}
 use Rattle.fh_time.specs.declared.values.Slot.{Slot}
-use Rattle.fh_time.specs.Air.{air_of}
-use Rattle.fh_time.specs.declared.values.Ticks.{Ticks}
 use Rattle.fh_time.specs.Numbering.{IsSlotOf, slot_number, symbols_of}
 use Rattle.unit_model.specs.Terms.{Side}
 use Rattle.window_config.specs.Limits.{IsWithinLimits}
 use Rattle.window_config.specs.declared.config.Config.{Config}
 use Rattle.window_config.specs.declared.delays.Delays.{Delays}
 use Rattle.window_config.specs.declared.endpoints.EndpointConfig.{EndpointConfig}
-use Rattle.unit_model.specs.Claims.{cell_at}
 use Rattle.unit_model.specs.Proper.{IsAt, IsSlot}
 use Rattle.unit_model.specs.declared.allocations.Allocation.{Allocation}
 use Rattle.unit_model.specs.declared.cells.Block.{Block}
 use Rattle.unit_model.specs.declared.cells.Cell.{Cell}
 use Rattle.unit_model.specs.declared.cells.Claim.{Claim}
-use Rattle.unit_model.specs.Lists.{some}
 use Rattle.unit_model.specs.Sides.{IsLiveOn}
-use Rattle.slot_rings.specs.Places.{is_due, is_in_use}
 use Rattle.slot_rings.specs.Rings.{RingValue, has_slot, place_index, ring_block, ring_claim, ring_reported, ring_uplink}
-use Rattle.slot_rings.specs.Symbols.{lent_block, lent_claim, lent_reported}
-use Rattle.slot_rings.specs.declared.symbol_cells.SymbolCells.{SymbolCells}
 
 -- the delays by which arrivals are judged, and the ring of each endpoint, by its index
 pub record CellsValue : Type 0 where
@@ -92,14 +85,6 @@ cells_has v ep slot = has_from (ring_of v ep) slot
 abbrev pub cells_index : CellsValue → ℕ → Slot → ℕ
 cells_index v ep slot = index_from (ring_of v ep) slot
 
-abbrev pub places_from : Option RingValue → ℕ
-places_from None = 0
-places_from (Some r) = length r.places
-
--- how many places the slots of an endpoint have
-abbrev pub cells_places : CellsValue → ℕ → ℕ
-cells_places v ep = places_from (ring_of v ep)
-
 -- ---- what they always are
 
 -- slots that are live at one time stand less than all places apart
@@ -114,12 +99,6 @@ pub record AreRings (v : CellsValue) : Type 0 where
   pub wide : (ep : ℕ) (r : RingValue) → ring_of v ep ≡ Some r → HoldsLive v.side v.delays r
 
 -- ---- what calls name
-
--- a slot of the endpoint with this index
-pub record IsSlotIn (v : CellsValue) (ep : ℕ) (slot : Slot) : Type 0 where
-  pub endpoint : EndpointConfig
-  pub at : IsAt (endpoints_of v) ep endpoint
-  pub slot_is : IsSlot endpoint.numerology slot
 
 -- a cell of the endpoint with its index
 pub record IsCellIn (v : CellsValue) (cell : Cell) : Type 0 where
@@ -136,25 +115,3 @@ pub record AreCellsIn (v : CellsValue) (ep : ℕ) (slot : Slot) (symbol first co
   pub slot_is : IsSlot endpoint.numerology slot
   pub symbol_is : symbol < symbols_of endpoint.numerology
   pub prbs : first + count ≤ endpoint.prbs
-
--- these are the downlink cells of a symbol
-pub record AreUnitCellsOf (v : CellsValue) (ep : ℕ) (slot : Slot) (symbol : ℕ) (cells : SymbolCells) : Type 0 where
-  pub claims : (prb re : ℕ) → lent_claim cells prb re ≡ cells_claim v (cell_at ep true slot symbol prb) re
-  pub blocks : (prb : ℕ) → lent_block cells prb ≡ cells_block v (cell_at ep true slot symbol prb)
-  pub reported : (prb : ℕ) → lent_reported cells prb ≡ cells_reported v (cell_at ep true slot symbol prb)
-  pub within : (e : EndpointConfig) → IsAt (endpoints_of v) ep e → cells.span.end ≤ e.prbs
-  pub unused : (e : EndpointConfig) (prb : ℕ) → IsAt (endpoints_of v) ep e → prb < e.prbs → (cells.span.first ≤ prb → cells.span.end ≤ prb)
-      → is_in_use (lent_claim cells prb) ≡ false
-
--- ---- what is due
-
--- a downlink cell of a symbol is in use, and was not reported
-abbrev pub cells_due : CellsValue → ℕ → ℕ → Slot → ℕ → Bool
-cells_due v prbs ep slot symbol = some 0 prbs (λ prb. is_due (cells_claim v (cell_at ep true slot symbol prb)) (cells_reported v (cell_at ep true slot symbol prb)))
-
--- of these slots of an endpoint, each symbol with such a cell starts at a tick or later: without a tick there is no such symbol
-abbrev pub AreDueFrom : CellsValue → ℕ → (Slot → Type 0) → Option Ticks → Type 0
-AreDueFrom v ep P None = (e : EndpointConfig) → IsAt (endpoints_of v) ep e → (slot : Slot) (symbol : ℕ) → P slot → symbol < symbols_of e.numerology
-    → cells_due v e.prbs ep slot symbol ≡ false
-AreDueFrom v ep P (Some t) = (e : EndpointConfig) → IsAt (endpoints_of v) ep e → (slot : Slot) (symbol : ℕ) → P slot → symbol < symbols_of e.numerology
-    → cells_due v e.prbs ep slot symbol ≡ true → t.0 ≤ℤ air_of e.numerology slot symbol

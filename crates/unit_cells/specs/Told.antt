@@ -1,5 +1,5 @@
 -- The blocks of cells where sections of data may be told only in part.
-use Rattle.std.specs.Prelude.{◌≡◌, ◌-◌, ◌≤◌, Bool, ◌&&◌, nat_lt, if◌then◌else◌, List, [], ◌∷◌, length, Option, Some, None}
+use Rattle.std.specs.Prelude.{◌-◌, ◌≤◌, Bool, ◌&&◌, nat_lt, if◌then◌else◌, List, [], ◌∷◌, length, Option, Some, None}
 use Rattle.unit_model.specs.Blocks.{block_of, data_covers, data_prb_count, first_data_prb}
 use Rattle.unit_model.specs.Lists.{or_else}
 use Rattle.unit_model.specs.declared.cells.Block.{Block}

@@ -1,5 +1,5 @@
 // The rings of all endpoints.
-ghost use Rattle.std.specs.Prelude.{◌≡◌, ◌≢◌, ℕ, ℤ, ◌+◌, ◌*◌, ◌<◌, ◌≤◌, ◌||◌, true, false, List, [], ◌∷◌, ◌++◌, All, length, reverse, is_some, IfOk, IfSome, Some, option_copied};
+ghost use Rattle.std.specs.Prelude.{◌≡◌, ◌≢◌, ℕ, ℤ, ◌+◌, ◌*◌, ◌<◌, ◌≤◌, ◌||◌, true, false, List, [], ◌∷◌, ◌++◌, All, length, is_some, IfOk, Some};
 ghost use Rattle.fh_time.specs.Numbering.{symbols_of};
 ghost use Rattle.fh_time.specs.declared.values.Slot.{Slot};
 ghost use Rattle.unit_model.specs.Terms.{Side as SpecSide, Ru};
@@ -11,17 +11,16 @@ ghost use Rattle.window_config.specs.declared.verdicts.Class.TheVariants.{OnTime
 ghost use Rattle.unit_model.specs.Blocks.{data_class, data_prb_count, data_slot, data_verdict, first_data_prb};
 ghost use Rattle.unit_model.specs.Claims.{cell_at};
 ghost use Rattle.unit_model.specs.Commands.{allocation_of, command_verdict, with_accepted};
-ghost use Rattle.unit_model.specs.Lists.{every, some};
+ghost use Rattle.unit_model.specs.Lists.{every};
 ghost use Rattle.unit_model.specs.Proper.{IsAt, IsProperCommand, IsSlot};
 ghost use Rattle.unit_model.specs.declared.allocations.Allocation.{Allocation};
 ghost use Rattle.unit_model.specs.declared.cells.Cell.{Cell};
 ghost use Rattle.unit_model.specs.declared.decoded.UserSection.{UserSection};
-ghost use Rattle.slot_rings.specs.Places.{is_due, is_in_use};
+ghost use Rattle.slot_rings.specs.Places.{is_in_use};
 ghost use Rattle.slot_rings.specs.Rings.{RingValue, ring_block};
 ghost use Rattle.slot_rings.specs.Runs.{packed_samples, unpacked_run};
 ghost use Rattle.unit_cells.specs.Headings.{IsProperHeading, data_under, with_heading};
 ghost use Rattle.unit_cells.specs.Told.{IsTold};
-ghost use Rattle.unit_model.specs.declared.uplink.TheConstants.{SLOT_SECTIONS};
 
 use crate::heading::DataHeading;
 use crate::rings::{fill, fill_run, make_ring, set_used_reported, take};
@@ -29,15 +28,15 @@ use crate::sections::{data_class, data_slot, prb_at};
 use air_source::Side;
 use bfp_codec::{Method, Wide};
 use fh_base::NoMemory;
-use fh_time::{Slot, Ticks};
-use slot_rings::{PackedRun, SlotRing, SymbolCells};
+use fh_time::Slot;
+use slot_rings::{PackedRun, SlotRing};
 use std::alloc::Global;
 use std::marker::Model;
 use unit_model::{
     Allocation, Block, CommandVerdict, ControlSection, DataVerdict, allocation_of, command_class,
     is_for,
 };
-use window_config::{Class, Config, Delays, EndpointConfig};
+use window_config::{Class, Config, Delays};
 
 /// The memory of all cells of a unit: the ring of each endpoint, which has a place for each slot that may be live at one
 /// time. All memory is taken when it is made; no other call asks for any.
@@ -61,7 +60,7 @@ impl Model for UnitCells {
 }
 
 impl UnitCells {
-    ghost use Rattle.unit_cells.specs.Cells.{AreCellsIn, AreDueFrom, AreUnitCellsOf, AreRings, CellsValue, IsOf, IsSlotIn, IsCellIn, cells_block, cells_claim, cells_reported, cells_has, cells_index, cells_places, cells_uplink, endpoints_of, ring_of};
+    ghost use Rattle.unit_cells.specs.Cells.{AreCellsIn, AreRings, CellsValue, IsOf, IsCellIn, cells_claim, cells_reported, cells_has, endpoints_of, ring_of};
     ghost use Rattle.unit_cells.specs.Keeping.{Keeps, LiveAreApart, SameKnown, SameReported};
     ghost use Rattle.unit_cells.specs.Steps.{Fills, InRing, SetsReported, Takes};
 
@@ -242,8 +241,8 @@ impl UnitCells {
     }
 
     /// Sets as reported the downlink cells of a symbol that are in use at the first so many PRBs, in a slot that has its place.
-    /// Where these are all PRBs, `is_pending` and `is_used` answer from now on without a look at any of its cells, until one is
-    /// claimed. Nothing else changes.
+    /// Where these are all PRBs, `is_pending` and `is_used` of the ring answer from now on without a look at any of its cells, until
+    /// one is claimed. Nothing else changes.
     pub fn set_used_reported(&mut self, ep: usize, slot: Slot, symbol: u8, count: u16)
         requires cells { AreCellsIn self.old ep slot symbol 0 count }
         requires has { cells_has self.old ep slot ≡ true }
@@ -260,88 +259,6 @@ impl UnitCells {
         self.set_reported(ep, slot, symbol, count);
     }
 
-    /// The downlink cells of a symbol: their place is found once for all of them.
-    pub fn symbol_cells(&self, ep: usize, slot: Slot, symbol: u8) -> SymbolCells<'_>
-        requires { IsSlotIn self.now ep slot }
-        ensures { AreUnitCellsOf self.now ep slot symbol result }
-    {
-        self.rings[ep].symbol_cells(slot, symbol)
-    }
-
-    /// The block of a downlink cell.
-    pub fn block(&self, ep: usize, slot: Slot, symbol: u8, prb: u16) -> Option<&Block>
-        requires { IsSlotIn self.now ep slot }
-        ensures { option_copied result ≡ cells_block self.now (cell_at ep true slot symbol prb) }
-    {
-        self.rings[ep].block(slot, symbol, prb)
-    }
-
-    /// Whether a downlink cell of a symbol is in use and was not reported.
-    pub fn is_used(&self, ep: usize, slot: Slot, symbol: u8) -> bool
-        requires { IsSlotIn self.now ep slot }
-        ensures { (e : EndpointConfig) → IsAt (endpoints_of self.now) ep e → result ≡ some 0 e.prbs (λ prb.
-            is_due (cells_claim self.now (cell_at ep true slot symbol prb)) (cells_reported self.now (cell_at ep true slot symbol prb))) }
-    {
-        self.rings[ep].is_used(slot, symbol)
-    }
-
-    /// Whether a downlink cell of the symbol may be in use and not reported, of the slot that has the place with this index. It
-    /// looks at no cell.
-    pub fn is_pending(&self, ep: usize, index: usize, symbol: u8) -> bool
-        requires ep { ep < length (endpoints_of self.now) }
-        requires index { index < cells_places self.now ep }
-        ensures { result ≡ false → (slot : Slot) → cells_index self.now ep slot ≡ index → cells_has self.now ep slot ≡ true
-            → (e : EndpointConfig) → IsAt (endpoints_of self.now) ep e → some 0 e.prbs (λ prb.
-            is_due (cells_claim self.now (cell_at ep true slot symbol prb)) (cells_reported self.now (cell_at ep true slot symbol prb))) ≡ false }
-    {
-        self.rings[ep].is_pending(index, symbol)
-    }
-
-    /// A tick before which no symbol starts of which a downlink cell is in use and was not reported, of the slot of an endpoint that has the
-    /// place with this index. None only where there is no such cell. It looks at two numbers.
-    pub fn earliest_at(&self, ep: usize, index: usize) -> Option<Ticks>
-        requires ep { ep < length (endpoints_of self.now) }
-        requires index { index < cells_places self.now ep }
-        ensures { AreDueFrom self.now ep (λ slot. cells_index self.now ep slot ≡ index) result }
-    {
-        self.rings[ep].earliest_at(index)
-    }
-
-    /// Whether any accepted uplink section is held of the slot of an endpoint that has the place with this index.
-    pub fn has_uplink_at(&self, ep: usize, index: usize) -> bool
-        requires ep { ep < length (endpoints_of self.now) }
-        requires index { index < cells_places self.now ep }
-        ensures { result ≡ false → (slot : Slot) → cells_index self.now ep slot ≡ index → cells_uplink self.now ep slot ≡ [] }
-    {
-        self.rings[ep].has_uplink_at(index)
-    }
-
-    /// A tick before which no symbol of an endpoint starts of which a downlink cell is in use and was not reported. None only where there is
-    /// no such cell. It looks at two numbers.
-    pub fn earliest(&self, ep: usize) -> Option<Ticks>
-        requires { ep < length (endpoints_of self.now) }
-        ensures { AreDueFrom self.now ep (λ slot. Unit {0}) result }
-    {
-        self.rings[ep].earliest()
-    }
-
-    /// Whether any accepted uplink section of an endpoint is held. It looks at one number.
-    pub fn has_uplink(&self, ep: usize) -> bool
-        requires { ep < length (endpoints_of self.now) }
-        ensures { result ≡ false → (slot : Slot) → cells_uplink self.now ep slot ≡ [] }
-    {
-        self.rings[ep].has_uplink()
-    }
-
-    /// The accepted uplink sections of a slot, the newest last: 64 at most.
-    pub fn uplink(&self, ep: usize, slot: Slot) -> &[Allocation]
-        requires { IsSlotIn self.now ep slot }
-        ensures value { reverse result.now ≡ cells_uplink self.now ep slot }
-        ensures few { length result.now ≤ SLOT_SECTIONS }
-    {
-        self.rings[ep].uplink(slot)
-    }
-
     /// The unit whose cells these are.
     pub fn side(&self) -> Side
         ensures { result ≡ self.now.side }
@@ -356,33 +273,13 @@ impl UnitCells {
         self.rings.len()
     }
 
-    /// The endpoint with an index.
-    pub fn endpoint(&self, ep: usize) -> &EndpointConfig
+    /// The ring of an endpoint. Two slots that are live have two places of it.
+    pub fn ring(&self, ep: usize) -> &SlotRing
         requires { ep < length (endpoints_of self.now) }
-        ensures { IsAt (endpoints_of self.now) ep result.now }
-    {
-        self.rings[ep].endpoint()
-    }
-
-    /// How many places the slots of an endpoint have. Two slots that are live have two of them.
-    pub fn places(&self, ep: usize) -> usize
-        requires { ep < length (endpoints_of self.now) }
-        ensures value { result ≡ cells_places self.now ep }
-        ensures within { (slot : Slot) → cells_index self.now ep slot < result }
+        ensures ring { ring_of self.now ep ≡ Some result.now }
+        ensures endpoint { IsAt (endpoints_of self.now) ep result.now.endpoint }
         ensures apart { LiveAreApart self.now }
     {
-        self.rings[ep].place_count()
-    }
-
-    /// The slot that has the place with an index.
-    pub fn slot_at(&self, ep: usize, index: usize) -> Option<Slot>
-        requires ep { ep < length (endpoints_of self.now) }
-        requires index { index < cells_places self.now ep }
-        ensures has { IfSome result (λ slot. cells_has self.now ep slot ≡ true) }
-        ensures slot { IfSome result (λ slot. IsSlotIn self.now ep slot) }
-        ensures index { IfSome result (λ slot. cells_index self.now ep slot ≡ index) }
-        ensures only { (slot : Slot) → cells_index self.now ep slot ≡ index → cells_has self.now ep slot ≡ true → result ≡ Some slot }
-    {
-        self.rings[ep].slot_at(index)
+        &self.rings[ep]
     }
 }

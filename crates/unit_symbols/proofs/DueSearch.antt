@@ -1,5 +1,5 @@
 -- Symbols of which nothing is to be reported after a time.
-use Rattle.std.proofs.Common.{◌≡◌, ℕ, ℤ, ◌-◌, ◌<◌, ◌≤ℤ◌, true, false, int_le, refl, sym, ap, subst, arith, Option, Some, None}
+use Rattle.std.proofs.Common.{◌≡◌, ℕ, ℤ, ◌-◌, ◌<◌, ◌≤ℤ◌, true, false, int_le, refl, sym, ap, ◌∙◌, subst, arith, Option, Some, None}
 use Rattle.fh_time.specs.declared.values.Ticks.{Ticks}
 use Rattle.std.specs.Prelude.{int_lt}
 use Rattle.std.proofs.lemmas.Int.{ints}
@@ -9,29 +9,46 @@ use Rattle.fh_time.specs.Numbering.{symbols_of}
 use Rattle.fh_time.proofs.Order.{symbols_in_order}
 use Rattle.window_config.specs.declared.endpoints.EndpointConfig.{EndpointConfig}
 use Rattle.unit_model.specs.Proper.{IsAt}
-use Rattle.unit_model.specs.Starts.{start_at}
 use Rattle.unit_model.specs.declared.symbol_start.SymbolStart.{SymbolStart}
-use Rattle.unit_cells.specs.Cells.{AreDueFrom, CellsValue, endpoints_of}
-use Rattle.unit_symbols.specs.Symbols.{FitsFrom, HasNone, InSlot}
+use Rattle.unit_model.specs.Lists.{some}
+use Rattle.slot_rings.specs.Places.{is_due}
+use Rattle.slot_rings.specs.Rings.{RingValue, ring_claim, ring_reported}
+use Rattle.slot_rings.specs.Starts.{IsDueFrom, ring_due}
+use Rattle.unit_cells.specs.Cells.{CellsValue, claim_from, endpoints_of, reported_from, ring_of}
+use Rattle.unit_cells.proofs.KeepLemmas.{ring_endpoint}
+use Rattle.unit_symbols.specs.Symbols.{FitsFrom, HasNone, InSlot, IsSymbol}
 use Rattle.unit_symbols.proofs.SymbolLemmas.{endpoint_one, symbol_one}
-use Rattle.unit_symbols.specs.DueSymbols.{is_left, is_left_after}
+use Rattle.unit_symbols.specs.DueSymbols.{cell_in, is_left, is_left_after}
 use Rattle.fh_time.proofs.Orders.{and_false_2 as second_false}
 use Rattle.std.proofs.lemmas.Bool.{and_left, and_parts}
 
+-- what is left of a symbol is what is due of it in its ring
+pub left_is : (v : CellsValue) (r : RingValue) (m : SymbolStart) → ring_of v m.ep ≡ Some r → is_left v m ≡ some 0 m.endpoint.prbs (λ prb. is_due (ring_claim r (cell_in m prb)) (ring_reported r (cell_in m prb)))
+left_is v r m there = ap (λ (o : Option RingValue). some 0 m.endpoint.prbs (λ prb. is_due (λ re. claim_from o (cell_in m prb) re) (reported_from o (cell_in m prb)))) there
+
 -- of these slots of an endpoint, what is due starts at a tick or later, or nothing is due
-pub due_fits : (v : CellsValue) (t : ℤ) (ep : ℕ) (P : Slot → Type 0) (Over : SymbolStart → Type 0) (o : Option Ticks)
-    → ((m : SymbolStart) → Over m → (m.ep ≡ ep) × P m.slot) → AreDueFrom v ep P o → FitsFrom v (is_left_after v t) Over o
-due_fits v t ep P Over None of none = λ m is over.
-    let here = of m over in
-    second_false (int_lt t m.start.0) (is_left v m)
-    (subst (λ (k : ℕ). is_left v (start_at k m.endpoint m.slot m.symbol) ≡ false) (sym here.0)
-    (none m.endpoint (subst (λ (k : ℕ). IsAt (endpoints_of v) k m.endpoint) here.0 is.at) m.slot m.symbol here.1 is.symbol_is))
-due_fits v t ep P Over (Some first) of from = λ m w over.
-    let here = of m over in
-    let due = (and_parts (int_lt t m.start.0) (is_left v m) w.fit).1 in
-    subst (λ (x : ℤ). first.0 ≤ℤ x) (sym w.is.starts)
-    (from m.endpoint (subst (λ (k : ℕ). IsAt (endpoints_of v) k m.endpoint) here.0 w.is.at) m.slot m.symbol here.1 w.is.symbol_is
-    (subst (λ (k : ℕ). is_left v (start_at k m.endpoint m.slot m.symbol) ≡ true) here.0 due))
+pub due_fits : (v : CellsValue) (t : ℤ) (ep : ℕ) (r : RingValue) (P : Slot → Type 0) (Over : SymbolStart → Type 0) (o : Option Ticks) → ring_of v ep ≡ Some r
+    → ((m : SymbolStart) → Over m → (m.ep ≡ ep) × P m.slot) → IsDueFrom r P o → FitsFrom v (is_left_after v t) Over o
+due_fits v t ep r P Over o there of from = by o from
+  where
+    own : (m : SymbolStart) → IsSymbol v m → Over m → m.endpoint ≡ r.endpoint
+    own m is over = sym (ring_endpoint v ep m.endpoint r (subst (λ (k : ℕ). IsAt (endpoints_of v) k m.endpoint) (of m over).0 is.at) there)
+
+    due : (m : SymbolStart) → IsSymbol v m → Over m → is_left v m ≡ ring_due r m.ep m.slot m.symbol
+    due m is over =
+        left_is v r m (ap (ring_of v) (of m over).0 ∙ there)
+        ∙ ap (λ (e : EndpointConfig). some 0 e.prbs (λ prb. is_due (ring_claim r (cell_in m prb)) (ring_reported r (cell_in m prb)))) (own m is over)
+
+    few : (m : SymbolStart) → IsSymbol v m → Over m → m.symbol < symbols_of r.endpoint.numerology
+    few m is over = subst (λ (e : EndpointConfig). m.symbol < symbols_of e.numerology) (own m is over) is.symbol_is
+
+    by : (o : Option Ticks) → IsDueFrom r P o → FitsFrom v (is_left_after v t) Over o
+    by None none = λ m is over.
+        second_false (int_lt t m.start.0) (is_left v m) (due m is over ∙ none m.slot m.symbol m.ep (of m over).1 (few m is over))
+    by (Some first) from = λ m w over.
+        subst (λ (x : ℤ). first.0 ≤ℤ x)
+        (ap (λ (e : EndpointConfig). air_of e.numerology m.slot m.symbol) (sym (own m w.is over)) ∙ sym w.is.starts)
+        (from m.slot m.symbol m.ep (of m over).1 (few m w.is over) (sym (due m w.is over) ∙ (and_parts (int_lt t m.start.0) (is_left v m) w.fit).1))
 
 pub not_used : (v : CellsValue) (t : ℤ) (m : SymbolStart) → is_left v m ≡ false → is_left_after v t m ≡ false
 not_used v t m none = second_false (int_lt t m.start.0) (is_left v m) none

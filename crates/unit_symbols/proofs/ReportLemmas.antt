@@ -1,5 +1,5 @@
 -- The report of a symbol's lent cells as far as a PRB, one PRB more, and what it says of the rings.
-use Rattle.std.proofs.Common.{◌≡◌, ℕ, ◌+◌, ◌-◌, ◌<◌, ◌≤◌, ◌==◌, Bool, true, false, not, inl, inr, refl, List, [], ◌∷◌, ◌++◌, map, sym, ap, ◌∙◌, subst, arith, append_assoc, append-nil, Option, Result, Ok, Err}
+use Rattle.std.proofs.Common.{◌≡◌, ℕ, ◌+◌, ◌-◌, ◌<◌, ◌≤◌, ◌==◌, Bool, true, false, not, inl, inr, refl, List, [], ◌∷◌, ◌++◌, map, sym, ap, ◌∙◌, subst, arith, append_assoc, append-nil, Option, Some, Result, Ok, Err}
 use Rattle.std.specs.Prelude.{OnOk, if◌then◌else◌}
 use Rattle.std.proofs.lemmas.Bool.{cases_Bool}
 use Rattle.std.proofs.lemmas.List.{map-append}
@@ -17,7 +17,9 @@ use Rattle.unit_laws.proofs.ListLemmas.{each_same}
 use Rattle.slot_rings.specs.Places.{is_in_use}
 use Rattle.slot_rings.specs.Symbols.{lent_block, lent_claim, lent_reported}
 use Rattle.slot_rings.specs.declared.symbol_cells.SymbolCells.{SymbolCells}
-use Rattle.unit_cells.specs.Cells.{AreUnitCellsOf, CellsValue, cells_claim, cells_reported}
+use Rattle.slot_rings.specs.Rings.{RingValue, ring_claim, ring_reported}
+use Rattle.slot_rings.specs.Symbols.{AreCellsOf}
+use Rattle.unit_cells.specs.Cells.{CellsValue, block_from, claim_from, reported_from, ring_of}
 use Rattle.unit_symbols.specs.DueSymbols.{CountsTold, ReportsTold, StopsAtCell, cell_in, left_at, left_told}
 use Rattle.unit_symbols.specs.Tellings.{StopsAtPrb, StopsInOne, lent_below, lent_told}
 use Rattle.unit_symbols.proofs.CountLemmas.{counts_none, counts_then}
@@ -98,13 +100,14 @@ pub all_below : (v : CellsValue) (m : SymbolStart) (n : ℕ) → n ≡ m.endpoin
 unfolding left_at
 all_below v m n e = ap (λ (k : ℕ). each 0 k (left_told v m)) e
 
-module _ (v : CellsValue) (m : SymbolStart) (cells : SymbolCells) (are : AreUnitCellsOf v m.ep m.slot m.symbol cells) where
+module _ (v : CellsValue) (m : SymbolStart) (r : RingValue) (there : ring_of v m.ep ≡ Some r) (cells : SymbolCells) (are : AreCellsOf r m.slot m.symbol cells) where
   lent_left : (prb : ℕ) → lent_told cells m prb ≡ left_told v m prb
   lent_left prb =
-      let claims : lent_claim cells prb ≡ cells_claim v (cell_in m prb) = λ i re. are.claims prb re i in
-      ap (λ (t : Bool). if t then [] else report_of Ru m.endpoint (cell_in m prb) m.start.0 (lent_claim cells prb) (lent_block cells prb)) (are.reported prb)
-      ∙ ap (λ (c : ℕ → Option Claim). if cells_reported v (cell_in m prb) then [] else report_of Ru m.endpoint (cell_in m prb) m.start.0 c (lent_block cells prb)) claims
-      ∙ ap (λ (b : Option Block). if cells_reported v (cell_in m prb) then [] else report_of Ru m.endpoint (cell_in m prb) m.start.0 (cells_claim v (cell_in m prb)) b) (are.blocks prb)
+      let claims : lent_claim cells prb ≡ ring_claim r (cell_in m prb) = λ i re. are.claims m.ep prb re i in
+      ap (λ (t : Bool). if t then [] else report_of Ru m.endpoint (cell_in m prb) m.start.0 (lent_claim cells prb) (lent_block cells prb)) (are.reported m.ep prb)
+      ∙ ap (λ (c : ℕ → Option Claim). if ring_reported r (cell_in m prb) then [] else report_of Ru m.endpoint (cell_in m prb) m.start.0 c (lent_block cells prb)) claims
+      ∙ ap (λ (b : Option Block). if ring_reported r (cell_in m prb) then [] else report_of Ru m.endpoint (cell_in m prb) m.start.0 (ring_claim r (cell_in m prb)) b) (are.blocks m.ep prb)
+      ∙ sym (ap (λ (o : Option RingValue). if reported_from o (cell_in m prb) then [] else report_of Ru m.endpoint (cell_in m prb) m.start.0 (claim_from o (cell_in m prb)) (block_from o (cell_in m prb))) there)
 
   pub below_left : (n : ℕ) → lent_below cells m n ≡ left_below v m n
   below_left n = each_same 0 n (lent_told cells m) (left_told v m) (λ k low high. lent_left k)

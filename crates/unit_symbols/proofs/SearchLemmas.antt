@@ -1,21 +1,24 @@
 -- How searches over some symbols go on to one over all.
-use Rattle.std.proofs.Common.{◌≡◌, ℕ, ℤ, ◌+◌, ◌<◌, ◌≤◌, ◌≤ℤ◌, Bool, true, false, inl, inr, refl, sym, ap, ◌∙◌, subst, arith, length, Option, Some, None}
+use Rattle.std.proofs.Common.{◌≡◌, ℕ, ℤ, ◌+◌, ◌<◌, ◌≤◌, ◌≤ℤ◌, ◌<ℤ◌, Bool, true, false, inl, inr, refl, sym, ap, ◌∙◌, subst, arith, length, Option, Some, None}
 use Rattle.std.specs.Prelude.{IfSome, ◌&&◌, ◌||◌, ◌==◌, nat_lt, int_lt}
 use Rattle.std.specs.Ordering.{int_eq}
 use Rattle.std.proofs.lemmas.Int.{ints}
 use Rattle.std.proofs.lemmas.Bool.Decides.{nat_tests, Decides-int_eq}
 use Rattle.fh_time.specs.declared.values.Ticks.{Ticks}
-use Rattle.std.proofs.lemmas.Bool.{cases_lt, false_from_ne_true}
+use Rattle.std.proofs.lemmas.Bool.{cases_eq, cases_lt, false_from_ne_true}
 use Rattle.std.proofs.lemmas.Option.{slice_get_within}
 use Rattle.fh_time.specs.declared.values.Slot.{Slot}
 use Rattle.fh_time.specs.Numbering.{symbols_of}
 use Rattle.fh_time.proofs.Order.{symbols_in_order}
 use Rattle.unit_model.specs.Order.{comes_before, symbol_before}
 use Rattle.unit_model.specs.declared.symbol_start.SymbolStart.{SymbolStart}
+use Rattle.unit_model.specs.Proper.{IsAt}
 use Rattle.unit_cells.specs.Cells.{CellsValue, endpoints_of}
+use Rattle.unit_cells.proofs.RingsLemmas.{ring_at}
 use Rattle.unit_symbols.specs.Places.{IsPlace, start_in}
-use Rattle.unit_symbols.specs.Searches.{IsNotBefore, Searched, is_earlier, is_passed}
-use Rattle.unit_symbols.specs.Symbols.{FitsFrom, HasNone, InSlot, IsFirst, IsFitting, IsSymbol}
+use Rattle.unit_symbols.specs.Searches.{IsLead, IsNotAhead, IsNotBefore, Searched, is_earlier, is_passed}
+use Rattle.unit_symbols.specs.Symbols.{FitsFrom, HasNone, InSlot, IsFirst, IsFitting, IsSymbol, OfEndpoint}
+use Rattle.unit_symbols.specs.declared.finding.Lead.{Lead}
 use Rattle.unit_symbols.specs.declared.places.SlotPlace.{SlotPlace}
 use Rattle.unit_symbols.proofs.OrderLemmas.{earlier_symbol, not_before_earlier, not_before_itself, not_before_later}
 use Rattle.unit_symbols.proofs.SymbolLemmas.{symbol_one}
@@ -51,7 +54,7 @@ passed_turn a b t true q r le h k e = let x = h refl in let y = k refl in rw (x,
 passed_turn a b t false q r le h k e = grind (arith, ints, Decides-int_eq)
 
 -- what starts at a tick that is passed does not come before it
-not_before_passed : (m : SymbolStart) (found : Option SymbolStart) (ep : ℕ) (t : ℤ) → m.ep ≡ ep → t ≤ℤ m.start.0 → is_passed found ep t ≡ true → IsNotBefore m found
+not_before_passed : (m : SymbolStart) (found : Option SymbolStart) (ep : ℕ) (t : ℤ) → ep ≤ m.ep → t ≤ℤ m.start.0 → is_passed found ep t ≡ true → IsNotBefore m found
 not_before_passed m None ep t own le e = absurd (cc)
 not_before_passed m (Some f) ep t own le e =
     passed_turn m.start.0 f.start.0 t (nat_lt f.ep ep) (nat_lt m.ep f.ep) ((m.ep == f.ep) && symbol_before m.slot m.symbol f.slot f.symbol) le
@@ -61,7 +64,7 @@ not_before_passed m (Some f) ep t own le e =
 pub searched_from : (v : CellsValue) (fits : SymbolStart → Bool) (Over : SymbolStart → Type 0) (found : Option SymbolStart) (ep : ℕ) (t : Ticks)
     → ((m : SymbolStart) → Over m → m.ep ≡ ep) → FitsFrom v fits Over (Some t) → is_passed found ep t.0 ≡ true → Searched v fits Over found found
 searched_from v fits Over found ep t own from passed =
-    searched_passed v fits Over found (λ m w o. not_before_passed m found ep t.0 (own m o) (from m w o) passed)
+    searched_passed v fits Over found (λ m w o. let e = own m o in not_before_passed m found ep t.0 (omega (arith, e)) (from m w o) passed)
 
 -- ---- over more symbols
 
@@ -85,8 +88,11 @@ abbrev pub NoneBelow : CellsValue → (SymbolStart → Bool) → ℕ → Slot �
 NoneBelow v fits ep slot n = HasNone v fits (λ m. InSlot ep slot m × (m.symbol < n))
 
 module _ (v : CellsValue) (fits : SymbolStart → Bool) (p : SlotPlace) (place : IsPlace v p) where
+  at : IsAt (endpoints_of v) p.ep p.ring.now.endpoint
+  at = ring_at v p.ep p.ring.now place.there
+
   one : (n : ℕ) (x : SymbolStart) → IsSymbol v x → InSlot p.ep p.slot x → x.symbol ≡ n → x ≡ start_in p n
-  one n x is o e = symbol_one v p.ep p.endpoint.now p.slot n x place.at is o.0 o.1 e
+  one n x is o e = symbol_one v p.ep p.ring.now.endpoint p.slot n x at is o.0 o.1 e
 
   pub none_below_more : (n : ℕ) → NoneBelow v fits p.ep p.slot n → fits (start_in p n) ≡ false → NoneBelow v fits p.ep p.slot (n + 1)
   none_below_more n none not m is o = elim (cases_lt m.symbol n) [
@@ -99,7 +105,7 @@ module _ (v : CellsValue) (fits : SymbolStart → Bool) (p : SlotPlace) (place :
   later : (n : ℕ) (x : SymbolStart) → IsSymbol v x → InSlot p.ep p.slot x → n < x.symbol → comes_before (start_in p n) x ≡ true
   later n x s o lt =
       subst (λ (y : SymbolStart). comes_before (start_in p n) y ≡ true) (sym (one x.symbol x s o refl))
-      (earlier_symbol (start_in p n) (start_in p x.symbol) refl refl lt (symbols_in_order p.endpoint.now.numerology p.slot n x.symbol (omega (arith, lt))))
+      (earlier_symbol (start_in p n) (start_in p x.symbol) refl refl lt (symbols_in_order p.ring.now.endpoint.numerology p.slot n x.symbol (omega (arith, lt))))
 
   -- none before a symbol fits, and it does not come before what was found: so does none of the slot's that fits
   from_number : (n : ℕ) (found : Option SymbolStart) → NoneBelow v fits p.ep p.slot n → IsNotBefore (start_in p n) found
@@ -119,11 +125,11 @@ module _ (v : CellsValue) (fits : SymbolStart → Bool) (p : SlotPlace) (place :
       searched_passed v fits (InSlot p.ep p.slot) best (from_number n best none (subst (λ (y : SymbolStart). IsNotBefore y best) is (not_earlier m best e)))
 
   -- one fits, and none before it: it comes first of the slot's
-  pub searched_first : (n : ℕ) (m : SymbolStart) (best : Option SymbolStart) → m ≡ start_in p n → n < symbols_of p.endpoint.now.numerology → NoneBelow v fits p.ep p.slot n
+  pub searched_first : (n : ℕ) (m : SymbolStart) (best : Option SymbolStart) → m ≡ start_in p n → n < symbols_of p.ring.now.endpoint.numerology → NoneBelow v fits p.ep p.slot n
       → is_earlier m best ≡ true → fits m ≡ true → Searched v fits (InSlot p.ep p.slot) best (Some m)
   searched_first n m best is below none e fit = record {
     fitting = λ w. subst (IsFitting v fits) (sym is) (record {
-      is = record { at = place.at; slot_is = place.slot_is; symbol_is = below; starts = refl; has = place.has };
+      is = record { at = at; slot_is = place.slot_is; symbol_is = below; starts = refl; has = rw place.there place.has };
       fit = ap fits (sym is) ∙ fit;
     });
     keeps = λ x n. earlier_keeps m x best e n;
@@ -132,13 +138,41 @@ module _ (v : CellsValue) (fits : SymbolStart → Bool) (p : SlotPlace) (place :
 
 -- ---- all symbols
 
-pub first_of_all : (v : CellsValue) (fits : SymbolStart → Bool) (n : ℕ) (old found : Option SymbolStart) → length (endpoints_of v) ≤ n
-    → IfSome old (IsFitting v fits) → Searched v fits (λ m. Unit {0} × (m.ep < n)) old found → IsFirst v fits found
-first_of_all v fits n old found all was s = by found (s.fitting was) (λ m w. s.finds m w (tt, within m w.is))
-  where
-    within : (m : SymbolStart) → IsSymbol v m → m.ep < n
-    within m is = let below : m.ep < length (endpoints_of v) = slice_get_within (endpoints_of v) m.ep m.endpoint is.at in omega (arith, all, below)
+first_by : (v : CellsValue) (fits : SymbolStart → Bool) (found : Option SymbolStart) → IfSome found (IsFitting v fits)
+    → ((m : SymbolStart) → IsFitting v fits m → IsNotBefore m found) → IsFirst v fits found
+first_by v fits None was finds = λ m is. false_from_ne_true (fits m) (λ fit. finds m (record { is = is; fit = fit }))
+first_by v fits (Some f) was finds = record { was = was; first = finds }
 
-    by : (o : Option SymbolStart) → IfSome o (IsFitting v fits) → ((m : SymbolStart) → IsFitting v fits m → IsNotBefore m o) → IsFirst v fits o
-    by None was finds = λ m is. false_from_ne_true (fits m) (λ fit. finds m (record { is = is; fit = fit }))
-    by (Some f) was finds = record { was = was; first = finds }
+-- what is passed at a tick is passed at a later one, whatever the endpoint
+passed_later : (found : Option SymbolStart) (a b : ℕ) (t s : ℤ) → is_passed found a t ≡ true → t <ℤ s → is_passed found b s ≡ true
+passed_later None a b t s e lt = absurd (cc)
+passed_later (Some f) a b t s e lt = grind (arith, ints, Decides-int_eq)
+
+-- what another endpoint has that does not come before the tick that leads
+other_passed : (m : SymbolStart) (found : Option SymbolStart) (l : Lead) → (m.ep ≡ l.ep → ⊥) → IsNotAhead m (Some l) → is_passed found (l.ep + 1) l.start.0 ≡ true → IsNotBefore m found
+other_passed m found l other is passed = elim (cases_lt m.ep l.ep) [
+  | inl below ↦ not_before_passed m found m.ep m.start.0 (omega arith) (omega (arith, ints)) (passed_later found (l.ep + 1) m.ep l.start.0 m.start.0 passed (grind (arith, ints, nat_tests, Decides-int_eq)))
+  | inr past ↦ not_before_passed m found (l.ep + 1) l.start.0 (omega (arith, past, other)) (grind (arith, ints, Decides-int_eq)) passed
+]
+
+-- where the endpoint that leads has one that none of another endpoint comes before
+pub first_of_lead : (v : CellsValue) (fits : SymbolStart → Bool) (l : Lead) (found : Option SymbolStart) → IsLead v fits (length (endpoints_of v)) (Some l)
+    → Searched v fits (OfEndpoint l.ep) None found → is_passed found (l.ep + 1) l.start.0 ≡ true → IsFirst v fits found
+first_of_lead v fits l found is s passed = first_by v fits found (s.fitting tt) (λ m w. elim (cases_eq m.ep l.ep) [
+  | inl own ↦ s.finds m w own
+  | inr other ↦ other_passed m found l other (is.least m w (slice_get_within (endpoints_of v) m.ep m.endpoint w.is.at)) passed
+])
+
+-- where those of the lower and those of the higher endpoints were searched after one endpoint's
+pub first_of_all : (v : CellsValue) (fits : SymbolStart → Bool) (k n : ℕ) (own lower found : Option SymbolStart) → length (endpoints_of v) ≤ n
+    → Searched v fits (OfEndpoint k) None own → Searched v fits (λ m. (0 ≤ m.ep) × (m.ep < k)) own lower
+    → Searched v fits (λ m. (k + 1 ≤ m.ep) × (m.ep < n)) lower found → IsFirst v fits found
+first_of_all v fits k n own lower found all a b c = first_by v fits found (c.fitting (b.fitting (a.fitting tt))) (λ m w.
+    let within = slice_get_within (endpoints_of v) m.ep m.endpoint w.is.at in
+    elim (cases_lt m.ep k) [
+      | inl below ↦ c.keeps m (b.finds m w (omega arith, below))
+      | inr past ↦ elim (cases_lt k m.ep) [
+        | inl above ↦ c.finds m w (omega (arith, above), omega (arith, within, all))
+        | inr here ↦ c.keeps m (b.keeps m (a.finds m w (omega (arith, past, here))))
+      ]
+    ])

@@ -4,7 +4,7 @@ ghost use Rattle.fh_time.specs.Numbering.{symbols_of};
 ghost use Rattle.unit_symbols.specs.Places.{IsPlace, start_in};
 ghost use Rattle.unit_symbols.specs.Searches.{InPlace};
 ghost use Rattle.unit_symbols.specs.Symbols.{FitsFrom, HasNone, InSlot, OfEndpoint};
-ghost use Rattle.unit_cells.specs.Cells.{cells_places, cells_uplink, endpoints_of};
+ghost use Rattle.unit_cells.specs.Cells.{cells_uplink, endpoints_of, ring_of};
 ghost use Rattle.unit_symbols.specs.Cursors.{is_job_left};
 
 use crate::cursor::JobCursor;
@@ -28,7 +28,7 @@ impl<'c> SymbolTest<'c> for JobCursor {
         requires { ep < length (endpoints_of cells.now) }
         ensures { FitsFrom cells.now (is_job_left cells.now self.now) (OfEndpoint ep) result }
     {
-        if cells.has_uplink(ep) {
+        if cells.ring(ep).has_uplink() {
             Some(self.since)
         } else {
             None
@@ -37,22 +37,22 @@ impl<'c> SymbolTest<'c> for JobCursor {
 
     fn earliest_at(&self, cells: &UnitCells, ep: usize, index: usize) -> Option<Ticks>
         requires ep { ep < length (endpoints_of cells.now) }
-        requires index { index < cells_places cells.now ep }
+        requires index { IfSome (ring_of cells.now ep) (λ r. index < length r.places) }
         ensures { FitsFrom cells.now (is_job_left cells.now self.now) (InPlace cells.now ep index) result }
     {
-        if cells.has_uplink_at(ep, index) {
+        if cells.ring(ep).has_uplink_at(index) {
             Some(self.since)
         } else {
             None
         }
     }
 
-    fn look_up(&self, cells: &'c UnitCells, place: &SlotPlace<'_>) -> Option<&'c [Allocation]>
+    fn look_up(&self, cells: &'c UnitCells, place: &SlotPlace<'c>) -> Option<&'c [Allocation]>
         requires { IsPlace cells.now place.now }
         ensures none { IfNone result (HasNone cells.now (is_job_left cells.now self.now) (InSlot place.now.ep place.now.slot)) }
         ensures some { IfSome result (λ xs. reverse xs.now ≡ cells_uplink cells.now place.now.ep place.now.slot) }
     {
-        let uplink = cells.uplink(place.ep, place.slot);
+        let uplink = place.ring.uplink(place.slot);
         if uplink.is_empty() {
             None
         } else {
@@ -63,7 +63,7 @@ impl<'c> SymbolTest<'c> for JobCursor {
     /// Any symbol of a slot that has uplink sections may.
     fn may_fit(&self, _cells: &UnitCells, place: &SlotPlace<'_>, symbol: u8) -> bool
         requires place { IsPlace _cells.now place.now }
-        requires symbol { symbol < symbols_of place.now.endpoint.now.numerology }
+        requires symbol { symbol < symbols_of place.now.ring.now.endpoint.numerology }
         ensures { result ≡ false → is_job_left _cells.now self.now (start_in place.now symbol) ≡ false }
     {
         true
@@ -72,13 +72,13 @@ impl<'c> SymbolTest<'c> for JobCursor {
     fn does_fit(
         &self,
         cells: &'c UnitCells,
-        place: &SlotPlace<'_>,
+        place: &SlotPlace<'c>,
         uplink: &'c [Allocation],
         m: &SymbolStart,
     ) -> bool
         requires place { IsPlace cells.now place.now }
         requires lookup { reverse uplink.now ≡ cells_uplink cells.now place.now.ep place.now.slot }
-        requires symbol { m.now.symbol < symbols_of place.now.endpoint.now.numerology }
+        requires symbol { m.now.symbol < symbols_of place.now.ring.now.endpoint.numerology }
         requires is { m.now ≡ start_in place.now m.now.symbol }
         ensures { result ≡ is_job_left cells.now self.now m.now }
     {

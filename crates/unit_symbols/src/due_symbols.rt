@@ -5,7 +5,7 @@ ghost use Rattle.fh_time.specs.Numbering.{symbols_of};
 ghost use Rattle.unit_symbols.specs.Places.{IsPlace, start_in};
 ghost use Rattle.unit_symbols.specs.Searches.{InPlace};
 ghost use Rattle.unit_symbols.specs.Symbols.{FitsFrom, HasNone, InSlot, IsFirst, OfEndpoint};
-ghost use Rattle.unit_cells.specs.Cells.{cells_places, endpoints_of};
+ghost use Rattle.unit_cells.specs.Cells.{endpoints_of, ring_of};
 ghost use Rattle.unit_model.specs.Proper.{IsSlot};
 ghost use Rattle.unit_symbols.specs.DueSymbols.{is_left_after};
 
@@ -43,16 +43,16 @@ impl SymbolTest<'_> for LeftAfter {
         requires { ep < length (endpoints_of cells.now) }
         ensures { FitsFrom cells.now (is_left_after cells.now self.now.after.0) (OfEndpoint ep) result }
     {
-        cells.earliest(ep)
+        cells.ring(ep).earliest()
     }
 
     /// Looks at two numbers.
     fn earliest_at(&self, cells: &UnitCells, ep: usize, index: usize) -> Option<Ticks>
         requires ep { ep < length (endpoints_of cells.now) }
-        requires index { index < cells_places cells.now ep }
+        requires index { IfSome (ring_of cells.now ep) (λ r. index < length r.places) }
         ensures { FitsFrom cells.now (is_left_after cells.now self.now.after.0) (InPlace cells.now ep index) result }
     {
-        cells.earliest_at(ep, index)
+        cells.ring(ep).earliest_at(index)
     }
 
     fn look_up(&self, cells: &UnitCells, place: &SlotPlace<'_>) -> Option<()>
@@ -60,7 +60,7 @@ impl SymbolTest<'_> for LeftAfter {
         ensures none { IfNone result (HasNone cells.now (is_left_after cells.now self.now.after.0) (InSlot place.now.ep place.now.slot)) }
         ensures some { IfSome result (λ _. Unit {0}) }
     {
-        if is_past(place.endpoint, place.slot, self.after) {
+        if is_past(place.ring.endpoint(), place.slot, self.after) {
             None
         } else {
             Some(())
@@ -70,10 +70,10 @@ impl SymbolTest<'_> for LeftAfter {
     /// Looks at one flag.
     fn may_fit(&self, cells: &UnitCells, place: &SlotPlace<'_>, symbol: u8) -> bool
         requires place { IsPlace cells.now place.now }
-        requires symbol { symbol < symbols_of place.now.endpoint.now.numerology }
+        requires symbol { symbol < symbols_of place.now.ring.now.endpoint.numerology }
         ensures { result ≡ false → is_left_after cells.now self.now.after.0 (start_in place.now symbol) ≡ false }
     {
-        cells.is_pending(place.ep, place.index, symbol)
+        place.ring.is_pending(place.index, symbol)
     }
 
     fn does_fit(
@@ -84,11 +84,11 @@ impl SymbolTest<'_> for LeftAfter {
         m: &SymbolStart,
     ) -> bool
         requires place { IsPlace cells.now place.now }
-        requires symbol { m.now.symbol < symbols_of place.now.endpoint.now.numerology }
+        requires symbol { m.now.symbol < symbols_of place.now.ring.now.endpoint.numerology }
         requires is { m.now ≡ start_in place.now m.now.symbol }
         ensures { result ≡ is_left_after cells.now self.now.after.0 m.now }
     {
-        m.start.0 > self.after.0 && cells.is_used(place.ep, place.slot, m.symbol)
+        m.start.0 > self.after.0 && place.ring.is_used(place.slot, m.symbol)
     }
 }
 

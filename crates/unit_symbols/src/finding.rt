@@ -1,16 +1,16 @@
 // The first symbol that fits.
-ghost use Rattle.std.specs.Prelude.{◌≡◌, ℕ, ◌<◌, None, IfSome, length};
-ghost use Rattle.unit_cells.specs.Cells.{cells_places, endpoints_of};
-ghost use Rattle.unit_model.specs.Proper.{IsAt};
+ghost use Rattle.std.specs.Prelude.{◌≡◌, ◌+◌, ◌<◌, ◌≤◌, Bool, Some, length};
+ghost use Rattle.unit_cells.specs.Cells.{CellsValue, endpoints_of, ring_of};
+ghost use Rattle.unit_model.specs.declared.symbol_start.SymbolStart.{SymbolStart as SpecStart};
 ghost use Rattle.unit_symbols.specs.Places.{IsPlace};
-ghost use Rattle.unit_symbols.specs.Searches.{HasLead, InPlace, Searched, is_earlier, is_passed};
-ghost use Rattle.unit_symbols.specs.Symbols.{InSlot, IsFirst, IsFitting, OfEndpoint};
+ghost use Rattle.unit_symbols.specs.Searches.{InPlace, IsLead, Searched, is_earlier, is_passed};
+ghost use Rattle.unit_symbols.specs.Symbols.{FitsFrom, InSlot, IsFirst, OfEndpoint};
 
 use crate::{SlotPlace, SymbolTest};
 use fh_time::{Ticks, shape};
+use slot_rings::SlotRing;
 use unit_cells::UnitCells;
 use unit_model::{SymbolStart, comes_before};
-use window_config::EndpointConfig;
 
 /// Whether a symbol comes before what was found, or nothing was.
 fn is_earlier(m: &SymbolStart, found: &Option<SymbolStart>) -> bool
@@ -37,7 +37,7 @@ fn is_passed(found: &Option<SymbolStart>, ep: usize, start: Ticks) -> bool
 fn first_in_slot<'c, T: SymbolTest<'c>>(
     cells: &'c UnitCells,
     test: &T,
-    place: &SlotPlace<'_>,
+    place: &SlotPlace<'c>,
     best: Option<SymbolStart>,
 ) -> Option<SymbolStart>
     requires { IsPlace cells.now place.now }
@@ -46,7 +46,7 @@ fn first_in_slot<'c, T: SymbolTest<'c>>(
     let Some(lookup) = test.look_up(cells, place) else {
         return best;
     };
-    for symbol in 0..shape(&place.endpoint.numerology).symbols {
+    for symbol in 0..shape(&place.ring.endpoint().numerology).symbols {
         if test.may_fit(cells, place, symbol) {
             let m = place.start(symbol);
             if !is_earlier(&m, &best) {
@@ -65,12 +65,12 @@ fn first_in_place<'c, T: SymbolTest<'c>>(
     cells: &'c UnitCells,
     test: &T,
     ep: usize,
-    endpoint: &EndpointConfig,
+    ring: &'c SlotRing,
     index: usize,
     best: &mut Option<SymbolStart>,
 )
-    requires at { IsAt (endpoints_of cells.now) ep endpoint.now }
-    requires index { index < cells_places cells.now ep }
+    requires ring { ring_of cells.now ep ≡ Some ring.now }
+    requires index { index < length ring.now.places }
     ensures { Searched cells.now (T.fits test.now cells.now) (InPlace cells.now ep index) best.old best.new }
 {
     let Some(start) = test.earliest_at(cells, ep, index) else {
@@ -79,10 +79,10 @@ fn first_in_place<'c, T: SymbolTest<'c>>(
     if is_passed(best, ep, start) {
         return;
     }
-    if let Some(slot) = cells.slot_at(ep, index) {
+    if let Some(slot) = ring.slot_at(index) {
         let place = SlotPlace {
             ep,
-            endpoint,
+            ring,
             index,
             slot,
         };
@@ -100,9 +100,9 @@ fn first_in_places<'c, T: SymbolTest<'c>>(
     requires { ep < length (endpoints_of cells.now) }
     ensures { Searched cells.now (T.fits test.now cells.now) (OfEndpoint ep) best.old best.new }
 {
-    let endpoint = cells.endpoint(ep);
-    for index in 0..cells.places(ep) {
-        first_in_place(cells, test, ep, endpoint, index, best);
+    let ring = cells.ring(ep);
+    for index in 0..ring.place_count() {
+        first_in_place(cells, test, ep, ring, index, best);
     }
 }
 
@@ -125,69 +125,67 @@ fn first_in_ring<'c, T: SymbolTest<'c>>(
     first_in_places(cells, test, ep, best);
 }
 
-/// The endpoint with which a search begins: the one whose symbols may fit first. So most others are passed over.
-fn lead<'c, T: SymbolTest<'c>>(cells: &'c UnitCells, test: &T) -> Option<usize>
-    ensures { IfSome result (λ ep. ep < length (endpoints_of cells.now)) }
+/// The endpoint whose symbols may fit first, and a tick before which none of them starts.
+#[derive(Clone, Copy)]
+struct Lead {
+    ep: usize,
+    start: Ticks,
+}
+
+/// The one of two endpoints that leads: the one that led so far, or the next one, of which no symbol that fits starts before a tick.
+fn next_lead(lead: Option<Lead>, ep: usize, start: Option<Ticks>) -> Option<Lead>
+    ensures { (v : CellsValue) (fits : SpecStart → Bool) → IsLead v fits ep lead → FitsFrom v fits (OfEndpoint ep) start → IsLead v fits (ep + 1) result }
+{
+    let Some(start) = start else {
+        return lead;
+    };
+    match lead {
+        Some(first) if first.start.0 <= start.0 => lead,
+        _ => Some(Lead { ep, start }),
+    }
+}
+
+/// The endpoint with which a search begins: the one whose symbols may fit first. None only where no symbol fits.
+fn leading<'c, T: SymbolTest<'c>>(cells: &'c UnitCells, test: &T) -> Option<Lead>
+    ensures { IsLead cells.now (T.fits test.now cells.now) (length (endpoints_of cells.now)) result }
 {
     let mut lead = None;
-    let mut least = Ticks(i64::MAX);
     for ep in 0..cells.endpoints() {
-        if let Some(start) = test.earliest(cells, ep) {
-            if start.0 < least.0 {
-                lead = Some(ep);
-                least = start;
-            }
-        }
+        lead = next_lead(lead, ep, test.earliest(cells, ep));
     }
     lead
 }
 
-/// The first symbol that fits of the endpoint with which a search begins.
-fn first_in_lead<'c, T: SymbolTest<'c>>(
+/// Makes the best symbol so far the first of it and those that fit of the endpoints from one index on, up to another one.
+fn first_in_rings<'c, T: SymbolTest<'c>>(
     cells: &'c UnitCells,
     test: &T,
-    lead: Option<usize>,
-) -> Option<SymbolStart>
-    requires { IfSome lead (λ ep. ep < length (endpoints_of cells.now)) }
-    ensures fitting { IfSome result (IsFitting cells.now (T.fits test.now cells.now)) }
-    ensures lead { HasLead cells.now (T.fits test.now cells.now) lead result }
-{
-    let mut first = None;
-    if let Some(ep) = lead {
-        first_in_ring(cells, test, ep, &mut first);
-    }
-    first
-}
-
-/// Makes the best symbol so far the first of it and those of an endpoint that fit, where those of the endpoint with which the search
-/// began were looked at.
-fn first_in_turn<'c, T: SymbolTest<'c>>(
-    cells: &'c UnitCells,
-    test: &T,
-    lead: Option<usize>,
-    ep: usize,
+    from: usize,
+    to: usize,
     best: &mut Option<SymbolStart>,
 )
-    requires within { ep < length (endpoints_of cells.now) }
-    requires lead { HasLead cells.now (T.fits test.now cells.now) lead best.old }
-    ensures { Searched cells.now (T.fits test.now cells.now) (OfEndpoint ep) best.old best.new }
+    requires { to ≤ length (endpoints_of cells.now) }
+    ensures { Searched cells.now (T.fits test.now cells.now) (λ m. (from ≤ m.ep) × (m.ep < to)) best.old best.new }
 {
-    if let Some(first) = lead {
-        if first == ep {
-            return;
-        }
+    for ep in from..to {
+        first_in_ring(cells, test, ep, best);
     }
-    first_in_ring(cells, test, ep, best);
 }
 
-/// The first symbol that fits: by its start, and at one tick by endpoint, slot and symbol.
+/// The first symbol that fits: by its start, and at one tick by endpoint, slot and symbol. Where the endpoint with which the search
+/// begins has one at the tick from which on any may fit, no other endpoint is looked at again.
 pub fn first_symbol<'c, T: SymbolTest<'c>>(cells: &'c UnitCells, test: &T) -> Option<SymbolStart>
     ensures first { IsFirst cells.now (T.fits test.now cells.now) result }
 {
-    let lead = lead(cells, test);
-    let mut first = first_in_lead(cells, test, lead);
-    for ep in 0..cells.endpoints() {
-        first_in_turn(cells, test, lead, ep, &mut first);
+    let count = cells.endpoints();
+    let lead = leading(cells, test)?;
+    let mut first = None;
+    first_in_places(cells, test, lead.ep, &mut first);
+    let next = lead.ep + 1;
+    if is_passed(&first, next, lead.start) {
+        return first;
     }
+    first_in_rings(cells, test, 0, lead.ep, &mut first);
+    first_in_rings(cells, test, next, count, &mut first);
     first
 }

@@ -19,7 +19,7 @@ pub fn next_job(cells: &UnitCells, cursor: &JobCursor) -> Option<NextJob>
     ensures none { IfNone result ((m : SpecStart) → IsSymbol cells.now m → left_in (cells_uplink cells.now) cursor.now m ≡ []) }
 {
     let symbol = first_symbol(cells, cursor)?;
-    let uplink = cells.uplink(symbol.ep, symbol.slot);
+    let uplink = cells.ring(symbol.ep).uplink(symbol.slot);
     let job = first_left(cursor, &symbol, uplink)?;
     Some(NextJob { symbol, job })
 }

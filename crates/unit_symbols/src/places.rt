@@ -5,15 +5,15 @@ ghost use Rattle.unit_model.specs.Proper.{IsSlot};
 ghost use Rattle.unit_model.specs.Starts.{start_at};
 
 use fh_time::{Slot, air};
+use slot_rings::SlotRing;
 use unit_model::SymbolStart;
-use window_config::EndpointConfig;
 
-/// A slot of an endpoint that has its place, and the index of that place.
+/// A slot that has its place in the ring of an endpoint, and the index of that place.
 #[derive(Clone, Copy)]
 pub struct SlotPlace<'a> {
     /// The endpoint's index in the configuration.
     pub ep: usize,
-    pub endpoint: &'a EndpointConfig,
+    pub ring: &'a SlotRing,
     pub index: usize,
     pub slot: Slot,
 }
@@ -21,14 +21,15 @@ pub struct SlotPlace<'a> {
 impl SlotPlace<'_> {
     /// A symbol of the slot, with its start.
     pub fn start(&self, symbol: u8) -> SymbolStart
-        requires slot { IsSlot self.now.endpoint.now.numerology self.now.slot }
-        requires symbol { symbol < symbols_of self.now.endpoint.now.numerology }
-        ensures { result ≡ start_at self.now.ep self.now.endpoint.now self.now.slot symbol }
+        requires slot { IsSlot self.now.ring.now.endpoint.numerology self.now.slot }
+        requires symbol { symbol < symbols_of self.now.ring.now.endpoint.numerology }
+        ensures { result ≡ start_at self.now.ep self.now.ring.now.endpoint self.now.slot symbol }
     {
+        let endpoint = self.ring.endpoint();
         SymbolStart {
             ep: self.ep,
-            endpoint: *self.endpoint,
-            start: air(&self.endpoint.numerology, self.slot, symbol),
+            endpoint: *endpoint,
+            start: air(&endpoint.numerology, self.slot, symbol),
             slot: self.slot,
             symbol,
         }

@@ -126,7 +126,7 @@ pub fn report<A: Air>(
     ensures same { A.same air.old air.new }
     ensures cause { HasAirCause (A.faults air.old) (A.faults air.new) result }
 {
-    let lent = cells.symbol_cells(m.ep, m.slot, m.symbol);
+    let lent = cells.ring(m.ep).symbol_cells(m.slot, m.symbol);
     let told = tell_cells(&lent, counters, m, air);
     cells.set_used_reported(m.ep, m.slot, m.symbol, told.prbs);
     told.answer

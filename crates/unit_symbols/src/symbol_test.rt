@@ -1,7 +1,7 @@
 // What is looked for among the symbols of a unit.
 ghost use Rattle.std.specs.Prelude.{◌≡◌, ◌<◌, Bool, false, length, IfNone, IfSome};
 ghost use Rattle.fh_time.specs.Numbering.{symbols_of};
-ghost use Rattle.unit_cells.specs.Cells.{CellsValue, cells_places, endpoints_of};
+ghost use Rattle.unit_cells.specs.Cells.{CellsValue, endpoints_of, ring_of};
 ghost use Rattle.unit_model.specs.declared.symbol_start.SymbolStart.{SymbolStart as SpecStart};
 ghost use Rattle.unit_symbols.specs.Places.{IsPlace, start_in};
 ghost use Rattle.unit_symbols.specs.Symbols.{FitsFrom, HasNone, InSlot, OfEndpoint};
@@ -36,11 +36,11 @@ pub trait SymbolTest<'c> {
     /// none of them fits.
     fn earliest_at(&self, cells: &UnitCells, ep: usize, index: usize) -> Option<Ticks>
         requires ep { ep < length (endpoints_of cells.now) }
-        requires index { index < cells_places cells.now ep }
+        requires index { IfSome (ring_of cells.now ep) (λ r. index < length r.places) }
         ensures { FitsFrom cells.now (fits self.now cells.now) (InPlace cells.now ep index) result };
 
     /// Looks up what its symbols need of a slot. None only where none of them fits.
-    fn look_up(&self, cells: &'c UnitCells, place: &SlotPlace<'_>) -> Option<Self::Lookup>
+    fn look_up(&self, cells: &'c UnitCells, place: &SlotPlace<'c>) -> Option<Self::Lookup>
         requires { IsPlace cells.now place.now }
         ensures none { IfNone result (HasNone cells.now (fits self.now cells.now) (InSlot place.now.ep place.now.slot)) }
         ensures some { IfSome result (is_looked_up self.now cells.now place.now) };
@@ -48,20 +48,20 @@ pub trait SymbolTest<'c> {
     /// Whether a symbol of a slot may fit, by a look at no cell.
     fn may_fit(&self, cells: &UnitCells, place: &SlotPlace<'_>, symbol: u8) -> bool
         requires place { IsPlace cells.now place.now }
-        requires symbol { symbol < symbols_of place.now.endpoint.now.numerology }
+        requires symbol { symbol < symbols_of place.now.ring.now.endpoint.numerology }
         ensures { result ≡ false → fits self.now cells.now (start_in place.now symbol) ≡ false };
 
     /// Whether a symbol of a slot fits.
     fn does_fit(
         &self,
         cells: &'c UnitCells,
-        place: &SlotPlace<'_>,
+        place: &SlotPlace<'c>,
         lookup: Self::Lookup,
         m: &SymbolStart,
     ) -> bool
         requires place { IsPlace cells.now place.now }
         requires lookup { is_looked_up self.now cells.now place.now lookup }
-        requires symbol { m.now.symbol < symbols_of place.now.endpoint.now.numerology }
+        requires symbol { m.now.symbol < symbols_of place.now.ring.now.endpoint.numerology }
         requires is { m.now ≡ start_in place.now m.now.symbol }
         ensures { result ≡ fits self.now cells.now m.now };
 }

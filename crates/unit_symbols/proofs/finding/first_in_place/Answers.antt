@@ -1,7 +1,5 @@
 use Rattle.std.proofs.Common.{◌∙◌, sym, subst, Option}
-use Rattle.std.proofs.lemmas.Option.{slice_get_within}
 use Rattle.fh_time.specs.declared.values.Ticks.{Ticks}
-use Rattle.unit_cells.specs.Cells.{endpoints_of}
 use Rattle.unit_symbols.specs.Searches.{InPlace}
 use Rattle.unit_symbols.specs.Symbols.{FitsFrom}
 use Rattle.unit_symbols.proofs.SearchLemmas.{searched_from}
@@ -14,6 +12,3 @@ returns-then-is_passed g c =
     searched_from v fits (InPlace v c.args.ep c.args.index) c.args.best.now c.args.ep c.in-Some.start (λ m o. o.0)
     (subst (λ (o : Option Ticks). FitsFrom v fits (InPlace v c.args.ep c.args.index) o) c.in-Some.is c.earliest_at.ensures)
     (sym c.is_passed.ensures ∙ c.if-is_passed.true)
-
-pub slot_at-requires-clause-ep : goal.slot_at-requires-clause-ep
-slot_at-requires-clause-ep g c = slice_get_within (endpoints_of c.args.cells.now) c.args.ep c.args.endpoint.now c.requires.at

@@ -1,6 +1,7 @@
 use Rattle.std.proofs.Common.{◌≡◌, ◌∙◌, ap, arith, sym}
 use Rattle.fh_time.specs.Numbering.{symbols_of}
 use Rattle.fh_time.specs.declared.values.Shape.{Shape}
+use Rattle.window_config.specs.declared.endpoints.EndpointConfig.{EndpointConfig}
 use Rattle.unit_symbols.proofs.SearchLemmas.{none_below_more, searched_ended, searched_first}
 use Rattle.unit_symbols.proofs.finding.first_in_slot.Goals as goal
 use Rattle.unit_symbols.proofs.finding.first_in_slot.Goals.{then-may_fit+else-not-is_earlier+else-does_fit, else-may_fit}
@@ -21,6 +22,7 @@ returns-then-not-is_earlier g c =
 
 pub returns-then-does_fit : goal.returns-then-does_fit
 returns-then-does_fit g c =
-    let symbols : c.shape-symbol-end.result.symbols ≡ symbols_of c.args.place.now.endpoint.now.numerology = ap (λ (x : Shape). x.symbols) c.shape-symbol-end.ensures in
+    let symbols : c.shape-symbol-end.result.symbols ≡ symbols_of c.args.place.now.ring.now.endpoint.numerology =
+    ap (λ (x : Shape). x.symbols) c.shape-symbol-end.ensures ∙ ap (λ (e : EndpointConfig). symbols_of e.numerology) c.endpoint.ensures in
     searched_first c.args.cells.now (g.T.SymbolTest.fits c.args.test.now c.args.cells.now) c.args.place.now c.requires c.loop-symbol.symbol c.start-m.result c.args.best
     c.start-m.ensures (omega arith) c.loop-symbol.invariant (sym c.is_earlier.ensures ∙ c.if-not-is_earlier.false) (sym c.does_fit.ensures ∙ c.if-does_fit.true)

@@ -1,13 +1,18 @@
 use Rattle.std.proofs.Common.{◌≡◌, List, get_or, ap, ◌∙◌}
 use Rattle.du_intake.specs.Rows.{no_claim}
 use Rattle.du_intake.specs.declared.claims.PlannedClaim.{PlannedClaim}
-use Rattle.du_intake.proofs.CloseLemmas.{goes_told, goes_unplanned, claim_claims, claim_few, slot_in, stops_here}
+use Rattle.du_intake.proofs.CloseLemmas.{goes_told, goes_unplanned, claim_claims, claim_few, own_endpoint, own_slot, stops_here}
 use Rattle.du_intake.proofs.unit.Intake.close_cell.Goals as goal
+
+pub planned_cell-requires-clause-at : goal.planned_cell-requires-clause-at
+planned_cell-requires-clause-at g c =
+    let some = c.requires.unit in
+    own_endpoint some.config some.planned c.args.self.now some.history c.args.m.now c.args.prb some.closes c.requires.next
 
 pub planned_cell-requires-clause-slot : goal.planned_cell-requires-clause-slot
 planned_cell-requires-clause-slot g c =
     let some = c.requires.unit in
-    slot_in some.config some.planned c.args.self.now some.history c.args.m.now c.args.prb some.closes c.requires.next
+    own_slot some.config some.planned c.args.self.now some.history c.args.m.now c.args.prb some.closes c.requires.next
 
 pub planned_cell-requires-clause-few : goal.planned_cell-requires-clause-few
 planned_cell-requires-clause-few g c =

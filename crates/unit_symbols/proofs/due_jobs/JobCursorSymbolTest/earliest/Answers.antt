@@ -6,4 +6,4 @@ pub returns-then-has_uplink : goal.returns-then-has_uplink
 returns-then-has_uplink c = fits_since c.args.cells.now c.args.self.now (OfEndpoint c.args.ep)
 
 pub returns-else-has_uplink : goal.returns-else-has_uplink
-returns-else-has_uplink c = none_of_endpoint c.args.cells.now c.args.self.now c.args.ep (c.has_uplink.ensures c.if-has_uplink.false)
+returns-else-has_uplink c = none_of_endpoint c.args.cells.now c.args.self.now c.args.ep (λ slot. rw c.ring.ensures.ring (c.has_uplink.ensures c.if-has_uplink.false slot))

@@ -6,4 +6,4 @@ pub returns-then-has_uplink_at : goal.returns-then-has_uplink_at
 returns-then-has_uplink_at c = fits_since c.args.cells.now c.args.self.now (InPlace c.args.cells.now c.args.ep c.args.index)
 
 pub returns-else-has_uplink_at : goal.returns-else-has_uplink_at
-returns-else-has_uplink_at c = none_in_place c.args.cells.now c.args.self.now c.args.ep c.args.index (c.has_uplink_at.ensures c.if-has_uplink_at.false)
+returns-else-has_uplink_at c = none_in_place c.args.cells.now c.args.self.now c.args.ep c.args.index (λ slot at. rw c.ring.ensures.ring (c.has_uplink_at.ensures c.if-has_uplink_at.false slot (rw c.ring.ensures.ring at at)))

@@ -6,4 +6,7 @@ use Rattle.unit_symbols.proofs.due_jobs.JobCursorSymbolTest.look_up.Goals as goa
 pub returns-then-is_empty-clause-none : goal.returns-then-is_empty-clause-none
 returns-then-is_empty-clause-none c =
     let none : length c.uplink-uplink.result.now ≡ 0 = grind (arith, nat_tests) in
-    none_in_slot c.args.cells.now c.args.self.now c.args.place.now.ep c.args.place.now.slot c.uplink-uplink.result.now c.uplink-uplink.ensures.value none
+    none_in_slot c.args.cells.now c.args.self.now c.args.place.now.ep c.args.place.now.slot c.uplink-uplink.result.now (rw c.requires.there c.uplink-uplink.ensures.value) none
+
+pub returns-else-is_empty-clause-some : goal.returns-else-is_empty-clause-some
+returns-else-is_empty-clause-some c = rw c.requires.there c.uplink-uplink.ensures.value
