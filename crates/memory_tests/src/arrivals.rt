@@ -20,7 +20,7 @@ use fh_time::{Numerology, Ticks, shape};
 use std::alloc::Global;
 use std::test::Fail;
 use unit_cells::UnitCells;
-use unit_memory::{UnitMemory, holds_later};
+use unit_memory::UnitMemory;
 use unit_model::Delivered;
 use window_config::{Config, EndpointConfig};
 
@@ -110,7 +110,6 @@ fn deliver(
     ensures unit { (side : SpecSide) × (arrivals : List Arrival) × Holds side config.now at.0 memory.new arrivals [] }
     ensures listed { endpoints_of memory.new.cells ≡ config.now.endpoints }
 {
-    holds_later();
     memory.arrive(at, frame).delivered
 }
 

@@ -31,7 +31,8 @@ use Rattle.unit_laws.proofs.HistoryTicks.{same_then}
 use Rattle.unit_laws.proofs.UnitLemmas.{not_both}
 use Rattle.unit_symbols.specs.declared.cursor.JobCursor.{JobCursor}
 use Rattle.unit_symbols.specs.declared.cursor.NextJob.{NextJob}
-use Rattle.unit_memory.specs.Memory.{Holds, HoldsLater}
+use Rattle.unit_memory.specs.Memory.{Holds}
+use Rattle.unit_memory.proofs.HoldLemmas.{holds_later}
 use Rattle.unit_memory.specs.declared.memory.UnitMemory.{UnitMemory}
 use Rattle.radio_laws.specs.JobLaws.{GivesFirst, IsGiven, IsSettled, KeptLater, NoneBeforeFirst, NoneToGive, ReadyOnceGiven, Settles, SomeFromFirst}
 use Rattle.radio_laws.specs.Units.{IsReady, RadioKeeps, left_up_to}
@@ -75,7 +76,7 @@ module _ (c : Config) (m : UnitMemory) (clock : ℤ) (cursor : JobCursor) (h : H
             ∙ sym (far_not_heard e cell is down far)
       ]
 
-  module _ (holds_later : HoldsLater) (next : JobCursor) (ready : IsReady m clock cursor) (settled : Settled clock cursor next) where
+  module _ (next : JobCursor) (ready : IsReady m clock cursor) (settled : Settled clock cursor next) where
     since_is : next.since.0 ≡ clock
     since_is = max_is cursor.since.0 clock next.since.0 settled.since since_clock
 
@@ -106,8 +107,8 @@ module _ (c : Config) (m : UnitMemory) (clock : ℤ) (cursor : JobCursor) (h : H
         since_now : (a b c : ℤ) → a ≡ b → b ≡ c → a ≤ℤ c
         since_now a b c e f = omega (arith, ints)
 
-pub settle : HoldsLater → Settles
-settle holds_later c m clock cursor next h keeps ready settled = settle_is c m clock cursor h keeps holds_later next ready settled
+pub settle : Settles
+settle c m clock cursor next h keeps ready settled = settle_is c m clock cursor h keeps next ready settled
 
 -- ---- no message is left
 

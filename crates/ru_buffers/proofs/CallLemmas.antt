@@ -33,7 +33,6 @@ use Rattle.unit_symbols.specs.Symbols.{IsSymbol}
 use Rattle.unit_symbols.specs.declared.cursor.JobCursor.{JobCursor}
 use Rattle.unit_memory.specs.Memory.{Holds, HoldsSome, arrival_at}
 use Rattle.unit_memory.specs.declared.memory.UnitMemory.{UnitMemory}
-use Rattle.unit_memory.proofs.HoldLemmas.{holds_later}
 use Rattle.ru_buffers.specs.Calls.{IsCellMoment, IsDue, IsMessageMoment}
 use Rattle.fh_time.specs.Least.{IsLeast, earlier_time}
 use Rattle.radio_laws.specs.JobLaws.{IsSettled, NothingIsLeft}
@@ -79,7 +78,7 @@ ready_settled v clock cursor next settled =
 module _ (c : Config) (m : UnitMemory) (clock : ℤ) (cursor next : JobCursor) (h : History) (all : RadioStands c m clock cursor h) (ready : IsReady m clock cursor)
     (settled : Settled clock cursor next) where
   pub settled_is : IsSettled c m clock next h
-  settled_is = settle holds_later c m clock cursor next h all.kept ready settled
+  settled_is = settle c m clock cursor next h all.kept ready settled
 
   pub stands_settled : RadioStands c m clock next h
   stands_settled = stands c m clock next h settled_is.kept
