@@ -18,7 +18,6 @@ use Rattle.plan_model.proofs.TickLemmas.{next_tick}
 use Rattle.uplink_model.specs.Sent.{leaves_at, leaving_at, frames_leaving}
 use Rattle.uplink_model.specs.SentLaws.{AreOf}
 use Rattle.frame_network.specs.SendQueues.{AllHaveLeft, LeaveFrom, AreQueuedInTurn, Gives, HasLeft, IsNextTime, IsSilentTo, Leaves, Took, WaitsFor, all_queued, first_time, leaves_after, queued, waiting_at}
-use Rattle.frame_network.specs.QueueLaws.{LeavesAtOnce, WaitsOn}
 
 -- ---- the order of two frames
 
@@ -243,10 +242,13 @@ just_before a b h = omega (arith, ints)
 pub from_silent : (tick : ℤ) (q : List LinkFrame) → ((to : ℤ) → to <ℤ tick → IsSilentTo q to) → LeaveFrom tick q
 from_silent tick q silent = λ k d lt. just_before tick _ (silent (tick -ℤ pos 1) (before_it tick) k d lt)
 
-pub waits_on : WaitsOn
+-- where none leaves before a later tick, it waits from that tick on
+pub waits_on : (endpoints : ℕ) (now tick : ℤ) (handed q : List LinkFrame) → WaitsFor endpoints now handed q → now ≤ℤ tick → ((to : ℤ) → to <ℤ tick → IsSilentTo q to)
+    → WaitsFor endpoints tick handed q
 waits_on n now tick handed q w order silent = record { from = from_silent tick q silent; at = λ t later. w.at t (at_most now tick t order later); order = w.order }
 
-pub leaves_at_once : LeavesAtOnce
+-- what waits from a tick on begins to leave at it, and none is gone
+pub leaves_at_once : (endpoints : ℕ) (tick : ℤ) (handed q : List LinkFrame) → WaitsFor endpoints tick handed q → Leaves endpoints tick handed [] q
 leaves_at_once n tick handed q w = record {
   at_tick = sym (w.at tick (weakly tick));
   later = λ t later. w.at t (weak tick t later);

@@ -5,7 +5,6 @@ pub mod Pool
 pub mod Queues
 pub mod Spare
 pub mod SendQueues
-pub mod QueueLaws
 pub mod Outboxes
 pub mod Lending
 pub mod Waiting

@@ -13,7 +13,6 @@
 mod arrivals;
 mod in_flight;
 mod landings;
-mod laws;
 mod outbox;
 mod places;
 mod pool;
@@ -25,7 +24,6 @@ mod turns;
 pub use arrivals::{Arrival, ArrivalKey};
 pub use in_flight::Network;
 pub use landings::Landing;
-pub use laws::queue_goes_on;
 pub use outbox::Outbox;
 pub use pool::FramePool;
 pub use queue::LandingQueue;
