@@ -1,3 +1,6 @@
+pub mod CountLemmas
+pub mod OrderLemmas
+pub mod ProperLemmas
 mod LineLemmas
 mod PartLemmas
 mod PlaceLemmas

@@ -20,8 +20,8 @@ use Rattle.frame_order.specs.declared.turns.Run.{Run}
 use Rattle.frame_order.specs.declared.turns.Turn.{Turn}
 use Rattle.schedule_laws.proofs.SentLemmas.{IsSentStream, sent_is}
 use Rattle.frame_order.specs.Runs.{IsOrderOf, endpoint_runs, gap_ticks, rests_of, runs_from, runs_of, turn_of}
-use Rattle.frame_order.proofs.OrderLemmas.{sent_is_in_order}
-use Rattle.frame_order.proofs.ProperLemmas.{messages_are_runs}
+use Rattle.du_scheduler.proofs.OrderLemmas.{sent_is_in_order}
+use Rattle.du_scheduler.proofs.ProperLemmas.{messages_are_runs}
 use Rattle.du_scheduler.specs.Kept.{placed_line, HasMessage, message_in}
 use Rattle.du_scheduler.specs.TablePlans.{IsTabledPlan}
 use Rattle.du_scheduler.specs.Tables.{IsKeptInTable, IsTable, AddsEndpoint}

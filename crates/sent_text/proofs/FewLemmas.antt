@@ -36,7 +36,7 @@ use Rattle.frame_order.specs.Turns.{IsRun, rest_of, turns}
 use Rattle.frame_order.specs.declared.turns.Run.{Run}
 use Rattle.frame_order.specs.Runs.{endpoint_runs, gap_ticks, rests_of, run_of, runs_from, runs_of, stream_runs, turn_of}
 use Rattle.frame_order.proofs.KeptLemmas.{at_time}
-use Rattle.frame_order.proofs.ProperLemmas.{are_runs}
+use Rattle.du_scheduler.proofs.ProperLemmas.{messages_are_runs}
 use Rattle.frame_order.proofs.RunLemmas.{runs_are}
 
 -- ---- going over all ticks finds no frame twice
@@ -195,7 +195,7 @@ sent_few c ps config plan =
     let frames = frames_from c ps 0 c.endpoints in
     let swept = ticks_few frames first_clock (int_gap first_clock (end_of_time +ℤ pos 1)) in
     let same : length (rests_of (gap_ticks c) (runs_of c ps)) ≡ length frames = ap length (runs_are c ps 0 c.endpoints) ∙ length-map frames turn_of in
-    let runs = subst (λ (qs : List PlannedLine). All IsRun (runs_of c qs)) (sym plan.is) (are_runs c plan.lines config plan.fit plan.valid) in
+    let runs = subst (λ (qs : List PlannedLine). All IsRun (runs_of c qs)) (sym plan.is) (messages_are_runs c plan.lines config plan.fit plan.valid) in
     let rests = rests_few (gap_ticks c) (runs_of c ps) runs in
     let few = all_few c 0 c.endpoints ps (placed c ps config plan) (λ i e at. (let here : 0 + i ≡ i = omega arith in has_endpoint c ps config plan (0 + i) e (subst (λ k. IsAt c.endpoints k e) (sym here) at))) in
     let lines = (short c ps plan).few in
