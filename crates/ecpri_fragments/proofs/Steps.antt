@@ -1,5 +1,5 @@
 -- One fragment more, place by place.
-use Rattle.std.proofs.Common.{◌≡◌, ◌≢◌, ℕ, ◌+◌, ◌*◌, ◌<◌, inl, inr, Bool, true, false, cond, ◌&&◌, List, [], ◌∷◌, length, replicate, set, Option, Some, None, refl, sym, ap, ◌∙◌, subst, arith, ℤ}
+use Rattle.std.proofs.Common.{◌≡◌, ◌≢◌, ℕ, ◌+◌, ◌*◌, ◌<◌, inl, inr, Bool, true, false, cond, ◌&&◌, List, [], ◌∷◌, length, set, Option, Some, None, refl, sym, ap, ◌∙◌, subst, arith, ℤ}
 use Rattle.std.specs.List.{slice_get}
 use Rattle.std.proofs.lemmas.Option.{same_Some, slice_get_within}
 use Rattle.std.proofs.lemmas.Bool.{eq-eqb}
@@ -12,7 +12,7 @@ use Rattle.ecpri_fragments.specs.Verdicts.{Message, message, whole_to, end_of, p
 use Rattle.ecpri_fragments.specs.Spans.{pieces_in}
 use Rattle.ecpri_fragments.specs.Places.{Table, Holds, IsBelow, IsDone, Puts, Stands, StandsIn}
 use Rattle.ecpri_fragments.proofs.Pieces.{pieces_same}
-use Rattle.ecpri_fragments.proofs.Numbers.{apart, get_other, get_own, none_at, put_other, put_own, slice_get_old}
+use Rattle.ecpri_fragments.proofs.Numbers.{apart, get_other, get_own, put_other, put_own, slice_get_old}
 use Rattle.ecpri_fragments.specs.declared.place.Begun.{Begun}
 use Rattle.ecpri_fragments.specs.declared.pool.Pool.{Pool}
 use Rattle.ecpri_fragments.specs.Pools.{Opens, place_at}
@@ -63,11 +63,6 @@ own hold (g ∷ gs) a p h = go (is_within hold g.start a.at) h
     go : (w : Bool) → StandsIn p (cond w (joined a g ∷ gs) (begun a ∷ g ∷ gs)) → Stands p (cond w g.start a.at) (placed (standing (cond w g.held [])) a)
     go true h = h
     go false h = h
-
--- where no id has a place
-pub none_stand : (numbers : List (Option ℕ)) (ids : ℕ) (places : List Place) (hold : ℤ) → ((i : ℕ) (n : Option ℕ) → slice_get numbers i ≡ Some n → n ≡ None) → StandIn numbers (replicate ids None) places hold []
-none_stand numbers ids places hold h ep seq n d b e f =
-    rw (h (ep * 256 + seq) n e, none_at ids (ep * 256 + seq) d f) refl
 
 -- the place of an id that has another number
 place_other : (places : List Place) (k : ℕ) (new : Place) (n : Option ℕ) → n ≢ Some k → place_at (set places k new) n ≡ place_at places n

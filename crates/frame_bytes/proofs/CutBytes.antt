@@ -78,14 +78,3 @@ stands_written span place start end before bytes old rest new order at start_is 
     let front : take (start - from) old ≡ here = ap (λ n. take n old) count ∙ stood in
     let room : new ≡ (here ++ more) ++ rest = new_is ∙ rw (front, mid) refl in
     rw (all, room) (take-append_seam (here ++ more) rest)
-
-pub stands_past : (span : Span) (place start end : ℕ) (before bytes room : List ℕ) → span.from ≤ span.to → length before ≡ place
-    → start ≡ max place span.from → end ≡ min (place + length bytes) span.to → end ≤ start → Stands span before room → Stands span (before ++ bytes) room
-stands_past span place start end before bytes room order at start_is end_is none stood =
-    let from = span.from in
-    let to = span.to in
-    let here = cut from to before in
-    let more = cut (from - place) (to - place) bytes in
-    let nothing : more ≡ [] = nil_is more (omega (arith, length_cut (from - place) (to - place) bytes)) in
-    let all : cut from to (before ++ bytes) ≡ here = cut_append from to before bytes order ∙ ap (λ n. here ++ cut (from - n) (to - n) bytes) at ∙ ap (λ xs. here ++ xs) nothing ∙ append-nil here in
-    rw all stood
