@@ -149,14 +149,14 @@ passed_later None a b t s e lt = absurd (cc)
 passed_later (Some f) a b t s e lt = grind (arith, ints, Decides-int_eq)
 
 -- what another endpoint has that does not come before the tick that leads
-other_passed : (m : SymbolStart) (found : Option SymbolStart) (l : Lead) → (m.ep ≡ l.ep → ⊥) → IsNotAhead m (Some l) → is_passed found (l.ep + 1) l.start.0 ≡ true → IsNotBefore m found
+other_passed : (m : SymbolStart) (found : Option SymbolStart) (l : Lead) → (m.ep ≡ l.ep → ⊥) → IsNotAhead m l → is_passed found (l.ep + 1) l.start.0 ≡ true → IsNotBefore m found
 other_passed m found l other is passed = elim (cases_lt m.ep l.ep) [
   | inl below ↦ not_before_passed m found m.ep m.start.0 (omega arith) (omega (arith, ints)) (passed_later found (l.ep + 1) m.ep l.start.0 m.start.0 passed (grind (arith, ints, nat_tests, Decides-int_eq)))
   | inr past ↦ not_before_passed m found (l.ep + 1) l.start.0 (omega (arith, past, other)) (grind (arith, ints, Decides-int_eq)) passed
 ]
 
 -- where the endpoint that leads has one that none of another endpoint comes before
-pub first_of_lead : (v : CellsValue) (fits : SymbolStart → Bool) (l : Lead) (found : Option SymbolStart) → IsLead v fits (length (endpoints_of v)) (Some l)
+pub first_of_lead : (v : CellsValue) (fits : SymbolStart → Bool) (l : Lead) (found : Option SymbolStart) → IsLead v fits (length (endpoints_of v)) l
     → Searched v fits (OfEndpoint l.ep) None found → is_passed found (l.ep + 1) l.start.0 ≡ true → IsFirst v fits found
 first_of_lead v fits l found is s passed = first_by v fits found (s.fitting tt) (λ m w. elim (cases_eq m.ep l.ep) [
   | inl own ↦ s.finds m w own

@@ -1,10 +1,10 @@
 -- A search for the symbol that is told first, over some symbols of the rings (this project's profile).
-use Rattle.std.specs.Prelude.{◌≡◌, ℕ, ℤ, ◌<◌, Bool, true, false, ◌&&◌, ◌||◌, nat_lt, int_lt, Option, Some, None, IfSome}
+use Rattle.std.specs.Prelude.{◌≡◌, ℕ, ℤ, ◌<◌, ◌≤◌, Bool, true, false, ◌&&◌, ◌||◌, nat_lt, int_lt, Option, Some, None, IfSome}
 use Rattle.std.specs.Ordering.{int_eq}
 use Rattle.unit_model.specs.Order.{comes_before}
 use Rattle.unit_model.specs.declared.symbol_start.SymbolStart.{SymbolStart}
 use Rattle.unit_cells.specs.Cells.{CellsValue, cells_index}
-use Rattle.unit_symbols.specs.Symbols.{IsFitting, IsFound}
+use Rattle.unit_symbols.specs.Symbols.{HasNone, IsFitting, IsFound}
 use Rattle.unit_symbols.specs.declared.finding.Lead.{Lead}
 
 -- a symbol comes before what was found, or nothing was
@@ -27,15 +27,16 @@ pub record Searched (v : CellsValue) (fits : SymbolStart → Bool) (Over : Symbo
   pub keeps : (m : SymbolStart) → IsNotBefore m old → IsNotBefore m new
   pub finds : (m : SymbolStart) → IsFitting v fits m → Over m → IsNotBefore m new
 
--- an endpoint leads, and this symbol does not start before its tick, nor at it with a lower endpoint
-abbrev pub IsNotAhead : SymbolStart → Option Lead → Type 0
-IsNotAhead m None = ⊥
-IsNotAhead m (Some l) = (int_lt m.start.0 l.start.0 || (int_eq m.start.0 l.start.0 && nat_lt m.ep l.ep)) ≡ false
+-- a symbol does not start before the tick of the endpoint that leads, nor at it with a lower endpoint
+abbrev pub IsNotAhead : SymbolStart → Lead → Type 0
+IsNotAhead m l = (int_lt m.start.0 l.start.0 || (int_eq m.start.0 l.start.0 && nat_lt m.ep l.ep)) ≡ false
 
--- one of the first so many endpoints leads, ahead of which none of their symbols fits
-pub record IsLead (v : CellsValue) (fits : SymbolStart → Bool) (count : ℕ) (lead : Option Lead) : Type 0 where
-  pub within : IfSome lead (λ l. l.ep < count)
-  pub least : (m : SymbolStart) → IsFitting v fits m → m.ep < count → IsNotAhead m lead
+-- one of the first so many endpoints leads, ahead of which none of their symbols fits, or none of these fits
+pub record IsLead (v : CellsValue) (fits : SymbolStart → Bool) (count : ℕ) (l : Lead) : Type 0 where
+  pub few : l.ep ≤ count
+  pub within : l.any ≡ true → l.ep < count
+  pub none : l.any ≡ false → HasNone v fits (λ m. m.ep < count)
+  pub least : (m : SymbolStart) → IsFitting v fits m → m.ep < count → IsNotAhead m l
 
 -- the symbols of the slot that has a place
 abbrev pub InPlace : CellsValue → ℕ → ℕ → SymbolStart → Type 0

@@ -130,26 +130,37 @@ fn first_in_ring<'c, T: SymbolTest<'c>>(
 struct Lead {
     ep: usize,
     start: Ticks,
+    /// Whether any endpoint has symbols that may fit. Else the others say nothing.
+    any: bool,
 }
 
 /// The one of two endpoints that leads: the one that led so far, or the next one, of which no symbol that fits starts before a tick.
-fn next_lead(lead: Option<Lead>, ep: usize, start: Option<Ticks>) -> Option<Lead>
+fn next_lead(lead: Lead, ep: usize, start: Option<Ticks>) -> Lead
     ensures { (v : CellsValue) (fits : SpecStart → Bool) → IsLead v fits ep lead → FitsFrom v fits (OfEndpoint ep) start → IsLead v fits (ep + 1) result }
 {
     let Some(start) = start else {
         return lead;
     };
-    match lead {
-        Some(first) if first.start.0 <= start.0 => lead,
-        _ => Some(Lead { ep, start }),
+    if start.0 < lead.start.0 {
+        Lead {
+            ep,
+            start,
+            any: true,
+        }
+    } else {
+        Lead { any: true, ..lead }
     }
 }
 
-/// The endpoint with which a search begins: the one whose symbols may fit first. None only where no symbol fits.
-fn leading<'c, T: SymbolTest<'c>>(cells: &'c UnitCells, test: &T) -> Option<Lead>
+/// The endpoint with which a search begins: the one whose symbols may fit first.
+fn leading<'c, T: SymbolTest<'c>>(cells: &'c UnitCells, test: &T) -> Lead
     ensures { IsLead cells.now (T.fits test.now cells.now) (length (endpoints_of cells.now)) result }
 {
-    let mut lead = None;
+    let mut lead = Lead {
+        ep: 0,
+        start: Ticks(i64::MAX),
+        any: false,
+    };
     for ep in 0..cells.endpoints() {
         lead = next_lead(lead, ep, test.earliest(cells, ep));
     }
@@ -178,7 +189,10 @@ pub fn first_symbol<'c, T: SymbolTest<'c>>(cells: &'c UnitCells, test: &T) -> Op
     ensures first { IsFirst cells.now (T.fits test.now cells.now) result }
 {
     let count = cells.endpoints();
-    let lead = leading(cells, test)?;
+    let lead = leading(cells, test);
+    if !lead.any {
+        return None;
+    }
     let mut first = None;
     first_in_places(cells, test, lead.ep, &mut first);
     let next = lead.ep + 1;
