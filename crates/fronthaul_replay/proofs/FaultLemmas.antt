@@ -1,7 +1,7 @@
 -- What the writer of a text answers where a replay stopped.
 use Rattle.std.proofs.Common.{◌≡◌, ℕ, List, ◌⊎◌, refl, sym, subst, Result, Ok, Err, IfErr, true≢false}
 use Rattle.std.specs.Prelude.{IsOk, MatchResult}
-use Rattle.std.specs.Result.{IsErrAnd}
+use Rattle.std.specs.Result.{IsErrAnd, OnOk, is_ok}
 use Rattle.air_source.specs.Causes.{HasAirCause}
 use Rattle.air_source.specs.Stops.{GrewSome, StopsIn}
 use Rattle.air_source.specs.declared.airs.AirFault.{AirFault}
@@ -38,6 +38,12 @@ replay_cause before now (Err air.Failed) (Err replay.AirFailed) passed cause = c
 replay_cause before now (Err air.Failed) (Err replay.NoMemory) passed cause = absurd (cc passed)
 replay_cause before now (Err air.NoMemory) (Err replay.AirFailed) passed cause = absurd (cc passed)
 replay_cause before now (Err air.NoMemory) (Err replay.NoMemory) passed cause = cause
+
+-- what holds where it comes to its end holds where its answer is passed on
+pub ok_passed : {T U D E : Type 0} (one : Result T D) (two : Result U E) (P : Type 0) → is_ok two ≡ is_ok one → OnOk one P → OnOk two P
+ok_passed one (Err e) P same holds = tt
+ok_passed (Err d) (Ok y) P same holds = absurd (true≢false same)
+ok_passed (Ok x) (Ok y) P same holds = holds
 
 -- of want of memory, where the count stood still
 pub replay_wanted : {T : Type 0} (before now : ℕ) (r : Result T ReplayFault) → IsErrAnd r (λ e. e ≡ replay.NoMemory) → now ≡ before → HasReplayCause before now r

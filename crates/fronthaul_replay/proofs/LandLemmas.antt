@@ -3,7 +3,6 @@ use Rattle.std.proofs.Common.{◌≡◌, ℤ, pos, ◌+ℤ◌, ◌≤ℤ◌, ◌
 use Rattle.air_source.specs.declared.events.Event.{Event}
 use Rattle.air_source.specs.declared.events.Side.{Side}
 use Rattle.air_source.specs.declared.events.Side.TheVariants.{Ru, Du}
-use Rattle.delay_measure.specs.declared.edge.Edge.{Edge}
 use Rattle.frame_deliveries.specs.Landing.{landing_at}
 use Rattle.frame_deliveries.specs.Leaving.{Leaving}
 use Rattle.frame_ways.specs.Ways.{landings_on}
@@ -18,7 +17,7 @@ use Rattle.replay_laws.specs.Traffic.{landings_at}
 use Rattle.unit_model.specs.Meetings.{Arrival}
 use Rattle.unit_model.specs.Standing.{History}
 use Rattle.unit_moments.specs.Landing.{HaveLanded, MayLand, landed, told_of_frames}
-use Rattle.delay_exchange.specs.Meters.{HasDoings}
+use Rattle.delay_exchange.specs.Units.{HasDoings}
 use Rattle.delay_exchange.specs.declared.unit.UnitMeter.{UnitMeter}
 use Rattle.fronthaul_replay.specs.Waiting.{LandsAfter, Waits, begun_at, on_way}
 use Rattle.fronthaul_replay.proofs.WayLemmas.{lands_at}
@@ -41,23 +40,23 @@ module _ (d : Document) (side : Side) (tick : ℤ) (left : List Leaving) (doc : 
   same = lands_at d side tick h.sent left doc.document h.all later
 
   -- all that lands at the tick may land
-  pub may_land : {C : Type 0} (pre : C → Edge → Type 0) (post : C → Edge → ℤ → Type 0) (m : UnitMeter C) → HasDoings pre post (compensation_of d side) (begun_at d side tick) m
+  pub may_land : (m : UnitMeter) → HasDoings (compensation_of d side) (begun_at d side tick) m
       → ((a : Arrival) (more : List Arrival) → landing_at (landings_for side d) tick ≡ a ∷ more → pos 0 ≤ℤ tick) → tick ≤ℤ pos (2 ^ 56)
-      → MayLand pre post (on_way d side h.sent) tick (compensation_of d side) (begun_at d side tick) w m
-  may_land pre post m has late ended = record { waits = h.stands; doings = has; late = λ a more is. late a more (sym same ∙ is); ended = ended }
+      → MayLand (on_way d side h.sent) tick (compensation_of d side) (begun_at d side tick) w m
+  may_land m has late ended = record { waits = h.stands; doings = has; late = λ a more is. late a more (sym same ∙ is); ended = ended }
 
   -- the unit stands for what the document says
   pub unit_stands : (P : History → Type 0) (y : History) → P (landed tick y here) → P (landed tick y (landing_at (landings_for side d) tick))
   unit_stands P y stands = subst (λ (xs : List Arrival). P (landed tick y xs)) same stands
 
   -- and once it has landed, what was told of it are the document's events, the meter has what the document says, and the way waits from the next tick on
-  module _ {A C : Type 0} (grew : A → List Event → A → Type 0) (pre : C → Edge → Type 0) (post : C → Edge → ℤ → Type 0) (m : UnitMeter C) (x : Way) (a b : A)
-      (k : HaveLanded grew pre post side (on_way d side h.sent) tick (compensation_of d side) (begun_at d side tick) m x a b) where
+  module _ {A : Type 0} (grew : A → List Event → A → Type 0) (m : UnitMeter) (x : Way) (a b : A)
+      (k : HaveLanded grew side (on_way d side h.sent) tick (compensation_of d side) (begun_at d side tick) m x a b) where
     pub events_heard : grew a (arrivals_at side (traffic_of d) tick) b
     events_heard = subst (λ (es : List Event). grew a es b) (told_is side d tick here same) k.heard
 
-    pub meter_has : HasDoings pre post (compensation_of d side) (made_at d side tick) m
-    meter_has = subst (λ (xs : List Arrival). HasDoings pre post (compensation_of d side) (with_frames (compensation_of d side) tick (begun_at d side tick) xs) m) same k.made
+    pub meter_has : HasDoings (compensation_of d side) (made_at d side tick) m
+    meter_has = subst (λ (xs : List Arrival). HasDoings (compensation_of d side) (with_frames (compensation_of d side) tick (begun_at d side tick) xs) m) same k.made
 
     pub waits_on : Waits d side (tick +ℤ pos 1) left x
     waits_on = record { sent = h.sent; all = h.all; stands = k.waits }

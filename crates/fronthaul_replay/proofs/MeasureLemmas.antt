@@ -5,7 +5,6 @@ use Rattle.std.proofs.lemmas.Int.{ints}
 use Rattle.air_source.specs.Units.{same_side}
 use Rattle.air_source.specs.declared.events.Side.{Side}
 use Rattle.air_source.specs.declared.events.Side.TheVariants.{Ru, Du}
-use Rattle.delay_measure.specs.declared.edge.Edge.{Edge}
 use Rattle.measured_traffic.proofs.TurnLemmas.{doings_begin, doings_go_on, doings_wait}
 use Rattle.measured_traffic.specs.Doings.{Doings, nothing, taken}
 use Rattle.measured_traffic.specs.Replayed.{begins_at, doings_at, made_at}
@@ -17,8 +16,9 @@ use Rattle.unit_laws.proofs.HistoryTicks.{last_before}
 use Rattle.unit_model.specs.Radiated.{first_clock}
 use Rattle.unit_meters.proofs.WaitLemmas.{awaits_until}
 use Rattle.unit_meters.specs.Begins.{Awaits, MetersStand, NoneBeginsTo}
+use Rattle.delay_measure.specs.declared.edge.Compensation.{Compensation}
 use Rattle.unit_meters.specs.declared.meters.Meters.{Meters}
-use Rattle.delay_exchange.specs.Meters.{HasDoings}
+use Rattle.delay_exchange.specs.Units.{HasDoings}
 use Rattle.delay_exchange.specs.declared.unit.UnitMeter.{UnitMeter}
 use Rattle.fronthaul_replay.specs.Measuring.{MeasuresWait, begins_for}
 
@@ -29,28 +29,28 @@ next_is tick = omega (arith, ints)
 pub none_begins : (d : Document) (now tick : ℤ) → NoneBeginsTo (begins_for d) now (tick -ℤ pos 1) → (side : Side) (t : ℤ) → now ≤ℤ t → t <ℤ tick → begins_at d side t ≡ []
 none_begins d now tick none side t low high = ap (filter (λ (b : Begin). same_side side b.side)) (none t low (last_before t tick high))
 
-module _ {C D : Type 0} (ru_pre : C → Edge → Type 0) (ru_post : C → Edge → ℤ → Type 0) (du_pre : D → Edge → Type 0) (du_post : D → Edge → ℤ → Type 0) (d : Document) (m : Meters C D) where
+module _ (d : Document) (m : Meters) where
   -- at the start a unit has nothing
-  pub measures_begin : MetersStand ru_pre ru_post du_pre du_post (begins_for d) first_clock (compensation_of d Ru) (compensation_of d Du) nothing nothing m
-      → MeasuresWait ru_pre ru_post du_pre du_post d first_clock m
-  measures_begin h = record {
+  pub measures_begin : (cr cd : Compensation) → cr ≡ compensation_of d Ru → cd ≡ compensation_of d Du → MetersStand (begins_for d) first_clock cr cd nothing nothing m
+      → MeasuresWait d first_clock m
+  measures_begin cr cd ru du h = record {
     waits = h.waits;
-    ru = subst (λ (x : Doings). HasDoings ru_pre ru_post (compensation_of d Ru) x m.ru) (sym (doings_begin d Ru)) h.ru;
-    du = subst (λ (x : Doings). HasDoings du_pre du_post (compensation_of d Du) x m.du) (sym (doings_begin d Du)) h.du;
+    ru = subst (λ (c : Compensation). HasDoings c (doings_at d Ru first_clock) m.ru) ru (subst (λ (x : Doings). HasDoings cr x m.ru) (sym (doings_begin d Ru)) h.ru);
+    du = subst (λ (c : Compensation). HasDoings c (doings_at d Du first_clock) m.du) du (subst (λ (x : Doings). HasDoings cd x m.du) (sym (doings_begin d Du)) h.du);
   }
 
   -- where nothing lands before a tick either, both units have the same then
-  pub measures_wait : (now tick : ℤ) → MeasuresWait ru_pre ru_post du_pre du_post d now m → first_clock ≤ℤ now → now ≤ℤ tick → NoneBeginsTo (begins_for d) now (tick -ℤ pos 1)
-      → IsQuietBetween d now tick → MeasuresWait ru_pre ru_post du_pre du_post d tick m
+  pub measures_wait : (now tick : ℤ) → MeasuresWait d now m → first_clock ≤ℤ now → now ≤ℤ tick → NoneBeginsTo (begins_for d) now (tick -ℤ pos 1)
+      → IsQuietBetween d now tick → MeasuresWait d tick m
   measures_wait now tick h begun order none quiet = record {
     waits = subst (λ (t : ℤ). Awaits (begins_for d) t m) (next_is tick)
         (awaits_until (begins_for d) now (tick -ℤ pos 1) m h.waits (subst (λ (t : ℤ). now ≤ℤ t) (sym (next_is tick)) order) none);
-    ru = subst (λ (x : Doings). HasDoings ru_pre ru_post (compensation_of d Ru) x m.ru) (sym (doings_wait d Ru now tick begun order quiet)) h.ru;
-    du = subst (λ (x : Doings). HasDoings du_pre du_post (compensation_of d Du) x m.du) (sym (doings_wait d Du now tick begun order quiet)) h.du;
+    ru = subst (λ (x : Doings). HasDoings (compensation_of d Ru) x m.ru) (sym (doings_wait d Ru now tick begun order quiet)) h.ru;
+    du = subst (λ (x : Doings). HasDoings (compensation_of d Du) x m.du) (sym (doings_wait d Du now tick begun order quiet)) h.du;
   }
 
 -- once what a unit made at a tick was sent, it has what it has at the next one
-pub made_is_sent : {C : Type 0} (pre : C → Edge → Type 0) (post : C → Edge → ℤ → Type 0) (d : Document) (side : Side) (tick : ℤ) (m : UnitMeter C) → first_clock ≤ℤ tick
-    → HasDoings pre post (compensation_of d side) (taken [] (made_at d side tick)) m → HasDoings pre post (compensation_of d side) (doings_at d side (tick +ℤ pos 1)) m
-made_is_sent pre post d side tick m begun has =
-    subst (λ (x : Doings). HasDoings pre post (compensation_of d side) x m) (sym (doings_go_on d side tick begun)) has
+pub made_is_sent : (d : Document) (side : Side) (tick : ℤ) (m : UnitMeter) → first_clock ≤ℤ tick
+    → HasDoings (compensation_of d side) (taken [] (made_at d side tick)) m → HasDoings (compensation_of d side) (doings_at d side (tick +ℤ pos 1)) m
+made_is_sent d side tick m begun has =
+    subst (λ (x : Doings). HasDoings (compensation_of d side) x m) (sym (doings_go_on d side tick begun)) has

@@ -9,7 +9,6 @@ use Rattle.air_source.specs.declared.events.Side.{Side}
 use Rattle.air_source.specs.declared.events.Side.TheVariants.{Ru as AtRu, Du as AtDu}
 use Rattle.air_source.specs.declared.places.RePlace.{RePlace}
 use Rattle.bfp_codec.specs.declared.samples.Wide.{Wide}
-use Rattle.delay_measure.specs.declared.edge.Edge.{Edge}
 use Rattle.document_traffic.specs.Laws.{IsReplayable}
 use Rattle.du_intake.specs.Calls.{IsIntakeDue}
 use Rattle.du_intake.specs.Units.{intake_due_of as intake_due}
@@ -20,7 +19,7 @@ use Rattle.frame_ways.proofs.TimeLemmas.{earlier_of_both}
 use Rattle.fronthaul_replay.specs.Up.{NoneComesUp}
 use Rattle.fronthaul_replay.specs.IntakeTurns.{planned_for}
 use Rattle.fronthaul_replay.proofs.BoxNext.{IsStill as AreBothStill, down_idle, intake_idle, none_due_before, silent_before, still_at_intake, still_between, waits_idle}
-use Rattle.fronthaul_replay.specs.Measuring.{MeasuresWait, begins_for}
+use Rattle.fronthaul_replay.specs.Measuring.{begins_for}
 use Rattle.unit_meters.specs.Begins.{NoneBeginsTo}
 use Rattle.unit_meters.specs.declared.meters.Meters.{Meters}
 use Rattle.fronthaul_replay.proofs.MeasureLemmas.{measures_wait, none_begins}
@@ -45,7 +44,7 @@ use Rattle.unit_model.specs.Radiated.{first_clock}
 use Rattle.unit_model.specs.Standing.{History}
 use Rattle.unit_laws.proofs.HistoryTicks.{before_next, next_after}
 use Rattle.fronthaul_replay.specs.declared.coming.Coming.{Coming}
-use Rattle.fronthaul_replay.specs.Turns.{AtMoment, HaveMeasured, IsNextTick, IsStill, within_end}
+use Rattle.fronthaul_replay.specs.Turns.{AtMoment, IsNextTick, IsStill, within_end}
 use Rattle.fh_time.proofs.Orders.{under, not_under, next_later as next_most, before_it}
 
 -- ---- the next moment
@@ -107,16 +106,14 @@ module _ (d : Document) (now : ℤ) (h k : History) (left : List SentFrame) (dow
 -- ---- from a tick to the next moment
 
 -- nothing happens between, and then all stands at the start of the moment
-pub record ComesTo {G C D : Type 0} (pre : G → RePlace → Type 0) (post : G → RePlace → Wide → Type 0)
-    (cp : C → Edge → Type 0) (cq : C → Edge → ℤ → Type 0) (dp : D → Edge → Type 0) (dq : D → Edge → ℤ → Type 0)
-    (d : Document) (now tick : ℤ) (u : Ru) (i : Intake) (w : Coming G) (m : Meters C D) : Type 0 where
+pub record ComesTo {G : Type 0} (pre : G → RePlace → Type 0) (post : G → RePlace → Wide → Type 0)
+    (d : Document) (now tick : ℤ) (u : Ru) (i : Intake) (w : Coming G) (m : Meters) : Type 0 where
   pub next : IsNextMoment d.config (traffic_of d) now tick
-  pub moment : AtMoment pre post cp cq dp dq d tick u i w m
+  pub moment : AtMoment pre post d tick u i w m
 
-module _ {G C D : Type 0} {pre : G → RePlace → Type 0} {post : G → RePlace → Wide → Type 0}
-    {cp : C → Edge → Type 0} {cq : C → Edge → ℤ → Type 0} {dp : D → Edge → Type 0} {dq : D → Edge → ℤ → Type 0}
-    (d : Document) (now : ℤ) (u : Ru) (i : Intake) (w : Coming G) (m : Meters C D)
-    (doc : IsReplayable d) (at : AtMoment pre post cp cq dp dq d now u i w m) where
+module _ {G : Type 0} {pre : G → RePlace → Type 0} {post : G → RePlace → Wide → Type 0}
+    (d : Document) (now : ℤ) (u : Ru) (i : Intake) (w : Coming G) (m : Meters)
+    (doc : IsReplayable d) (at : AtMoment pre post d now u i w m) where
   abbrev radio_history : History
   radio_history = at.turn.radio.history
 
@@ -162,7 +159,7 @@ module _ {G C D : Type 0} {pre : G → RePlace → Type 0} {post : G → RePlace
     next_moment : IsNextMoment d.config (traffic_of d) now tick
     next_moment = record { config = doc.document.config; begun = begun; order = order; ended = ended; units = each_unit }
 
-    pub comes_to : ComesTo pre post cp cq dp dq d now tick u i w m
+    pub comes_to : ComesTo pre post d now tick u i w m
     comes_to = record {
       next = next_moment;
       moment = record {
@@ -174,7 +171,7 @@ module _ {G C D : Type 0} {pre : G → RePlace → Type 0} {post : G → RePlace
           down = down_idle pre post d now tick u i w.downlink.plan w.downlink.way w.answers.uplink w.answers.outbox.frames w.answers.queue w.answers.way both_still;
           up = waits_idle pre post d now tick u i w.downlink.plan w.downlink.way w.answers.uplink w.answers.outbox.frames w.answers.queue w.answers.way both_still;
         };
-        measures = measures_wait cp cq dp dq d m now tick at.measures begun order last.begins quiet;
+        measures = measures_wait d m now tick at.measures begun order last.begins quiet;
       };
     }
 
@@ -200,17 +197,12 @@ module _ {G C D : Type 0} {pre : G → RePlace → Type 0} {post : G → RePlace
   abbrev pub NextIs : Option Ticks → Type 0
   NextIs t = IsNextTick d now radio_history intake_history at.waits.down.left at.waits.down.way.sent w.answers.queue at.waits.up.frames.on_way.sent t
 
-  pub moment_comes : (tick : Ticks) → NextIs (Some tick) → ComesTo pre post cp cq dp dq d now tick.0 u i w m
+  pub moment_comes : (tick : Ticks) → NextIs (Some tick) → ComesTo pre post d now tick.0 u i w m
   moment_comes tick n = comes_to tick.0 (not_before tick.0 n.at) (next_most tick.0 end_of_time n.ended) n.before
 
   -- or to the end
-  pub end_comes : NextIs None → ComesTo pre post cp cq dp dq d now (end_of_time +ℤ pos 1) u i w m
+  pub end_comes : NextIs None → ComesTo pre post d now (end_of_time +ℤ pos 1) u i w m
   end_comes none = comes_to (end_of_time +ℤ pos 1) at.turn.radio.turn.ended (≤ℤ_refl (end_of_time +ℤ pos 1)) (λ to lt. none to (before_next to end_of_time lt))
-
--- then both meters have measured all of it
-pub all_measured : {C D : Type 0} {cp : C → Edge → Type 0} {cq : C → Edge → ℤ → Type 0} {dp : D → Edge → Type 0} {dq : D → Edge → ℤ → Type 0} {d : Document} {m : Meters C D}
-    → MeasuresWait cp cq dp dq d (end_of_time +ℤ pos 1) m → HaveMeasured cp cq dp dq d m
-all_measured h = record { ru = h.ru; du = h.du }
 
 -- ---- what was heard
 

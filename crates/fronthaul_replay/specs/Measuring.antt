@@ -1,7 +1,6 @@
 -- How both units' meters stand to a document at a tick (this project's profile).
 use Rattle.std.specs.Prelude.{ℤ, pos, ◌+ℤ◌, List, map}
 use Rattle.air_source.specs.declared.events.Side.TheVariants.{Ru, Du}
-use Rattle.delay_measure.specs.declared.edge.Edge.{Edge}
 use Rattle.measured_traffic.specs.Replayed.{doings_at}
 use Rattle.delay_laws.specs.Ticks.{Begin}
 use Rattle.document_delays.specs.Settings.{begin_of, compensation_of}
@@ -15,9 +14,9 @@ abbrev pub begins_for : Document → List Begin
 begins_for d = map begin_of d.measures
 
 -- at the start of a tick
-abbrev pub MeasuresWait : {C D : Type 0} → (C → Edge → Type 0) → (C → Edge → ℤ → Type 0) → (D → Edge → Type 0) → (D → Edge → ℤ → Type 0) → Document → ℤ → Meters C D → Type 0
-MeasuresWait ru_pre ru_post du_pre du_post d now m = MetersStand ru_pre ru_post du_pre du_post (begins_for d) now (compensation_of d Ru) (compensation_of d Du) (doings_at d Ru now) (doings_at d Du now) m
+abbrev pub MeasuresWait : Document → ℤ → Meters → Type 0
+MeasuresWait d now m = MetersStand (begins_for d) now (compensation_of d Ru) (compensation_of d Du) (doings_at d Ru now) (doings_at d Du now) m
 
 -- once the measurements of a tick have begun
-abbrev pub HaveBegun : {C D : Type 0} → (C → Edge → Type 0) → (C → Edge → ℤ → Type 0) → (D → Edge → Type 0) → (D → Edge → ℤ → Type 0) → Document → ℤ → Meters C D → Type 0
-HaveBegun ru_pre ru_post du_pre du_post d tick m = MetersStand ru_pre ru_post du_pre du_post (begins_for d) (tick +ℤ pos 1) (compensation_of d Ru) (compensation_of d Du) (begun_at d Ru tick) (begun_at d Du tick) m
+abbrev pub HaveBegun : Document → ℤ → Meters → Type 0
+HaveBegun d tick m = MetersStand (begins_for d) (tick +ℤ pos 1) (compensation_of d Ru) (compensation_of d Du) (begun_at d Ru tick) (begun_at d Du tick) m

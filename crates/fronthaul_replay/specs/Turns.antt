@@ -5,7 +5,6 @@ use Rattle.air_source.specs.declared.events.Side.TheVariants.{Ru, Du}
 use Rattle.air_source.specs.declared.links.LinkFrame.{LinkFrame}
 use Rattle.air_source.specs.declared.places.RePlace.{RePlace}
 use Rattle.bfp_codec.specs.declared.samples.Wide.{Wide}
-use Rattle.delay_measure.specs.declared.edge.Edge.{Edge}
 use Rattle.du_intake.specs.Units.{intake_due_of as intake_due}
 use Rattle.du_intake.specs.declared.unit.Intake.{Intake}
 use Rattle.plan_model.specs.Sent.{SentFrame}
@@ -20,8 +19,8 @@ use Rattle.fronthaul_replay.specs.BoxTurns.{AtRadioTurn}
 use Rattle.fronthaul_replay.specs.Up.{HasLandedUp, NoneComesUp, WaitsUp}
 use Rattle.unit_meters.specs.Begins.{Awaits, NoneBeginsTo}
 use Rattle.unit_meters.specs.declared.meters.Meters.{Meters}
-use Rattle.delay_exchange.specs.Meters.{HasDoings}
-use Rattle.measured_traffic.specs.Replayed.{doings_at, made_at}
+use Rattle.delay_exchange.specs.Units.{HasDoings}
+use Rattle.measured_traffic.specs.Replayed.{made_at}
 use Rattle.replay_laws.specs.Moments.{end_of_time}
 use Rattle.ru_buffers.specs.Calls.{IsQuietTo}
 use Rattle.ru_buffers.specs.declared.unit.Ru.{Ru as Unit}
@@ -39,36 +38,27 @@ pub record WaitsInTurn {G : Type 0} (pre : G → RePlace → Type 0) (post : G �
   pub up : WaitsUp pre post d now w.answers.uplink w.answers.outbox.frames w.answers.queue w.answers.way
 
 -- the loop's invariant: both units' meters too, at the start of a tick
-pub record AtMoment {G C D : Type 0} (pre : G → RePlace → Type 0) (post : G → RePlace → Wide → Type 0)
-    (ru_pre : C → Edge → Type 0) (ru_post : C → Edge → ℤ → Type 0) (du_pre : D → Edge → Type 0) (du_post : D → Edge → ℤ → Type 0)
-    (d : Document) (now : ℤ) (u : Unit) (i : Intake) (w : Coming G) (m : Meters C D) : Type 0 where
+pub record AtMoment {G : Type 0} (pre : G → RePlace → Type 0) (post : G → RePlace → Wide → Type 0)
+    (d : Document) (now : ℤ) (u : Unit) (i : Intake) (w : Coming G) (m : Meters) : Type 0 where
   pub turn : AtTurn d now u i
   pub waits : WaitsInTurn pre post d now w
-  pub measures : MeasuresWait ru_pre ru_post du_pre du_post d now m
+  pub measures : MeasuresWait d now m
 
 -- and once the measurements of a tick have begun
-pub record TurnHasBegun {G C D : Type 0} (pre : G → RePlace → Type 0) (post : G → RePlace → Wide → Type 0)
-    (ru_pre : C → Edge → Type 0) (ru_post : C → Edge → ℤ → Type 0) (du_pre : D → Edge → Type 0) (du_post : D → Edge → ℤ → Type 0)
-    (d : Document) (tick : ℤ) (u : Unit) (i : Intake) (w : Coming G) (m : Meters C D) : Type 0 where
+pub record TurnHasBegun {G : Type 0} (pre : G → RePlace → Type 0) (post : G → RePlace → Wide → Type 0)
+    (d : Document) (tick : ℤ) (u : Unit) (i : Intake) (w : Coming G) (m : Meters) : Type 0 where
   pub turn : AtTurn d tick u i
   pub waits : WaitsInTurn pre post d tick w
-  pub begun : HaveBegun ru_pre ru_post du_pre du_post d tick m
+  pub begun : HaveBegun d tick m
 
 -- all that comes at a tick has landed at both units: the frames of delay measurement that they made in it have still to be sent
-pub record TurnHasLanded {G C D : Type 0} (pre : G → RePlace → Type 0) (post : G → RePlace → Wide → Type 0)
-    (ru_pre : C → Edge → Type 0) (ru_post : C → Edge → ℤ → Type 0) (du_pre : D → Edge → Type 0) (du_post : D → Edge → ℤ → Type 0)
-    (d : Document) (tick : ℤ) (w : Coming G) (m : Meters C D) : Type 0 where
+pub record TurnHasLanded {G : Type 0} (pre : G → RePlace → Type 0) (post : G → RePlace → Wide → Type 0)
+    (d : Document) (tick : ℤ) (w : Coming G) (m : Meters) : Type 0 where
   pub down : HasLandedDown d tick w.downlink.plan w.downlink.way
   pub up : HasLandedUp pre post d tick w.answers.uplink w.answers.outbox.frames w.answers.queue w.answers.way
   pub begins : Awaits (begins_for d) (tick +ℤ pos 1) m
-  pub ru : HasDoings ru_pre ru_post (compensation_of d Ru) (made_at d Ru tick) m.ru
-  pub du : HasDoings du_pre du_post (compensation_of d Du) (made_at d Du tick) m.du
-
--- both meters have measured all of a document's time
-pub record HaveMeasured {C D : Type 0} (ru_pre : C → Edge → Type 0) (ru_post : C → Edge → ℤ → Type 0) (du_pre : D → Edge → Type 0) (du_post : D → Edge → ℤ → Type 0)
-    (d : Document) (m : Meters C D) : Type 0 where
-  pub ru : HasDoings ru_pre ru_post (compensation_of d Ru) (doings_at d Ru (end_of_time +ℤ pos 1)) m.ru
-  pub du : HasDoings du_pre du_post (compensation_of d Du) (doings_at d Du (end_of_time +ℤ pos 1)) m.du
+  pub ru : HasDoings (compensation_of d Ru) (made_at d Ru tick) m.ru
+  pub du : HasDoings (compensation_of d Du) (made_at d Du tick) m.du
 
 -- ---- the next moment
 

@@ -2,20 +2,19 @@
 ghost use Rattle.std.specs.Prelude.{◌≡◌, IfErr, OnOk};
 ghost use Rattle.air_source.specs.Causes.{HasAirCause};
 ghost use Rattle.air_source.specs.Stops.{StopsIn};
-ghost use Rattle.delay_exchange.specs.Units.{Has};
-ghost use Rattle.delay_laws.specs.Nodes.{Compensation};
+ghost use Rattle.delay_exchange.specs.Units.{HasDoings};
+ghost use Rattle.delay_measure.specs.declared.edge.Compensation.{Compensation};
 ghost use Rattle.measured_traffic.specs.Doings.{Doings};
 ghost use Rattle.replay_laws.specs.Events.{count_event};
 ghost use Rattle.fronthaul_replay.specs.Counting.{told_counts, told_number};
 
 use air_source::{Air, AirFault, Side};
 use delay_exchange::UnitMeter;
-use delay_measure::Edge;
 use fault_counters::{Counter, Counters};
 
 /// A counter's number in the end: those of delay measurement are the meter's, all others the unit's.
-fn number_of<C: Fn(Edge) -> i64>(counters: &Counters, meter: &UnitMeter<C>, counter: Counter) -> u64
-    ensures { (c : Compensation) (x : Doings) → Has C.post c meter.now x → result ≡ told_number counters.now x.counted counter }
+fn number_of(counters: &Counters, meter: &UnitMeter, counter: Counter) -> u64
+    ensures { (c : Compensation) (x : Doings) → HasDoings c x meter.now → result ≡ told_number counters.now x.counted counter }
 {
     match counter {
         Counter::DelayShort | Counter::DelayUnknown | Counter::DelayRepeat | Counter::DelayResult =>
@@ -38,15 +37,15 @@ fn tell_count<A: Air>(side: Side, counter: Counter, value: u64, out: &mut A) -> 
 }
 
 /// Tells the air of a unit's counters that are not at 0.
-pub(crate) fn tell_counts<A: Air, C: Fn(Edge) -> i64>(
+pub(crate) fn tell_counts<A: Air>(
     side: Side,
     counters: &Counters,
-    meter: &UnitMeter<C>,
+    meter: &UnitMeter,
     out: &mut A,
 ) -> Result<(), AirFault>
-    requires some { (c : Compensation) × (x : Doings) × Has C.post c meter.now x }
-    ensures heard { (c : Compensation) (x : Doings) → Has C.post c meter.now x → OnOk result (A.grew out.old (told_counts side counters.now x.counted) out.new) }
-    ensures stop { (c : Compensation) (x : Doings) → Has C.post c meter.now x → IfErr result (λ f. StopsIn A.grew (A.stopped f) (told_counts side counters.now x.counted) out.old out.new) }
+    requires some { (c : Compensation) × (x : Doings) × HasDoings c x meter.now }
+    ensures heard { (c : Compensation) (x : Doings) → HasDoings c x meter.now → OnOk result (A.grew out.old (told_counts side counters.now x.counted) out.new) }
+    ensures stop { (c : Compensation) (x : Doings) → HasDoings c x meter.now → IfErr result (λ f. StopsIn A.grew (A.stopped f) (told_counts side counters.now x.counted) out.old out.new) }
     ensures same { A.same out.old out.new }
     ensures cause { HasAirCause (A.faults out.old) (A.faults out.new) result }
 {

@@ -17,13 +17,12 @@ ghost use Rattle.fronthaul_replay.specs.Up.{HasLandedUp, WaitsUp};
 ghost use Rattle.fronthaul_replay.specs.IntakeTurns.{AtIntakeTurn, IsIntakeInStep, heard_before};
 ghost use Rattle.fronthaul_replay.specs.Waiting.{LandsAfter, Waits, begun_at};
 ghost use Rattle.unit_moments.specs.Stops.{HaltsBehind, StopsBehind};
-ghost use Rattle.delay_exchange.specs.Meters.{HasDoings};
+ghost use Rattle.delay_exchange.specs.Units.{HasDoings};
 
 use crate::answers::Answers;
 use air_source::{Air, AirFault, RePlace, Side};
 use bfp_codec::Wide;
 use delay_exchange::UnitMeter;
-use delay_measure::Edge;
 use du_intake::Intake;
 use fh_base::NoMemory;
 use fh_document::Document;
@@ -47,11 +46,11 @@ fn answer<G: Fn(RePlace) -> Wide>(ru: &mut Ru, answers: &mut Answers<'_, G>) -> 
 }
 
 /// All that lands at the distributed unit at a moment is told, and then its cells, where the radio unit's frames of the moment have left.
-fn intake_lands<A: Air, C: Fn(Edge) -> i64>(
+fn intake_lands<A: Air>(
     doc: &Document,
     tick: Ticks,
     intake: &mut Intake,
-    meter: &mut UnitMeter<C>,
+    meter: &mut UnitMeter,
     way: &mut Way<'_>,
     pool: &mut FramePool,
     out: &mut A,
@@ -59,13 +58,13 @@ fn intake_lands<A: Air, C: Fn(Edge) -> i64>(
     requires document { IsReplayable doc.now }
     requires turn { AtIntakeTurn doc.now tick.0 intake.old }
     requires waits { (left : List Leaving) × All (LandsAfter tick.0) left × Waits doc.now AtDu tick.0 left way.old }
-    requires begun { HasDoings C.pre C.post (compensation_of doc.now AtDu) (begun_at doc.now AtDu tick.0) meter.old }
+    requires begun { HasDoings (compensation_of doc.now AtDu) (begun_at doc.now AtDu tick.0) meter.old }
     requires late { (a : Arrival) (more : List Arrival) → landing_at (landings_for AtDu doc.now) tick.0 ≡ a ∷ more → pos 0 ≤ℤ tick.0 }
     requires ended { tick.0 ≤ℤ end_of_time }
     ensures heard { OnOk result (A.grew out.old (intake_events doc.now tick.0) out.new) }
     ensures turn { OnOk result (AtIntakeTurn doc.now (tick.0 +ℤ pos 1) intake.new) }
     ensures waits { (left : List Leaving) → All (LandsAfter tick.0) left → Waits doc.now AtDu tick.0 left way.old → OnOk result (Waits doc.now AtDu (tick.0 +ℤ pos 1) left way.new) }
-    ensures made { OnOk result (HasDoings C.pre C.post (compensation_of doc.now AtDu) (made_at doc.now AtDu tick.0) meter.new) }
+    ensures made { OnOk result (HasDoings (compensation_of doc.now AtDu) (made_at doc.now AtDu tick.0) meter.new) }
     ensures stop { IsErrOf result Failed → StopsBehind A.grew (A.stopped Failed) (λ told. IsIntakeInStep doc.now told intake.new) (heard_before doc.now tick.0) (intake_events doc.now tick.0) out.old out.new }
     ensures wants { IsErrOf result WantsMemory → HaltsBehind A.grew (A.stopped WantsMemory) (λ told. IsIntakeInStep doc.now told intake.new) (heard_before doc.now tick.0) (intake_events doc.now tick.0) out.old out.new }
     ensures same { A.same out.old out.new }
@@ -77,25 +76,25 @@ fn intake_lands<A: Air, C: Fn(Edge) -> i64>(
 
 /// What comes behind the radio unit's part of a moment: its messages of this time are handed over, the frames that leave then are in
 /// flight, all that lands at the distributed unit is delivered, and this unit's cells are told.
-pub(crate) fn intake_moment<A: Air, G: Fn(RePlace) -> Wide, C: Fn(Edge) -> i64>(
+pub(crate) fn intake_moment<A: Air, G: Fn(RePlace) -> Wide>(
     doc: &Document,
     tick: Ticks,
     ru: &mut Ru,
     answers: &mut Answers<'_, G>,
     intake: &mut Intake,
-    meter: &mut UnitMeter<C>,
+    meter: &mut UnitMeter,
     out: &mut A,
 ) -> Result<(), AirFault>
     requires document { IsReplayable doc.now }
     requires landed { HasRadioLanded doc.now tick.0 ru.old }
     requires waits { WaitsUp G.pre G.post doc.now tick.0 answers.old.uplink answers.old.outbox.frames answers.old.queue answers.old.way }
     requires turn { AtIntakeTurn doc.now tick.0 intake.old }
-    requires begun { HasDoings C.pre C.post (compensation_of doc.now AtDu) (begun_at doc.now AtDu tick.0) meter.old }
+    requires begun { HasDoings (compensation_of doc.now AtDu) (begun_at doc.now AtDu tick.0) meter.old }
     requires ended { tick.0 ≤ℤ end_of_time }
     ensures heard { OnOk result (A.grew out.old (intake_events doc.now tick.0) out.new) }
     ensures radio { OnOk result (AtRadioTurn doc.now (tick.0 +ℤ pos 1) ru.new) }
     ensures waits { OnOk result (HasLandedUp G.pre G.post doc.now tick.0 answers.new.uplink answers.new.outbox.frames answers.new.queue answers.new.way) }
-    ensures made { OnOk result (HasDoings C.pre C.post (compensation_of doc.now AtDu) (made_at doc.now AtDu tick.0) meter.new) }
+    ensures made { OnOk result (HasDoings (compensation_of doc.now AtDu) (made_at doc.now AtDu tick.0) meter.new) }
     ensures turn { OnOk result (AtIntakeTurn doc.now (tick.0 +ℤ pos 1) intake.new) }
     ensures stays { OnErr result (IsRadioInStep doc.now (heard_before doc.now tick.0) ru.new) }
     ensures stop { IsErrOf result Failed → StopsBehind A.grew (A.stopped Failed) (λ told. IsIntakeInStep doc.now told intake.new) (heard_before doc.now tick.0) (intake_events doc.now tick.0) out.old out.new }

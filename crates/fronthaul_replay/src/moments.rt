@@ -16,7 +16,7 @@ ghost use Rattle.replay_laws.specs.Moments.{end_of_time};
 ghost use Rattle.air_source.specs.Tones.{tone_of};
 ghost use Rattle.unit_model.specs.Radiated.{first_clock};
 ghost use Rattle.fronthaul_replay.specs.Replaying.{IsInStep};
-ghost use Rattle.fronthaul_replay.specs.Turns.{AtMoment, AtTurn, TurnHasBegun, TurnHasLanded, HaveMeasured, IsNextTick, WaitsInTurn};
+ghost use Rattle.fronthaul_replay.specs.Turns.{AtMoment, AtTurn, TurnHasBegun, TurnHasLanded, IsNextTick, WaitsInTurn};
 
 use crate::coming::Coming;
 use crate::intake::intake_moment;
@@ -24,7 +24,6 @@ use crate::radio::radio_moment;
 use crate::times::{is_up_to, tick_after, up_to_end};
 use air_source::{Air, AirFault, RePlace, Samples};
 use bfp_codec::Wide;
-use delay_measure::Edge;
 use du_intake::Intake;
 use fh_base::NoMemory;
 use fh_document::Document;
@@ -36,14 +35,14 @@ use unit_moments::send_made;
 
 /// The next time at which a cell or a message is due at a unit, a frame leaves or lands, or a measurement begins. None where there is none
 /// up to the end.
-fn next_moment<G: Fn(RePlace) -> Wide, C: Fn(Edge) -> i64, D: Fn(Edge) -> i64>(
+fn next_moment<G: Fn(RePlace) -> Wide>(
     ru: &Ru,
     intake: &Intake,
     coming: &Coming<'_, G>,
-    meters: &Meters<'_, C, D>,
+    meters: &Meters<'_>,
 ) -> Option<Ticks>
     requires { IsPlan coming.now.downlink.plan }
-    ensures { (d : SpecDocument) (now : ℤ) (at : AtMoment G.pre G.post C.pre C.post D.pre D.post d now ru.now intake.now coming.now meters.now)
+    ensures { (d : SpecDocument) (now : ℤ) (at : AtMoment G.pre G.post d now ru.now intake.now coming.now meters.now)
         → IsNextTick d now at.turn.radio.history at.turn.intake.history at.waits.down.left at.waits.down.way.sent coming.now.answers.queue at.waits.up.frames.on_way.sent result }
 {
     let units = earlier_of(ru.due(), intake.due());
@@ -52,16 +51,16 @@ fn next_moment<G: Fn(RePlace) -> Wide, C: Fn(Edge) -> i64, D: Fn(Edge) -> i64>(
 }
 
 /// The frames of delay measurement that both units made at a time leave.
-fn send_both<G: Fn(RePlace) -> Wide, C: Fn(Edge) -> i64, D: Fn(Edge) -> i64>(
+fn send_both<G: Fn(RePlace) -> Wide>(
     tick: Ticks,
     coming: &mut Coming<'_, G>,
-    meters: &mut Meters<'_, C, D>,
+    meters: &mut Meters<'_>,
 ) -> Result<(), NoMemory>
     requires begun { first_clock ≤ℤ tick.0 }
     requires ended { tick.0 ≤ℤ end_of_time }
-    requires some { (d : SpecDocument) × TurnHasLanded G.pre G.post C.pre C.post D.pre D.post d tick.0 coming.old meters.old }
-    ensures { (d : SpecDocument) → IsReplayable d → TurnHasLanded G.pre G.post C.pre C.post D.pre D.post d tick.0 coming.old meters.old
-        → OnOk result (WaitsInTurn G.pre G.post d (tick.0 +ℤ pos 1) coming.new × MeasuresWait C.pre C.post D.pre D.post d (tick.0 +ℤ pos 1) meters.new) }
+    requires some { (d : SpecDocument) × TurnHasLanded G.pre G.post d tick.0 coming.old meters.old }
+    ensures { (d : SpecDocument) → IsReplayable d → TurnHasLanded G.pre G.post d tick.0 coming.old meters.old
+        → OnOk result (WaitsInTurn G.pre G.post d (tick.0 +ℤ pos 1) coming.new × MeasuresWait d (tick.0 +ℤ pos 1) meters.new) }
 {
     let downlink = &mut coming.downlink;
     send_made(tick, &mut meters.du, &mut downlink.pool, &mut downlink.way)?;
@@ -76,30 +75,24 @@ fn send_both<G: Fn(RePlace) -> Wide, C: Fn(Edge) -> i64, D: Fn(Edge) -> i64>(
 
 /// What comes to both units at one time, once its measurements have begun: the plan's frames that leave then; the radio unit's cells and the
 /// frames that land at it; its answers; then the frames that land at the distributed unit, and that unit's cells.
-fn land<
-    A: Air,
-    F: Fn(RePlace) -> Wide,
-    G: Fn(RePlace) -> Wide,
-    C: Fn(Edge) -> i64,
-    D: Fn(Edge) -> i64,
->(
+fn land<A: Air, F: Fn(RePlace) -> Wide, G: Fn(RePlace) -> Wide>(
     doc: &Document,
     tick: Ticks,
     du: &Samples<F>,
     ru: &mut Ru,
     intake: &mut Intake,
     coming: &mut Coming<'_, G>,
-    meters: &mut Meters<'_, C, D>,
+    meters: &mut Meters<'_>,
     out: &mut A,
 ) -> Result<(), AirFault>
     requires kept { IsKept F.pre F.post du.now }
     requires tone { AnswersBy (F.post (closure_of du.now)) (tone_of doc.now.source) }
     requires document { IsReplayable doc.now }
-    requires begun { TurnHasBegun G.pre G.post C.pre C.post D.pre D.post doc.now tick.0 ru.old intake.old coming.old meters.old }
+    requires begun { TurnHasBegun G.pre G.post doc.now tick.0 ru.old intake.old coming.old meters.old }
     requires ended { tick.0 ≤ℤ end_of_time }
     ensures heard { OnOk result (A.grew out.old (events_at doc.now.config (traffic_of doc.now) tick.0) out.new) }
     ensures turn { OnOk result (AtTurn doc.now (tick.0 +ℤ pos 1) ru.new intake.new) }
-    ensures landed { OnOk result (TurnHasLanded G.pre G.post C.pre C.post D.pre D.post doc.now tick.0 coming.new meters.new) }
+    ensures landed { OnOk result (TurnHasLanded G.pre G.post doc.now tick.0 coming.new meters.new) }
     ensures stop { IsErrOf result Failed → StopsBehind A.grew (A.stopped Failed) (λ told. IsInStep doc.now told ru.new intake.new) (events_before doc.now tick.0) (events_at doc.now.config (traffic_of doc.now) tick.0) out.old out.new }
     ensures wants { IsErrOf result WantsMemory → HaltsBehind A.grew (A.stopped WantsMemory) (λ told. IsInStep doc.now told ru.new intake.new) (events_before doc.now tick.0) (events_at doc.now.config (traffic_of doc.now) tick.0) out.old out.new }
     ensures same { A.same out.old out.new }
@@ -119,29 +112,23 @@ fn land<
 
 /// What comes at one time: measurements begin, both units' frames land and their cells are told, and the frames of delay measurement that
 /// both made leave.
-fn moment<
-    A: Air,
-    F: Fn(RePlace) -> Wide,
-    G: Fn(RePlace) -> Wide,
-    C: Fn(Edge) -> i64,
-    D: Fn(Edge) -> i64,
->(
+fn moment<A: Air, F: Fn(RePlace) -> Wide, G: Fn(RePlace) -> Wide>(
     doc: &Document,
     tick: Ticks,
     du: &Samples<F>,
     ru: &mut Ru,
     intake: &mut Intake,
     coming: &mut Coming<'_, G>,
-    meters: &mut Meters<'_, C, D>,
+    meters: &mut Meters<'_>,
     out: &mut A,
 ) -> Result<(), AirFault>
     requires kept { IsKept F.pre F.post du.now }
     requires tone { AnswersBy (F.post (closure_of du.now)) (tone_of doc.now.source) }
     requires document { IsReplayable doc.now }
-    requires moment { AtMoment G.pre G.post C.pre C.post D.pre D.post doc.now tick.0 ru.old intake.old coming.old meters.old }
+    requires moment { AtMoment G.pre G.post doc.now tick.0 ru.old intake.old coming.old meters.old }
     requires ended { tick.0 ≤ℤ end_of_time }
     ensures heard { OnOk result (A.grew out.old (events_at doc.now.config (traffic_of doc.now) tick.0) out.new) }
-    ensures moment { OnOk result (AtMoment G.pre G.post C.pre C.post D.pre D.post doc.now (tick.0 +ℤ pos 1) ru.new intake.new coming.new meters.new) }
+    ensures moment { OnOk result (AtMoment G.pre G.post doc.now (tick.0 +ℤ pos 1) ru.new intake.new coming.new meters.new) }
     ensures stop { IsErrOf result Failed → StopsBehind A.grew (A.stopped Failed) (λ told. IsInStep doc.now told ru.new intake.new) (events_before doc.now tick.0) (events_at doc.now.config (traffic_of doc.now) tick.0) out.old out.new }
     ensures wants { IsErrOf result WantsMemory → HaltsBehind A.grew (A.stopped WantsMemory) (λ told. IsInStep doc.now told ru.new intake.new) (events_before doc.now tick.0) (events_at doc.now.config (traffic_of doc.now) tick.0) out.old out.new }
     ensures same { A.same out.old out.new }
@@ -154,28 +141,22 @@ fn moment<
 }
 
 /// Lets time pass to the end.
-pub(crate) fn pass<
-    A: Air,
-    F: Fn(RePlace) -> Wide,
-    G: Fn(RePlace) -> Wide,
-    C: Fn(Edge) -> i64,
-    D: Fn(Edge) -> i64,
->(
+pub(crate) fn pass<A: Air, F: Fn(RePlace) -> Wide, G: Fn(RePlace) -> Wide>(
     doc: &Document,
     du: &Samples<F>,
     ru: &mut Ru,
     intake: &mut Intake,
     coming: &mut Coming<'_, G>,
-    meters: &mut Meters<'_, C, D>,
+    meters: &mut Meters<'_>,
     out: &mut A,
 ) -> Result<(), AirFault>
     requires kept { IsKept F.pre F.post du.now }
     requires tone { AnswersBy (F.post (closure_of du.now)) (tone_of doc.now.source) }
     requires document { IsReplayable doc.now }
-    requires moment { AtMoment G.pre G.post C.pre C.post D.pre D.post doc.now first_clock ru.old intake.old coming.old meters.old }
+    requires moment { AtMoment G.pre G.post doc.now first_clock ru.old intake.old coming.old meters.old }
     ensures heard { OnOk result (A.grew out.old (events_before doc.now (end_of_time +ℤ pos 1)) out.new) }
     ensures over { OnOk result (AtTurn doc.now (end_of_time +ℤ pos 1) ru.new intake.new) }
-    ensures measured { OnOk result (HaveMeasured C.pre C.post D.pre D.post doc.now meters.new) }
+    ensures measured { OnOk result (MeasuresWait doc.now (end_of_time +ℤ pos 1) meters.new) }
     ensures stop { IsErrOf result Failed → StopsBehind A.grew (A.stopped Failed) (λ told. IsInStep doc.now told ru.new intake.new) [] (events_before doc.now (end_of_time +ℤ pos 1)) out.old out.new }
     ensures wants { IsErrOf result WantsMemory → HaltsBehind A.grew (A.stopped WantsMemory) (λ told. IsInStep doc.now told ru.new intake.new) [] (events_before doc.now (end_of_time +ℤ pos 1)) out.old out.new }
     ensures same { A.same out.old out.new }

@@ -17,13 +17,12 @@ ghost use Rattle.fronthaul_replay.specs.Down.{HasLandedDown, WaitsDown};
 ghost use Rattle.fronthaul_replay.specs.BoxTurns.{AtRadioTurn, HasRadioLanded, IsRadioInStep, events_before, radio_events};
 ghost use Rattle.fronthaul_replay.specs.Waiting.{LandsAfter, Waits, begun_at};
 ghost use Rattle.unit_moments.specs.Stops.{HaltsBehind, StopsBehind};
-ghost use Rattle.delay_exchange.specs.Meters.{HasDoings};
+ghost use Rattle.delay_exchange.specs.Units.{HasDoings};
 
 use crate::downlink::Downlink;
 use air_source::{Air, AirFault, RePlace, Samples, Side};
 use bfp_codec::Wide;
 use delay_exchange::UnitMeter;
-use delay_measure::Edge;
 use fh_document::Document;
 use fh_time::Ticks;
 use frame_network::FramePool;
@@ -33,11 +32,11 @@ use ru_buffers::Ru;
 use unit_moments::land;
 
 /// The radio unit's cells of a moment are told, and all that lands at it then, where the plan's frames of the moment have left.
-fn radio_lands<A: Air, C: Fn(Edge) -> i64>(
+fn radio_lands<A: Air>(
     doc: &Document,
     tick: Ticks,
     ru: &mut Ru,
-    meter: &mut UnitMeter<C>,
+    meter: &mut UnitMeter,
     way: &mut Way<'_>,
     pool: &mut FramePool,
     out: &mut A,
@@ -45,13 +44,13 @@ fn radio_lands<A: Air, C: Fn(Edge) -> i64>(
     requires document { IsReplayable doc.now }
     requires turn { AtRadioTurn doc.now tick.0 ru.old }
     requires waits { (left : List Leaving) × All (LandsAfter tick.0) left × Waits doc.now AtRu tick.0 left way.old }
-    requires begun { HasDoings C.pre C.post (compensation_of doc.now AtRu) (begun_at doc.now AtRu tick.0) meter.old }
+    requires begun { HasDoings (compensation_of doc.now AtRu) (begun_at doc.now AtRu tick.0) meter.old }
     requires late { (a : Arrival) (more : List Arrival) → landing_at (landings_for AtRu doc.now) tick.0 ≡ a ∷ more → pos 0 ≤ℤ tick.0 }
     requires ended { tick.0 ≤ℤ end_of_time }
     ensures heard { OnOk result (A.grew out.old (radio_events doc.now tick.0) out.new) }
     ensures landed { OnOk result (HasRadioLanded doc.now tick.0 ru.new) }
     ensures waits { (left : List Leaving) → All (LandsAfter tick.0) left → Waits doc.now AtRu tick.0 left way.old → OnOk result (Waits doc.now AtRu (tick.0 +ℤ pos 1) left way.new) }
-    ensures made { OnOk result (HasDoings C.pre C.post (compensation_of doc.now AtRu) (made_at doc.now AtRu tick.0) meter.new) }
+    ensures made { OnOk result (HasDoings (compensation_of doc.now AtRu) (made_at doc.now AtRu tick.0) meter.new) }
     ensures stop { IsErrOf result Failed → StopsBehind A.grew (A.stopped Failed) (λ told. IsRadioInStep doc.now told ru.new) (events_before doc.now tick.0) (radio_events doc.now tick.0) out.old out.new }
     ensures wants { IsErrOf result WantsMemory → HaltsBehind A.grew (A.stopped WantsMemory) (λ told. IsRadioInStep doc.now told ru.new) (events_before doc.now tick.0) (radio_events doc.now tick.0) out.old out.new }
     ensures same { A.same out.old out.new }
@@ -63,12 +62,12 @@ fn radio_lands<A: Air, C: Fn(Edge) -> i64>(
 
 /// What comes at the radio unit at one time, once its measurements of the time have begun: the plan's frames that leave then go on their
 /// way, its cells are told, and the frames that land, each with the delays that it makes known.
-pub(crate) fn radio_moment<A: Air, F: Fn(RePlace) -> Wide, C: Fn(Edge) -> i64>(
+pub(crate) fn radio_moment<A: Air, F: Fn(RePlace) -> Wide>(
     doc: &Document,
     tick: Ticks,
     du: &Samples<F>,
     ru: &mut Ru,
-    meter: &mut UnitMeter<C>,
+    meter: &mut UnitMeter,
     downlink: &mut Downlink<'_>,
     out: &mut A,
 ) -> Result<(), AirFault>
@@ -77,12 +76,12 @@ pub(crate) fn radio_moment<A: Air, F: Fn(RePlace) -> Wide, C: Fn(Edge) -> i64>(
     requires document { IsReplayable doc.now }
     requires turn { AtRadioTurn doc.now tick.0 ru.old }
     requires waits { WaitsDown doc.now tick.0 downlink.old.plan downlink.old.way }
-    requires begun { HasDoings C.pre C.post (compensation_of doc.now AtRu) (begun_at doc.now AtRu tick.0) meter.old }
+    requires begun { HasDoings (compensation_of doc.now AtRu) (begun_at doc.now AtRu tick.0) meter.old }
     requires ended { tick.0 ≤ℤ end_of_time }
     ensures heard { OnOk result (A.grew out.old (radio_events doc.now tick.0) out.new) }
     ensures landed { OnOk result (HasRadioLanded doc.now tick.0 ru.new) }
     ensures waits { OnOk result (HasLandedDown doc.now tick.0 downlink.new.plan downlink.new.way) }
-    ensures made { OnOk result (HasDoings C.pre C.post (compensation_of doc.now AtRu) (made_at doc.now AtRu tick.0) meter.new) }
+    ensures made { OnOk result (HasDoings (compensation_of doc.now AtRu) (made_at doc.now AtRu tick.0) meter.new) }
     ensures stop { IsErrOf result Failed → StopsBehind A.grew (A.stopped Failed) (λ told. IsRadioInStep doc.now told ru.new) (events_before doc.now tick.0) (radio_events doc.now tick.0) out.old out.new }
     ensures wants { IsErrOf result WantsMemory → HaltsBehind A.grew (A.stopped WantsMemory) (λ told. IsRadioInStep doc.now told ru.new) (events_before doc.now tick.0) (radio_events doc.now tick.0) out.old out.new }
     ensures same { A.same out.old out.new }

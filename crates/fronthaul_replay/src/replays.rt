@@ -6,7 +6,6 @@ ghost use Rattle.air_source.specs.Kept.{IsKept, closure_of};
 ghost use Rattle.air_source.specs.declared.airs.AirFault.TheVariants.{Failed, NoMemory as AirWantsMemory};
 ghost use Rattle.document_traffic.specs.Landing.{antenna_for};
 ghost use Rattle.document_traffic.specs.Sending.{sent_for};
-ghost use Rattle.delay_measure.specs.Kept.{answer_at};
 ghost use Rattle.fronthaul_replay.specs.Measuring.{MeasuresWait};
 ghost use Rattle.du_intake.specs.Calls.{IntakeStandsFor};
 ghost use Rattle.du_scheduler.specs.Plans.{HasToSend};
@@ -29,7 +28,6 @@ use crate::measuring::meters_of;
 use crate::moments::pass;
 use air_source::{Air, AirFault, RePlace, Samples, Side};
 use bfp_codec::Wide;
-use delay_measure::Edge;
 use du_intake::Intake;
 use du_scheduler::Plan;
 use fh_base::NoMemory;
@@ -118,44 +116,18 @@ pub fn replay<A: Air, F: Fn(RePlace) -> Wide, G: Fn(RePlace) -> Wide>(
     ensures sound { IsSound doc.now }
 {
     let mut coming = coming_of(alloc, doc, plan, antenna)?;
-    let comps = doc.comps;
-    let mut meters = meters_of(
-        alloc,
-        doc,
-        |edge: Edge| -> i64
-            ensures { result ≡ answer_at comps.ru_sending comps.ru_receiving edge }
-        { answer_at(comps.ru_sending, comps.ru_receiving, edge) },
-        |edge: Edge| -> i64
-            ensures { result ≡ answer_at comps.du_sending comps.du_receiving edge }
-        { answer_at(comps.du_sending, comps.du_receiving, edge) },
-    )?;
+    let mut meters = meters_of(alloc, doc)?;
     run(doc, &du, ru, intake, &mut coming, &mut meters, out).map_err(ReplayFault::from)
 }
 
-/// A unit's compensation at an edge, in units of 2^-16 ns.
-fn answer_at(sending: i64, receiving: i64, edge: Edge) -> i64
-    ensures { result ≡ answer_at sending receiving edge }
-{
-    match edge {
-        Edge::Sending => sending,
-        Edge::Receiving => receiving,
-    }
-}
-
 /// Lets all frames land, and tells the counters of both units.
-fn run<
-    A: Air,
-    F: Fn(RePlace) -> Wide,
-    G: Fn(RePlace) -> Wide,
-    C: Fn(Edge) -> i64,
-    D: Fn(Edge) -> i64,
->(
+fn run<A: Air, F: Fn(RePlace) -> Wide, G: Fn(RePlace) -> Wide>(
     doc: &Document,
     du: &Samples<F>,
     ru: &mut Ru,
     intake: &mut Intake,
     coming: &mut Coming<'_, G>,
-    meters: &mut Meters<'_, C, D>,
+    meters: &mut Meters<'_>,
     out: &mut A,
 ) -> Result<(), AirFault>
     requires kept { IsKept F.pre F.post du.now }
@@ -164,7 +136,7 @@ fn run<
     requires unit { StandsFor doc.now.config ru.old nothing_yet }
     requires intake { IntakeStandsFor doc.now.config (planned_for doc.now) intake.old nothing_yet }
     requires waits { WaitsInTurn G.pre G.post doc.now first_clock coming.old }
-    requires measures { MeasuresWait C.pre C.post D.pre D.post doc.now first_clock meters.old }
+    requires measures { MeasuresWait doc.now first_clock meters.old }
     ensures heard { OnOk result (A.grew out.old (events_of doc.now) out.new) }
     ensures done { OnOk result (IsDone doc.now ru.new intake.new) }
     ensures stop { IsErrOf result Failed → StopsInStep A.grew (A.stopped Failed) doc.now ru.new intake.new out.old out.new }

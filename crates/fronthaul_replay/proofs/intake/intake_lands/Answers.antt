@@ -21,7 +21,7 @@ taken g c =
     let tick = c.args.tick.0 in
     let a = c.requires.turn in
     let w = c.requires.waits in
-    let may = may_land d AtDu tick w.0 c.requires.document w.1 c.args.way.now w.2 _ _ c.args.meter.now c.requires.begun c.requires.late (low_enough tick c.requires.ended) in
+    let may = may_land d AtDu tick w.0 c.requires.document w.1 c.args.way.now w.2 c.args.meter.now c.requires.begun c.requires.late (low_enough tick c.requires.ended) in
     unit_stands d AtDu tick w.0 c.requires.document w.1 c.args.way.now w.2 (IntakeMayTake c.land.new.unit d.config (planned_for d) tick) a.history
     (c.in_ok-land.ensures.took (on_way d AtDu w.2.sent) (compensation_of d AtDu) (begun_at d AtDu tick) d.config (planned_for d) a.history may
     (intake_may_take d tick c.args.intake.now a c.requires.ended))
@@ -40,7 +40,7 @@ land-requires-clause-some g c =
       on_way d AtDu w.2.sent,
       compensation_of d AtDu,
       begun_at d AtDu tick,
-      may_land d AtDu tick w.0 c.requires.document w.1 c.args.way.now w.2 (goal.C-pre g) (goal.C-post g) c.args.meter.now c.requires.begun c.requires.late (low_enough tick c.requires.ended),
+      may_land d AtDu tick w.0 c.requires.document w.1 c.args.way.now w.2 c.args.meter.now c.requires.begun c.requires.late (low_enough tick c.requires.ended),
     )
 
 pub returns-in_err-land-clause-stop : goal.returns-in_err-land-clause-stop
@@ -50,7 +50,7 @@ returns-in_err-land-clause-stop g c failed =
     let tick = c.args.tick.0 in
     let a = c.requires.turn in
     let w = c.requires.waits in
-    let may = may_land d AtDu tick w.0 c.requires.document w.1 c.args.way.now w.2 (goal.C-pre g) (goal.C-post g) c.args.meter.now c.requires.begun c.requires.late (low_enough tick c.requires.ended) in
+    let may = may_land d AtDu tick w.0 c.requires.document w.1 c.args.way.now w.2 c.args.meter.now c.requires.begun c.requires.late (low_enough tick c.requires.ended) in
     let xs = here d AtDu tick w.0 c.requires.document w.1 c.args.way.now w.2 in
     stops_landing g.A.Air.grew (g.A.Air.stopped Failed) d tick (begun_at d AtDu tick) c.args.intake.now c.land.new.unit xs c.args.out.now c.land.new.out a
     (told_is AtDu d tick xs (same d AtDu tick w.0 c.requires.document w.1 c.args.way.now w.2))
@@ -64,7 +64,7 @@ returns-in_err-land-clause-wants g c wants =
     let tick = c.args.tick.0 in
     let a = c.requires.turn in
     let w = c.requires.waits in
-    let may = may_land d AtDu tick w.0 c.requires.document w.1 c.args.way.now w.2 (goal.C-pre g) (goal.C-post g) c.args.meter.now c.requires.begun c.requires.late (low_enough tick c.requires.ended) in
+    let may = may_land d AtDu tick w.0 c.requires.document w.1 c.args.way.now w.2 c.args.meter.now c.requires.begun c.requires.late (low_enough tick c.requires.ended) in
     let xs = here d AtDu tick w.0 c.requires.document w.1 c.args.way.now w.2 in
     halts_landing g.A.Air.grew (g.A.Air.stopped NoMemory) d tick (begun_at d AtDu tick) c.args.intake.now c.land.new.unit xs c.args.out.now c.land.new.out a
     (told_is AtDu d tick xs (same d AtDu tick w.0 c.requires.document w.1 c.args.way.now w.2))
@@ -86,12 +86,12 @@ returns-clause-heard g c =
     let a = c.requires.turn in
     let w = c.requires.waits in
     let all = taken g (goal.at.returns-clause-heard g c).In_ok-land in
-    let may = may_land d AtDu tick w.0 c.requires.document w.1 c.args.way.now w.2 (goal.C-pre g) (goal.C-post g) c.args.meter.now c.requires.begun c.requires.late (low_enough tick c.requires.ended) in
+    let may = may_land d AtDu tick w.0 c.requires.document w.1 c.args.way.now w.2 c.args.meter.now c.requires.begun c.requires.late (low_enough tick c.requires.ended) in
     let l = c.in_ok-land.ensures.landed (on_way d AtDu w.2.sent) (compensation_of d AtDu) (begun_at d AtDu tick) may in
     on_ok_weaker c.close_until.result
     (λ second. heard_all g.A.Air.grew g.met.A.Air.grew_more d tick a.history (landed_then d tick a.history) c.args.out.now c.land.new.out c.close_until.new.air
     (has_landed d tick c.args.intake.now c.requires.document a c.requires.ended)
-    (events_heard d AtDu tick w.0 c.requires.document w.1 c.args.way.now w.2 g.A.Air.grew (goal.C-pre g) (goal.C-post g) c.land.new.meter c.land.new.way c.args.out.now c.land.new.out l) second)
+    (events_heard d AtDu tick w.0 c.requires.document w.1 c.args.way.now w.2 g.A.Air.grew c.land.new.meter c.land.new.way c.args.out.now c.land.new.out l) second)
     (c.close_until.ensures.heard d.config (planned_for d) (landed_then d tick a.history) all.stands)
 
 pub returns-clause-turn : goal.returns-clause-turn
@@ -108,10 +108,10 @@ pub returns-clause-waits : goal.returns-clause-waits
 returns-clause-waits g c left later waits =
     let d = c.args.doc.now in
     let tick = c.args.tick.0 in
-    let may = may_land d AtDu tick left c.requires.document later c.args.way.now waits (goal.C-pre g) (goal.C-post g) c.args.meter.now c.requires.begun c.requires.late (low_enough tick c.requires.ended) in
+    let may = may_land d AtDu tick left c.requires.document later c.args.way.now waits c.args.meter.now c.requires.begun c.requires.late (low_enough tick c.requires.ended) in
     let l = c.in_ok-land.ensures.landed (on_way d AtDu waits.sent) (compensation_of d AtDu) (begun_at d AtDu tick) may in
     on_ok_weaker c.close_until.result
-    (λ clock. waits_on d AtDu tick left c.requires.document later c.args.way.now waits g.A.Air.grew (goal.C-pre g) (goal.C-post g) c.land.new.meter c.land.new.way c.args.out.now c.land.new.out l)
+    (λ clock. waits_on d AtDu tick left c.requires.document later c.args.way.now waits g.A.Air.grew c.land.new.meter c.land.new.way c.args.out.now c.land.new.out l)
     c.close_until.ensures.clock
 
 pub returns-clause-made : goal.returns-clause-made
@@ -119,10 +119,10 @@ returns-clause-made g c =
     let d = c.args.doc.now in
     let tick = c.args.tick.0 in
     let w = c.requires.waits in
-    let may = may_land d AtDu tick w.0 c.requires.document w.1 c.args.way.now w.2 (goal.C-pre g) (goal.C-post g) c.args.meter.now c.requires.begun c.requires.late (low_enough tick c.requires.ended) in
+    let may = may_land d AtDu tick w.0 c.requires.document w.1 c.args.way.now w.2 c.args.meter.now c.requires.begun c.requires.late (low_enough tick c.requires.ended) in
     let l = c.in_ok-land.ensures.landed (on_way d AtDu w.2.sent) (compensation_of d AtDu) (begun_at d AtDu tick) may in
     on_ok_weaker c.close_until.result
-    (λ clock. meter_has d AtDu tick w.0 c.requires.document w.1 c.args.way.now w.2 g.A.Air.grew (goal.C-pre g) (goal.C-post g) c.land.new.meter c.land.new.way c.args.out.now c.land.new.out l)
+    (λ clock. meter_has d AtDu tick w.0 c.requires.document w.1 c.args.way.now w.2 g.A.Air.grew c.land.new.meter c.land.new.way c.args.out.now c.land.new.out l)
     c.close_until.ensures.clock
 
 pub returns-clause-stop : goal.returns-clause-stop
@@ -132,11 +132,11 @@ returns-clause-stop g c failed =
     let a = c.requires.turn in
     let w = c.requires.waits in
     let all = taken g (goal.at.returns-clause-stop g c).In_ok-land in
-    let may = may_land d AtDu tick w.0 c.requires.document w.1 c.args.way.now w.2 (goal.C-pre g) (goal.C-post g) c.args.meter.now c.requires.begun c.requires.late (low_enough tick c.requires.ended) in
+    let may = may_land d AtDu tick w.0 c.requires.document w.1 c.args.way.now w.2 c.args.meter.now c.requires.begun c.requires.late (low_enough tick c.requires.ended) in
     let l = c.in_ok-land.ensures.landed (on_way d AtDu w.2.sent) (compensation_of d AtDu) (begun_at d AtDu tick) may in
     stops_closing g.A.Air.grew (g.A.Air.stopped Failed) g.met.A.Air.grew_more d tick a.history (landed_then d tick a.history) c.close_until.new.self c.args.out.now c.land.new.out c.close_until.new.air
     (has_landed d tick c.args.intake.now c.requires.document a c.requires.ended)
-    (events_heard d AtDu tick w.0 c.requires.document w.1 c.args.way.now w.2 g.A.Air.grew (goal.C-pre g) (goal.C-post g) c.land.new.meter c.land.new.way c.args.out.now c.land.new.out l)
+    (events_heard d AtDu tick w.0 c.requires.document w.1 c.args.way.now w.2 g.A.Air.grew c.land.new.meter c.land.new.way c.args.out.now c.land.new.out l)
     (IfErr-at_err _ failed (c.close_until.ensures.stop d.config (planned_for d) (landed_then d tick a.history) all.stands))
 
 pub returns-clause-wants : goal.returns-clause-wants
@@ -146,11 +146,11 @@ returns-clause-wants g c wants =
     let a = c.requires.turn in
     let w = c.requires.waits in
     let all = taken g (goal.at.returns-clause-wants g c).In_ok-land in
-    let may = may_land d AtDu tick w.0 c.requires.document w.1 c.args.way.now w.2 (goal.C-pre g) (goal.C-post g) c.args.meter.now c.requires.begun c.requires.late (low_enough tick c.requires.ended) in
+    let may = may_land d AtDu tick w.0 c.requires.document w.1 c.args.way.now w.2 c.args.meter.now c.requires.begun c.requires.late (low_enough tick c.requires.ended) in
     let l = c.in_ok-land.ensures.landed (on_way d AtDu w.2.sent) (compensation_of d AtDu) (begun_at d AtDu tick) may in
     inl (stops_closing g.A.Air.grew (g.A.Air.stopped NoMemory) g.met.A.Air.grew_more d tick a.history (landed_then d tick a.history) c.close_until.new.self c.args.out.now c.land.new.out c.close_until.new.air
     (has_landed d tick c.args.intake.now c.requires.document a c.requires.ended)
-    (events_heard d AtDu tick w.0 c.requires.document w.1 c.args.way.now w.2 g.A.Air.grew (goal.C-pre g) (goal.C-post g) c.land.new.meter c.land.new.way c.args.out.now c.land.new.out l)
+    (events_heard d AtDu tick w.0 c.requires.document w.1 c.args.way.now w.2 g.A.Air.grew c.land.new.meter c.land.new.way c.args.out.now c.land.new.out l)
     (IfErr-at_err _ wants (c.close_until.ensures.stop d.config (planned_for d) (landed_then d tick a.history) all.stands)))
 
 pub returns-clause-same : goal.returns-clause-same

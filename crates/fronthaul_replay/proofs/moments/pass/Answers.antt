@@ -6,7 +6,7 @@ use Rattle.fronthaul_replay.proofs.DownLemmas.{plan_of}
 use Rattle.fronthaul_replay.proofs.TurnLemmas.{events_none}
 use Rattle.replay_laws.specs.Moments.{end_of_time}
 use Rattle.fronthaul_replay.specs.Turns.{AtMoment}
-use Rattle.fronthaul_replay.proofs.NextLemmas.{all_measured, end_comes, gap_less, heard_next, heard_there, in_order, moment_comes}
+use Rattle.fronthaul_replay.proofs.NextLemmas.{end_comes, gap_less, heard_next, heard_there, in_order, moment_comes}
 use Rattle.fronthaul_replay.proofs.StepLemmas.{InStep}
 use Rattle.fronthaul_replay.proofs.StopLemmas.{halts_whole, stops_whole}
 use Rattle.fronthaul_replay.proofs.CauseLemmas.{cause_passed}
@@ -77,7 +77,7 @@ loop-tick-preserved g c =
     let next = sym c.tick_after-now.ensures in
     let there = heard_there g.A.Air.grew d c.loop-tick.now.0 tick.0 c.args.out.now c.loop-tick.out n.next old.heard in
     record {
-      at = subst (λ (t : ℤ). AtMoment (goal.G-pre g) (goal.G-post g) (goal.C-pre g) (goal.C-post g) (goal.D-pre g) (goal.D-post g) d t c.moment.new.ru c.moment.new.intake c.moment.new.coming c.moment.new.meters)
+      at = subst (λ (t : ℤ). AtMoment (goal.G-pre g) (goal.G-post g) d t c.moment.new.ru c.moment.new.intake c.moment.new.coming c.moment.new.meters)
           next told.moment;
       heard = subst (λ (t : ℤ). g.A.Air.grew c.args.out.now (events_before d t) c.moment.new.out) next
           (heard_next g.A.Air.grew g.met.A.Air.grew_more d tick.0 c.args.out.now c.loop-tick.out c.moment.new.out n.moment.turn.radio.turn.begun there told.heard);
@@ -129,7 +129,7 @@ returns-clause-measured g c =
     let old = c.loop-tick.invariant in
     let still = c.in_default.ensures d c.loop-tick.now.0 old.at in
     let n = end_comes d c.loop-tick.now.0 c.loop-tick.ru c.loop-tick.intake c.loop-tick.coming c.loop-tick.meters c.requires.document old.at still in
-    all_measured n.moment.measures
+    n.moment.measures
 
 pub returns-in_err-moment-clause-cause : goal.returns-in_err-moment-clause-cause
 returns-in_err-moment-clause-cause g c =

@@ -7,7 +7,7 @@ use Rattle.fronthaul_replay.proofs.moments.pass.Given as goal
 
 abbrev pub invariant-loop-tick : goal.invariant-loop-tick
 invariant-loop-tick g l = record {
-  at : AtMoment (goal.G-pre g) (goal.G-post g) (goal.C-pre g) (goal.C-post g) (goal.D-pre g) (goal.D-post g) l.doc l.now.0 l.ru l.intake l.coming l.meters;
+  at : AtMoment (goal.G-pre g) (goal.G-post g) l.doc l.now.0 l.ru l.intake l.coming l.meters;
   heard : g.A.Air.grew l.initial.out (events_before l.doc l.now.0) l.out;
   same : g.A.Air.same l.initial.out l.out;
   still : g.A.Air.faults l.out ≡ g.A.Air.faults l.initial.out;

@@ -34,7 +34,7 @@ returns g c d doc landed =
       },
       record {
         waits = record { proper = b.proper; begins = b.begins; list = b.list; within = b.within };
-        ru = made_is_sent (goal.C-pre g) (goal.C-post g) d Ru tick c.send_made-2.new.meter c.requires.begun up.meter;
-        du = made_is_sent (goal.D-pre g) (goal.D-post g) d Du tick c.send_made.new.meter c.requires.begun down.meter;
+        ru = made_is_sent d Ru tick c.send_made-2.new.meter c.requires.begun up.meter;
+        du = made_is_sent d Du tick c.send_made.new.meter c.requires.begun down.meter;
       },
     )) (c.send_made-2.ensures.sent (on_way d Du landed.up.on_way.sent) (compensation_of d Ru) (made_at d Ru tick) landed.up.on_way.stands landed.ru)

@@ -54,7 +54,7 @@ land-requires-clause-some g c =
       on_way d AtRu w.2.sent,
       compensation_of d AtRu,
       begun_at d AtRu tick,
-      may_land d AtRu tick w.0 c.requires.document w.1 c.args.way.now w.2 (goal.C-pre g) (goal.C-post g) c.args.meter.now c.requires.begun c.requires.late (low_enough tick c.requires.ended),
+      may_land d AtRu tick w.0 c.requires.document w.1 c.args.way.now w.2 c.args.meter.now c.requires.begun c.requires.late (low_enough tick c.requires.ended),
     )
 
 pub returns-clause-heard : goal.returns-clause-heard
@@ -63,12 +63,12 @@ returns-clause-heard g c =
     let tick = c.args.tick.0 in
     let a = c.requires.turn in
     let w = c.requires.waits in
-    let may = may_land d AtRu tick w.0 c.requires.document w.1 c.args.way.now w.2 (goal.C-pre g) (goal.C-post g) c.args.meter.now c.requires.begun c.requires.late (low_enough tick c.requires.ended) in
+    let may = may_land d AtRu tick w.0 c.requires.document w.1 c.args.way.now w.2 c.args.meter.now c.requires.begun c.requires.late (low_enough tick c.requires.ended) in
     on_ok_weaker c.land.result
     (λ l. subst (λ (es : List Event). g.A.Air.grew c.args.out.now es c.land.new.out) (radio_heard d tick a.history c.requires.document a.turn c.requires.ended)
     (g.met.A.Air.grew_more c.args.out.now c.advance.new.air c.land.new.out (map Cell (due_of d.config a.history tick)) (arrivals_at AtRu (traffic_of d) tick)
     (c.in_ok-advance.ensures.heard d.config a.history a.stands)
-    (events_heard d AtRu tick w.0 c.requires.document w.1 c.args.way.now w.2 g.A.Air.grew (goal.C-pre g) (goal.C-post g) c.land.new.meter c.land.new.way c.advance.new.air c.land.new.out l)))
+    (events_heard d AtRu tick w.0 c.requires.document w.1 c.args.way.now w.2 g.A.Air.grew c.land.new.meter c.land.new.way c.advance.new.air c.land.new.out l)))
     (c.land.ensures.landed (on_way d AtRu w.2.sent) (compensation_of d AtRu) (begun_at d AtRu tick) may)
 
 pub returns-clause-landed : goal.returns-clause-landed
@@ -78,7 +78,7 @@ returns-clause-landed g c =
     let a = c.requires.turn in
     let w = c.requires.waits in
     let ok = c.in_ok-advance.ensures in
-    let may = may_land d AtRu tick w.0 c.requires.document w.1 c.args.way.now w.2 (goal.C-pre g) (goal.C-post g) c.args.meter.now c.requires.begun c.requires.late (low_enough tick c.requires.ended) in
+    let may = may_land d AtRu tick w.0 c.requires.document w.1 c.args.way.now w.2 c.args.meter.now c.requires.begun c.requires.late (low_enough tick c.requires.ended) in
     on_ok_weaker c.land.result
     (λ took. radio_landed d tick c.args.ru.now c.land.new.unit c.requires.document a c.requires.ended
     (unit_stands d AtRu tick w.0 c.requires.document w.1 c.args.way.now w.2 (StandsFor d.config c.land.new.unit) (reported_then d tick a.history) took.stands))
@@ -89,9 +89,9 @@ pub returns-clause-waits : goal.returns-clause-waits
 returns-clause-waits g c left later waits =
     let d = c.args.doc.now in
     let tick = c.args.tick.0 in
-    let may = may_land d AtRu tick left c.requires.document later c.args.way.now waits (goal.C-pre g) (goal.C-post g) c.args.meter.now c.requires.begun c.requires.late (low_enough tick c.requires.ended) in
+    let may = may_land d AtRu tick left c.requires.document later c.args.way.now waits c.args.meter.now c.requires.begun c.requires.late (low_enough tick c.requires.ended) in
     on_ok_weaker c.land.result
-    (λ l. waits_on d AtRu tick left c.requires.document later c.args.way.now waits g.A.Air.grew (goal.C-pre g) (goal.C-post g) c.land.new.meter c.land.new.way c.advance.new.air c.land.new.out l)
+    (λ l. waits_on d AtRu tick left c.requires.document later c.args.way.now waits g.A.Air.grew c.land.new.meter c.land.new.way c.advance.new.air c.land.new.out l)
     (c.land.ensures.landed (on_way d AtRu waits.sent) (compensation_of d AtRu) (begun_at d AtRu tick) may)
 
 pub returns-clause-made : goal.returns-clause-made
@@ -99,9 +99,9 @@ returns-clause-made g c =
     let d = c.args.doc.now in
     let tick = c.args.tick.0 in
     let w = c.requires.waits in
-    let may = may_land d AtRu tick w.0 c.requires.document w.1 c.args.way.now w.2 (goal.C-pre g) (goal.C-post g) c.args.meter.now c.requires.begun c.requires.late (low_enough tick c.requires.ended) in
+    let may = may_land d AtRu tick w.0 c.requires.document w.1 c.args.way.now w.2 c.args.meter.now c.requires.begun c.requires.late (low_enough tick c.requires.ended) in
     on_ok_weaker c.land.result
-    (λ l. meter_has d AtRu tick w.0 c.requires.document w.1 c.args.way.now w.2 g.A.Air.grew (goal.C-pre g) (goal.C-post g) c.land.new.meter c.land.new.way c.advance.new.air c.land.new.out l)
+    (λ l. meter_has d AtRu tick w.0 c.requires.document w.1 c.args.way.now w.2 g.A.Air.grew c.land.new.meter c.land.new.way c.advance.new.air c.land.new.out l)
     (c.land.ensures.landed (on_way d AtRu w.2.sent) (compensation_of d AtRu) (begun_at d AtRu tick) may)
 
 pub returns-clause-stop : goal.returns-clause-stop
@@ -111,7 +111,7 @@ returns-clause-stop g c failed =
     let a = c.requires.turn in
     let w = c.requires.waits in
     let ok = c.in_ok-advance.ensures in
-    let may = may_land d AtRu tick w.0 c.requires.document w.1 c.args.way.now w.2 (goal.C-pre g) (goal.C-post g) c.args.meter.now c.requires.begun c.requires.late (low_enough tick c.requires.ended) in
+    let may = may_land d AtRu tick w.0 c.requires.document w.1 c.args.way.now w.2 c.args.meter.now c.requires.begun c.requires.late (low_enough tick c.requires.ended) in
     let xs = here d AtRu tick w.0 c.requires.document w.1 c.args.way.now w.2 in
     stops_landing g.A.Air.grew (g.A.Air.stopped Failed) g.met.A.Air.grew_more d tick (begun_at d AtRu tick) a.history xs c.land.new.unit c.args.out.now c.advance.new.air c.land.new.out
     c.requires.document a.turn c.requires.ended (told_is AtRu d tick xs (same d AtRu tick w.0 c.requires.document w.1 c.args.way.now w.2)) (ok.heard d.config a.history a.stands)
@@ -125,7 +125,7 @@ returns-clause-wants g c wants =
     let a = c.requires.turn in
     let w = c.requires.waits in
     let ok = c.in_ok-advance.ensures in
-    let may = may_land d AtRu tick w.0 c.requires.document w.1 c.args.way.now w.2 (goal.C-pre g) (goal.C-post g) c.args.meter.now c.requires.begun c.requires.late (low_enough tick c.requires.ended) in
+    let may = may_land d AtRu tick w.0 c.requires.document w.1 c.args.way.now w.2 c.args.meter.now c.requires.begun c.requires.late (low_enough tick c.requires.ended) in
     let xs = here d AtRu tick w.0 c.requires.document w.1 c.args.way.now w.2 in
     halts_landing g.A.Air.grew (g.A.Air.stopped NoMemory) g.met.A.Air.grew_more d tick (begun_at d AtRu tick) a.history xs c.land.new.unit c.args.out.now c.advance.new.air c.land.new.out
     c.requires.document a.turn c.requires.ended (told_is AtRu d tick xs (same d AtRu tick w.0 c.requires.document w.1 c.args.way.now w.2)) (ok.heard d.config a.history a.stands)

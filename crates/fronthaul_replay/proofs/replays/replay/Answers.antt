@@ -1,7 +1,7 @@
 use Rattle.std.proofs.Common.{rules, inr, refl}
 use Rattle.fronthaul_replay.proofs.LawLemmas.{is_sound}
 use Rattle.fronthaul_replay.proofs.StopLemmas.{none_heard}
-use Rattle.fronthaul_replay.proofs.FaultLemmas.{replay_cause, replay_wanted}
+use Rattle.fronthaul_replay.proofs.FaultLemmas.{ok_passed, replay_cause, replay_wanted}
 use Rattle.fronthaul_replay.proofs.replays.replay.Goals as goal
 
 -- no memory for what is to come
@@ -27,6 +27,9 @@ returns-in_err-meters-clause-wants g c wants =
 pub returns-clause-sound : goal.returns-clause-sound
 returns-clause-sound g c = is_sound c.args.doc.now (record { document = c.requires.document; valid = c.requires.plan.valid })
 
+pub returns-clause-done : goal.returns-clause-done
+returns-clause-done g c = ok_passed c.run.result c.map_err.result _ c.map_err.ensures.variant c.run.ensures.done
+
 pub returns-clause-stopped : goal.returns-clause-stopped
 returns-clause-stopped g c stopped = c.run.ensures.stop (search rules)
 
@@ -40,4 +43,4 @@ pub returns-in_err-meters-clause-cause : goal.returns-in_err-meters-clause-cause
 returns-in_err-meters-clause-cause g c = replay_wanted (g.A.Air.faults c.args.out.now) (g.A.Air.faults c.args.out.now) c.from_residual-in_err-meters.result c.from_residual-in_err-meters.ensures.1 refl
 
 pub returns-clause-cause : goal.returns-clause-cause
-returns-clause-cause g c = replay_cause (g.A.Air.faults c.args.out.now) (g.A.Air.faults c.run.new.out) c.run.result c.map_err.result (search rules) c.run.ensures.cause
+returns-clause-cause g c = replay_cause (g.A.Air.faults c.args.out.now) (g.A.Air.faults c.run.new.out) c.run.result c.map_err.result (search (rules, c.map_err.ensures.cases, c.map_err.ensures.variant)) c.run.ensures.cause

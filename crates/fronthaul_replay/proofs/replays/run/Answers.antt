@@ -34,7 +34,7 @@ returns-in_err-pass-clause-wants g c wants =
 -- ---- the radio unit's counters
 
 pub tell_counts-requires : goal.tell_counts-requires
-tell_counts-requires g c = let d = c.args.doc.now in record { some = (compensation_of d Ru, all_doings d Ru, c.in_ok-pass.ensures.measured.ru.has) }
+tell_counts-requires g c = let d = c.args.doc.now in record { some = (compensation_of d Ru, all_doings d Ru, c.in_ok-pass.ensures.measured.ru) }
 
 pub returns-in_err-tell_counts-clause-stop : goal.returns-in_err-tell_counts-clause-stop
 returns-in_err-tell_counts-clause-stop g c failed =
@@ -43,7 +43,7 @@ returns-in_err-tell_counts-clause-stop g c failed =
     let at = c.in_ok-pass.ensures.over in
     let done = over d c.pass.new.ru c.pass.new.intake c.requires.document at in
     let radio = c.counters.result.now in
-    let ru = c.in_ok-pass.ensures.measured.ru.has in
+    let ru = c.in_ok-pass.ensures.measured.ru in
     stops_radio_count g.A.Air.grew g.met.A.Air.grew_more d (g.A.Air.stopped Failed) c.pass.new.ru c.pass.new.intake radio c.args.out.now c.pass.new.out c.tell_counts.new.out at
     (radio_counts d c.pass.new.ru radio done.radio (c.counters.ensures d.config done.radio.history done.radio.stands))
     c.in_ok-pass.ensures.heard (IfErr-at_err _ (same ∙ failed) (c.tell_counts.ensures.stop (compensation_of d Ru) (all_doings d Ru) ru))
@@ -55,7 +55,7 @@ returns-in_err-tell_counts-clause-wants g c wants =
     let at = c.in_ok-pass.ensures.over in
     let done = over d c.pass.new.ru c.pass.new.intake c.requires.document at in
     let radio = c.counters.result.now in
-    let ru = c.in_ok-pass.ensures.measured.ru.has in
+    let ru = c.in_ok-pass.ensures.measured.ru in
     inl (stops_radio_count g.A.Air.grew g.met.A.Air.grew_more d (g.A.Air.stopped NoMemory) c.pass.new.ru c.pass.new.intake radio c.args.out.now c.pass.new.out c.tell_counts.new.out at
     (radio_counts d c.pass.new.ru radio done.radio (c.counters.ensures d.config done.radio.history done.radio.stands))
     c.in_ok-pass.ensures.heard (IfErr-at_err _ (same ∙ wants) (c.tell_counts.ensures.stop (compensation_of d Ru) (all_doings d Ru) ru)))
@@ -66,7 +66,7 @@ returns-in_err-tell_counts-clause-same g c = g.met.A.Air.same_more c.args.out.no
 -- ---- and the distributed unit's
 
 pub tell_counts-requires-2 : goal.tell_counts-requires-2
-tell_counts-requires-2 g c = let d = c.args.doc.now in record { some = (compensation_of d Du, all_doings d Du, c.in_ok-pass.ensures.measured.du.has) }
+tell_counts-requires-2 g c = let d = c.args.doc.now in record { some = (compensation_of d Du, all_doings d Du, c.in_ok-pass.ensures.measured.du) }
 
 pub returns-clause-heard : goal.returns-clause-heard
 returns-clause-heard g c =
@@ -74,9 +74,9 @@ returns-clause-heard g c =
     let at = c.in_ok-pass.ensures.over in
     let done = over d c.pass.new.ru c.pass.new.intake c.requires.document at in
     let radio = c.counters.result.now in
-    let ru = c.in_ok-pass.ensures.measured.ru.has in
+    let ru = c.in_ok-pass.ensures.measured.ru in
     let taken = c.counters-2.result.now in
-    let du = c.in_ok-pass.ensures.measured.du.has in
+    let du = c.in_ok-pass.ensures.measured.du in
     on_ok_weaker c.tell_counts-2.result (λ last.
     heard_all g.A.Air.grew g.met.A.Air.grew_more d (told_for Ru d radio) (told_for Du d taken)
     c.args.out.now c.pass.new.out c.tell_counts.new.out c.tell_counts-2.new.out
@@ -89,7 +89,7 @@ pub returns-clause-done : goal.returns-clause-done
 returns-clause-done g c =
     let d = c.args.doc.now in
     on_ok_weaker c.tell_counts-2.result (λ last. over d c.pass.new.ru c.pass.new.intake c.requires.document c.in_ok-pass.ensures.over)
-    (c.tell_counts-2.ensures.heard (compensation_of d Du) (all_doings d Du) c.in_ok-pass.ensures.measured.du.has)
+    (c.tell_counts-2.ensures.heard (compensation_of d Du) (all_doings d Du) c.in_ok-pass.ensures.measured.du)
 
 pub returns-clause-stop : goal.returns-clause-stop
 returns-clause-stop g c failed =
@@ -97,9 +97,9 @@ returns-clause-stop g c failed =
     let at = c.in_ok-pass.ensures.over in
     let done = over d c.pass.new.ru c.pass.new.intake c.requires.document at in
     let radio = c.counters.result.now in
-    let ru = c.in_ok-pass.ensures.measured.ru.has in
+    let ru = c.in_ok-pass.ensures.measured.ru in
     let taken = c.counters-2.result.now in
-    let du = c.in_ok-pass.ensures.measured.du.has in
+    let du = c.in_ok-pass.ensures.measured.du in
     stops_intake_count g.A.Air.grew g.met.A.Air.grew_more d (g.A.Air.stopped Failed) c.pass.new.ru c.pass.new.intake radio taken
     c.args.out.now c.pass.new.out c.tell_counts.new.out c.tell_counts-2.new.out at
     (radio_counts d c.pass.new.ru radio done.radio (c.counters.ensures d.config done.radio.history done.radio.stands))
@@ -112,9 +112,9 @@ returns-clause-wants g c wants =
     let at = c.in_ok-pass.ensures.over in
     let done = over d c.pass.new.ru c.pass.new.intake c.requires.document at in
     let radio = c.counters.result.now in
-    let ru = c.in_ok-pass.ensures.measured.ru.has in
+    let ru = c.in_ok-pass.ensures.measured.ru in
     let taken = c.counters-2.result.now in
-    let du = c.in_ok-pass.ensures.measured.du.has in
+    let du = c.in_ok-pass.ensures.measured.du in
     inl (stops_intake_count g.A.Air.grew g.met.A.Air.grew_more d (g.A.Air.stopped NoMemory) c.pass.new.ru c.pass.new.intake radio taken
     c.args.out.now c.pass.new.out c.tell_counts.new.out c.tell_counts-2.new.out at
     (radio_counts d c.pass.new.ru radio done.radio (c.counters.ensures d.config done.radio.history done.radio.stands))
