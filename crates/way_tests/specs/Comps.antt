@@ -1,7 +1,7 @@
 -- Compensations of a unit, as the tests give them.
-use Rattle.std.specs.Prelude.{ℤ}
+use Rattle.std.specs.Prelude.{pos}
 use Rattle.delay_measure.specs.declared.edge.Compensation.{Compensation}
 
--- at its sending and at its receiving edge
-abbrev pub comps_of : ℤ → ℤ → Compensation
-comps_of sending receiving = record { sending = sending; receiving = receiving }
+-- none at either edge
+abbrev pub no_compensation : Compensation
+no_compensation = record { sending = pos 0; receiving = pos 0 }

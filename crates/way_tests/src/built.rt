@@ -1,8 +1,6 @@
-// What the tests build: frames of one byte, and the compensations of a unit.
+// What the tests build: frames of one byte.
 ghost use Rattle.std.specs.Prelude.{◌≡◌, [], ◌∷◌, IfOk};
-ghost use Rattle.delay_measure.specs.Kept.{answer_at};
 
-use delay_measure::Edge;
 use fh_base::{Bytes, NoMemory};
 use std::alloc::Global;
 
@@ -20,15 +18,5 @@ pub(crate) fn mark_of(frame: &[u8]) -> u8 {
     match frame {
         [mark] => *mark,
         _ => 255,
-    }
-}
-
-/// The compensation of an edge, in units of 2^-16 ns, where these are those of both edges.
-pub(crate) fn answer(sending: i64, receiving: i64, edge: Edge) -> i64
-    ensures { result ≡ answer_at sending receiving edge }
-{
-    match edge {
-        Edge::Sending => sending,
-        Edge::Receiving => receiving,
     }
 }

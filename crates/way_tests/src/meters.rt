@@ -1,11 +1,7 @@
 // A Request and its Response, by hand: 100 ns of compensation at the distributed unit's sending edge, 40 ns at the radio unit's receiving
 // edge, 50,000 ns each way.
-ghost use Rattle.std.specs.Prelude.{◌≡◌, pos};
-ghost use Rattle.delay_measure.specs.Kept.{answer_at};
-
-use crate::built::answer;
 use delay_exchange::{DelayResult, UnitMeter};
-use delay_measure::{Edge, Kind};
+use delay_measure::{Compensation, Kind};
 use fault_counters::Counter;
 use fh_base::NoMemory;
 use fh_time::Ticks;
@@ -24,15 +20,17 @@ const RESPONSE: [u8; 24] = [
 fn a_request_and_its_response(rt: HostRuntime) -> Result<(), NoMemory> {
     let mut du = UnitMeter::make(
         rt.alloc(),
-        |edge: Edge| -> i64
-            ensures { result ≡ answer_at (pos 6553600) (pos 0) edge }
-        { answer(6_553_600, 0, edge) },
+        Compensation {
+            sending: 6_553_600,
+            receiving: 0,
+        },
     );
     let mut ru = UnitMeter::make(
         rt.alloc(),
-        |edge: Edge| -> i64
-            ensures { result ≡ answer_at (pos 0) (pos 2621440) edge }
-        { answer(0, 2_621_440, edge) },
+        Compensation {
+            sending: 0,
+            receiving: 2_621_440,
+        },
     );
     du.begin(Ticks(1_536_000_000), 7, Kind::One)?;
     assert_eq!(rt; du.take_made(), Some(REQUEST));

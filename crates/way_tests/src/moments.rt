@@ -1,16 +1,14 @@
 // Measurements of a small document, worked out by hand.
-ghost use Rattle.std.specs.Prelude.{◌≡◌, IfOk, map};
+ghost use Rattle.std.specs.Prelude.{IfOk, map};
 ghost use Rattle.delay_model.specs.Doings.{nothing};
-ghost use Rattle.delay_measure.specs.Kept.{IsCompensation, answer_at};
 ghost use Rattle.fh_document.specs.Proper.{IsDocument};
-ghost use Rattle.unit_meters.specs.Begins.{AnswersAs, MetersStand, begin_of};
+ghost use Rattle.unit_meters.specs.Begins.{MetersStand, begin_of};
 ghost use Rattle.unit_model.specs.Radiated.{first_clock};
-ghost use Rattle.way_tests.specs.Comps.{comps_of};
+ghost use Rattle.way_tests.specs.Comps.{no_compensation};
 
-use crate::built::answer;
 use crate::ways::way_to;
 use air_source::Side;
-use delay_measure::{Edge, Kind};
+use delay_measure::{Compensation, Kind};
 use fh_base::NoMemory;
 use fh_document::{Document, read};
 use fh_time::{FIRST_CLOCK, of_ns};
@@ -24,39 +22,23 @@ use unit_moments::send_made;
 const TEXT: &[u8] =
     b"fronthaul 1\ntransit m 30\nmeasure ru 9 one 2000000\nmeasure du 7 one 1000000\n";
 
-/// Meters for which the measurements of a document wait.
-fn meters_of<C: Fn(Edge) -> i64, D: Fn(Edge) -> i64>(
-    alloc: Global,
-    doc: &Document,
-    ru: C,
-    du: D,
-) -> Result<Meters<'_, C, D>, NoMemory>
-    requires document { IsDocument doc.now }
-    requires ru { IsCompensation C.pre C.post ru }
-    requires du { IsCompensation D.pre D.post du }
-    requires ru_is { AnswersAs C.post ru (comps_of doc.now.comps.ru_sending doc.now.comps.ru_receiving) }
-    requires du_is { AnswersAs D.post du (comps_of doc.now.comps.du_sending doc.now.comps.du_receiving) }
-    ensures { IfOk result (λ m. MetersStand C.pre C.post D.pre D.post (map begin_of doc.now.measures) first_clock
-        (comps_of doc.now.comps.ru_sending doc.now.comps.ru_receiving) (comps_of doc.now.comps.du_sending doc.now.comps.du_receiving) nothing nothing m) }
+/// Meters for which the measurements of a document wait, at units without compensation.
+fn meters_of(alloc: Global, doc: &Document) -> Result<Meters<'_>, NoMemory>
+    requires { IsDocument doc.now }
+    ensures { IfOk result (λ m. MetersStand (map begin_of doc.now.measures) first_clock no_compensation no_compensation nothing nothing m) }
 {
-    Meters::make(alloc, &doc.measures, ru, du)
+    let none = Compensation {
+        sending: 0,
+        receiving: 0,
+    };
+    Meters::make(alloc, &doc.measures, none, none)
 }
 
 #[test]
 fn a_request_leaves(rt: HostRuntime) -> Result<(), Fail> {
     let alloc = rt.alloc();
     let doc = read(alloc, TEXT).expect(&rt, "read");
-    let comps = doc.comps;
-    let mut meters = meters_of(
-        alloc,
-        &doc,
-        |edge: Edge| -> i64
-            ensures { result ≡ answer_at comps.ru_sending comps.ru_receiving edge }
-        { answer(comps.ru_sending, comps.ru_receiving, edge) },
-        |edge: Edge| -> i64
-            ensures { result ≡ answer_at comps.du_sending comps.du_receiving edge }
-        { answer(comps.du_sending, comps.du_receiving, edge) },
-    )?;
+    let mut meters = meters_of(alloc, &doc)?;
     let mut pool = FramePool::new(alloc);
     let mut down = way_to(alloc, &doc, Side::Ru)?;
     let tick = of_ns(1_000_000);
