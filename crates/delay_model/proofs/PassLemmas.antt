@@ -4,9 +4,8 @@ use Rattle.std.specs.List.{list_any}
 use Rattle.std.proofs.lemmas.Bool.{or_parts}
 use Rattle.delay_measure.specs.declared.edge.Compensation.{Compensation}
 use Rattle.ecpri_frames.specs.Gathering.{whole_messages}
-use Rattle.ecpri_frames.specs.Messages.{Message}
+use Rattle.ecpri_frames.specs.Messages.{Message, is_delay}
 use Rattle.delay_model.specs.Doings.{Doings, forgotten, with_frame, with_message, with_messages}
-use Rattle.delay_model.specs.Frames.{is_delay}
 
 others_pass : (c : Compensation) (t : ℤ) (d : Doings) (ms : List Message) → list_any is_delay ms ≡ false → with_messages c t d ms ≡ d
 others_pass c t d [] none = refl

@@ -1,6 +1,7 @@
 -- What the bytes of one eCPRI PDU say, by a recursion on all of them (eCPRI 2.0, section 3.1).
-use Rattle.std.specs.Prelude.{ℕ, zero, suc, ◌+◌, ◌-◌, ◌%◌, ◌==◌, if◌then◌else◌, List, [], ◌∷◌, length, take, nat_lt, Option, Some, None}
+use Rattle.std.specs.Prelude.{ℕ, zero, suc, ◌+◌, ◌-◌, ◌%◌, ◌==◌, if◌then◌else◌, List, [], ◌∷◌, length, take, nat_lt, Bool, Option, Some, None}
 use Rattle.ecpri_frames.specs.declared.heads.Head.{Head}
+use Rattle.ecpri_frames.specs.declared.heads.TheConstants.{ONE_WAY_DELAY}
 use Rattle.ecpri_frames.specs.declared.refusals.PduRefusal.{PduRefusal}
 use Rattle.ecpri_frames.specs.declared.refusals.PduWhy.{PduWhy}
 use Rattle.ecpri_frames.specs.declared.refusals.PduWhy.TheVariants.{Revision, Truncated, NoPadding}
@@ -11,6 +12,10 @@ pub record Message : Type 0 where
   pub place : ℕ
   pub head : Head
   pub payload : List ℕ
+
+-- a message of one-way delay measurement (eCPRI 2.0, section 3.2.4.6)
+abbrev pub is_delay : Message → Bool
+is_delay m = m.head.kind == ONE_WAY_DELAY
 
 -- the messages up to the first fault, and that fault; a fault in a payload leaves its message with the bytes that are there
 pub record Reading : Type 0 where

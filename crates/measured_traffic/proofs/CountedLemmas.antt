@@ -14,7 +14,7 @@ use Rattle.delay_measure.specs.declared.message.DelayMessage.{DelayMessage}
 use Rattle.fh_document.specs.declared.document.Document.{Document}
 use Rattle.document_traffic.specs.Laws.{IsReplayable}
 use Rattle.ecpri_frames.specs.Gathering.{whole_messages}
-use Rattle.ecpri_frames.specs.Messages.{Message}
+use Rattle.ecpri_frames.specs.Messages.{Message, is_delay}
 use Rattle.fault_counters.specs.Counts.{capped, once, times}
 use Rattle.fault_counters.specs.declared.kinds.Counter.{Counter}
 use Rattle.fault_counters.specs.declared.kinds.Counter.TheVariants.{DelayShort}
@@ -30,7 +30,7 @@ use Rattle.measured_traffic.proofs.SideLemmas.{all_told, begins_told, cleared, f
 use Rattle.measured_traffic.proofs.TurnLemmas.{after_is, comes_as_told, comes_in, doings_next, doings_zero, heard_next, nothing_heard, own, side_in}
 use Rattle.measured_traffic.specs.Doings.{Doings, counted_then, forgotten, told_in, with_begins, with_frame, with_frames, with_message, with_messages}
 use Rattle.measured_traffic.specs.Exchanged.{counted_of, delays_counted, is_short, short_counted, shorts_of}
-use Rattle.measured_traffic.specs.Measured.{delay_messages, delays_of, exchanges, is_delay}
+use Rattle.measured_traffic.specs.Measured.{delay_messages, delays_of, exchanges}
 use Rattle.measured_traffic.specs.Replayed.{doings_in, landings_for, traffic_of}
 use Rattle.measured_traffic.specs.Sides.{IsSideOf, heard_at}
 

@@ -16,7 +16,7 @@ use Rattle.document_delays.specs.Settings.{begin_of, compensation_of, setting_of
 use Rattle.document_traffic.proofs.WidthLemmas.{widths_are}
 use Rattle.document_traffic.specs.Landing.{injected_to}
 use Rattle.ecpri_frames.specs.Gathering.{whole_messages}
-use Rattle.ecpri_frames.specs.Messages.{Message}
+use Rattle.ecpri_frames.specs.Messages.{Message, is_delay}
 use Rattle.fh_document.specs.Proper.{AreComps}
 use Rattle.fh_document.specs.declared.document.Document.{Document}
 use Rattle.replay_laws.specs.Moments.{landing_at}
@@ -29,7 +29,7 @@ use Rattle.measured_traffic.proofs.MadeLemmas.{IsIdHeard, IsIdSent, ids_kept, se
 use Rattle.measured_traffic.proofs.PlainLemmas.{delayed_plain}
 use Rattle.measured_traffic.proofs.StampLemmas.{AreStamps, receiving_fits, sending_fits}
 use Rattle.measured_traffic.specs.Laws.{DocumentsAreDistinct}
-use Rattle.measured_traffic.specs.Measured.{delay_messages, delays_of, is_delay, others_of, read_as}
+use Rattle.measured_traffic.specs.Measured.{delay_messages, delays_of, others_of, read_as}
 
 -- ---- ids that are read
 

@@ -8,7 +8,7 @@ use Rattle.air_source.specs.declared.events.Side.{Side}
 use Rattle.air_source.specs.declared.events.Side.TheVariants.{Ru, Du}
 use Rattle.ecpri_fragments.specs.Generations.{Fragment}
 use Rattle.ecpri_frames.specs.Gathering.{whole_messages}
-use Rattle.ecpri_frames.specs.Messages.{Message}
+use Rattle.ecpri_frames.specs.Messages.{Message, is_delay}
 use Rattle.replay_laws.specs.Moments.{all_arrivals, arrivals_in, landing_at}
 use Rattle.replay_laws.specs.Traffic.{reported_at}
 use Rattle.unit_model.proofs.OntoLemmas.{onto_none}
@@ -26,7 +26,7 @@ use Rattle.window_config.specs.declared.config.Config.{Config}
 use Rattle.window_config.specs.declared.endpoints.EndpointConfig.{EndpointConfig}
 use Rattle.measured_traffic.proofs.ListLemmas.{filter_onto, filter_swap}
 use Rattle.measured_traffic.specs.Laws.{LeaveTheSame, OnlyDelaysRest}
-use Rattle.measured_traffic.specs.Measured.{has_only_delays, is_delay}
+use Rattle.measured_traffic.specs.Measured.{has_only_delays}
 
 -- ---- messages that are counted and no more
 

@@ -14,14 +14,14 @@ use Rattle.delay_measure.specs.After.{id_of}
 use Rattle.fh_document.specs.declared.document.Document.{Document}
 use Rattle.document_traffic.specs.Laws.{IsReplayable}
 use Rattle.ecpri_frames.specs.Gathering.{whole_messages}
-use Rattle.ecpri_frames.specs.Messages.{Message}
+use Rattle.ecpri_frames.specs.Messages.{Message, is_delay}
 use Rattle.fault_counters.specs.Counts.{capped, times}
 use Rattle.fault_counters.specs.declared.kinds.Counter.{Counter}
 use Rattle.fault_counters.specs.declared.kinds.Counter.TheVariants.{DelayShort}
 use Rattle.replay_laws.specs.Events.{events, is_measured, number_of}
 use Rattle.replay_laws.specs.Moments.{all_arrivals}
 use Rattle.measured_traffic.specs.Doings.{counted_then}
-use Rattle.measured_traffic.specs.Measured.{exchanges, is_delay, others_of}
+use Rattle.measured_traffic.specs.Measured.{exchanges, others_of}
 use Rattle.measured_traffic.specs.Replayed.{landings_for, traffic_of}
 
 -- ---- delays

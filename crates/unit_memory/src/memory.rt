@@ -4,7 +4,7 @@ ghost use Rattle.std.specs.List.{list_any};
 ghost use Rattle.air_source.specs.declared.events.Side.{Side as SpecSide};
 ghost use Rattle.ecpri_frames.specs.Gathering.{whole_messages};
 ghost use Rattle.ecpri_frames.specs.Left.{frame_of, left_of};
-ghost use Rattle.ecpri_frames.specs.Messages.{pdu};
+ghost use Rattle.ecpri_frames.specs.Messages.{is_delay, pdu};
 ghost use Rattle.fault_counters.specs.declared.kinds.Counter.{Counter};
 ghost use Rattle.unit_cells.specs.Cells.{IsOf, cells_reported};
 ghost use Rattle.unit_cells.specs.Keeping.{SameReported};
@@ -66,7 +66,7 @@ pub struct UnitMemory {
 }
 
 impl UnitMemory {
-    ghost use Rattle.unit_memory.specs.Control.{has_control, has_delay, is_control, is_delay};
+    ghost use Rattle.unit_memory.specs.Control.{has_control, has_delay, is_control};
     ghost use Rattle.unit_memory.specs.Judgements.{judged_in, judgements};
     ghost use Rattle.unit_memory.specs.Memory.{Holds, HoldsSome, arrival_at};
     ghost use Rattle.unit_memory.specs.Parts.{LeavesReported, MemoryStands, MemoryStandsForSome};

@@ -1,6 +1,6 @@
 use Rattle.std.proofs.Common.{◌≡◌, List, [], ◌∷◌, length, refl, sym, ap, ◌∙◌, subst}
 use Rattle.ecpri_frames.specs.Left.{left_of, message_of}
-use Rattle.ecpri_frames.specs.Messages.{Message}
+use Rattle.ecpri_frames.specs.Messages.{Message, is_delay}
 use Rattle.unit_model.specs.Lists.{onto}
 use Rattle.unit_model.specs.Meetings.{Meeting, meet, met_in}
 use Rattle.unit_model.proofs.OntoLemmas.{onto_none, onto_one}
@@ -8,7 +8,7 @@ use Rattle.unit_memory.specs.Parts.{MemoryStands}
 use Rattle.unit_memory.proofs.HoldLemmas.{CountSoFar, any_one, count_none, count_one}
 use Rattle.unit_memory.proofs.StepLemmas.{reports_more, reports_none}
 use Rattle.unit_memory.proofs.ToldLemmas.{messages_all, messages_none, messages_one}
-use Rattle.unit_memory.specs.Control.{is_control, is_delay}
+use Rattle.unit_memory.specs.Control.{is_control}
 use Rattle.unit_memory.proofs.memory.UnitMemory.take_messages.Goals as goal
 
 pub loop-message-init : goal.loop-message-init

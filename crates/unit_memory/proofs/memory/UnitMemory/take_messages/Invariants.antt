@@ -1,12 +1,13 @@
 use Rattle.std.proofs.Common.{◌≡◌, ◌||◌, List, length}
 use Rattle.std.specs.List.{list_any}
+use Rattle.ecpri_frames.specs.Messages.{is_delay}
 use Rattle.air_source.specs.declared.events.Side.{Side}
 use Rattle.ecpri_frames.specs.Left.{frame_of, left_of}
 use Rattle.fault_counters.specs.declared.kinds.Counter.{Counter}
 use Rattle.window_config.specs.declared.config.Config.{Config}
 use Rattle.unit_model.specs.Lists.{onto}
 use Rattle.unit_model.specs.Meetings.{Arrival, Meeting, met_in}
-use Rattle.unit_memory.specs.Control.{is_control, is_delay}
+use Rattle.unit_memory.specs.Control.{is_control}
 use Rattle.unit_memory.specs.Parts.{LeavesReported, MemoryStands}
 use Rattle.unit_memory.proofs.HoldLemmas.{CountSoFar}
 use Rattle.unit_memory.proofs.ToldLemmas.{MetHeard}
