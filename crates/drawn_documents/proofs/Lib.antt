@@ -1,2 +1,2 @@
 mod Plans
-mod Documents
+pub mod Documents
