@@ -1,18 +1,16 @@
 -- Listed spans hold no radiated element.
-use Rattle.std.proofs.Common.{◌≡◌, ℕ, ◌+◌, ◌-◌, ◌<◌, ◌≤◌, Bool, true, false, not, ◌&&◌, is_some, if◌then◌else◌, List, [], ◌∷◌, Option, Some, None, refl, sym, ap, subst, ◌∙◌, inl, inr, true≢false, arith}
+use Rattle.std.proofs.Common.{◌≡◌, ℕ, ◌+◌, ◌-◌, ◌<◌, Bool, true, false, not, ◌&&◌, is_some, if◌then◌else◌, List, [], ◌∷◌, Option, Some, None, refl, sym, ap, subst, ◌∙◌, inl, inr, true≢false, arith}
 use Rattle.std.specs.Prelude.{nat_le}
-use Rattle.std.specs.List.{list_any}
 use Rattle.std.proofs.lemmas.Bool.{and_from, and_parts}
 use Rattle.window_config.specs.declared.endpoints.EndpointConfig.{EndpointConfig}
 use Rattle.air_source.specs.declared.events.AirCell.{AirCell}
 use Rattle.fragment_laws.specs.Apart.{IsIn}
-use Rattle.unit_model.specs.Lists.{each}
 use Rattle.plan_model.proofs.ListLemmas.{among, any_in}
 use Rattle.schedule_laws.proofs.ListLemmas.{in_each, of_each}
-use Rattle.idle_spans.specs.Runs.{IsListed, IsLongRun}
+use Rattle.idle_spans.specs.Runs.{IsLongRun}
 use Rattle.idle_spans.specs.Silence.{is_of_symbol, is_shown, is_silent}
 use Rattle.idle_spans.specs.Symbols.{symbol_at, symbol_count}
-use Rattle.idle_slots.specs.Listed.{Run, begins, listed_runs, passing_from, run_at}
+use Rattle.idle_slots.specs.Listed.{Run, begins, passing_from, run_at}
 use Rattle.idle_slots.proofs.RunLemmas.{listed_is, run_is}
 use Rattle.idle_laws.specs.Spans.{AreSpans, Radiates, SpanStands, SpansStand}
 

@@ -1,7 +1,7 @@
 -- A plan stays valid with the proposed lines after it.
-use Rattle.std.proofs.Common.{◌≡◌, ◌≢◌, ℕ, zero, suc, ◌+◌, ◌<◌, Bool, true, false, not, ◌&&◌, ◌==◌, if◌then◌else◌, List, [], ◌∷◌, ◌++◌, length, Option, Some, None, refl, sym, ap, subst, ◌∙◌, inl, inr, true≢false, arith}
+use Rattle.std.proofs.Common.{◌≡◌, ℕ, zero, suc, ◌+◌, Bool, true, false, not, ◌&&◌, ◌==◌, if◌then◌else◌, List, [], ◌∷◌, ◌++◌, length, Option, Some, None, refl, sym, ap, ◌∙◌, inl, inr, true≢false, arith}
 use Rattle.std.specs.Prelude.{◌⊎◌, slice_index}
-use Rattle.std.specs.List.{flat_map, list_any, slice_get}
+use Rattle.std.specs.List.{slice_get}
 use Rattle.std.specs.Option.{option_to_list}
 use Rattle.std.proofs.lemmas.Bool.{and_from, and_parts, eq-eqb, eqb-true}
 use Rattle.fh_time.specs.declared.values.Slot.{Slot}
@@ -21,7 +21,7 @@ use Rattle.unit_laws.proofs.HistoryLemmas.{found_at}
 use Rattle.plan_model.specs.Lines.{is_down_kind, line_allocation, planned, planned_at, planned_from, planned_with}
 use Rattle.plan_model.specs.Validity.{is_out_of_range, with_line}
 use Rattle.plan_model.specs.declared.lines.PlannedLine.{PlannedLine}
-use Rattle.plan_model.proofs.ListLemmas.{any_in, get_in, in_either}
+use Rattle.plan_model.proofs.ListLemmas.{any_in, get_in}
 use Rattle.schedule_laws.proofs.FoundLemmas.{found}
 use Rattle.schedule_laws.proofs.OrderLemmas.{below_get, get_map}
 use Rattle.idle_plans.specs.Enlarged.{AreFree, with_lines}
@@ -29,7 +29,6 @@ use Rattle.idle_plans.specs.Radiated.{AreIdle}
 use Rattle.idle_plans.proofs.Enlarging.{are_valid, planned_append}
 use Rattle.idle_slots.specs.Free.{is_of_slot, is_touched, slot_at, slot_count}
 use Rattle.idle_slots.specs.Listed.{listed_runs}
-use Rattle.idle_lines.specs.Lines.{idle_line}
 use Rattle.idle_text.specs.Proposed.{proposed, proposed_at}
 use Rattle.idle_laws.specs.Proposals.{ProposedAreValid}
 use Rattle.idle_laws.proofs.ProposedLemmas.{AreApart, IsProposed, apart_append, line_inside, proposed_is, slots_apart}
