@@ -39,6 +39,19 @@ replay_cause before now (Err air.Failed) (Err replay.NoMemory) passed cause = ab
 replay_cause before now (Err air.NoMemory) (Err replay.AirFailed) passed cause = absurd (cc passed)
 replay_cause before now (Err air.NoMemory) (Err replay.NoMemory) passed cause = cause
 
+-- the air stopped so, where the replay did under its name of the fault
+pub air_stopped : {T U : Type 0} (fault : AirFault) (one : Result T AirFault) (two : Result U ReplayFault) → MatchResult one (λ _. IsOk two) (λ f. IsErrAnd two (λ e. e ≡ replay_fault f))
+    → two ≡ Err (replay_fault fault) → one ≡ Err fault
+air_stopped fault (Ok x) (Ok y) passed stopped = absurd (cc stopped)
+air_stopped fault (Ok x) (Err e) passed stopped = absurd (true≢false (sym passed))
+air_stopped fault (Err f) (Ok y) passed stopped = absurd passed
+air_stopped air.Failed (Err air.Failed) (Err e) passed stopped = refl
+air_stopped air.NoMemory (Err air.NoMemory) (Err e) passed stopped = refl
+air_stopped air.Failed (Err air.NoMemory) (Err replay.AirFailed) passed stopped = absurd (cc passed)
+air_stopped air.Failed (Err air.NoMemory) (Err replay.NoMemory) passed stopped = absurd (cc stopped)
+air_stopped air.NoMemory (Err air.Failed) (Err replay.AirFailed) passed stopped = absurd (cc stopped)
+air_stopped air.NoMemory (Err air.Failed) (Err replay.NoMemory) passed stopped = absurd (cc passed)
+
 -- what holds where it comes to its end holds where its answer is passed on
 pub ok_passed : {T U D E : Type 0} (one : Result T D) (two : Result U E) (P : Type 0) → is_ok two ≡ is_ok one → OnOk one P → OnOk two P
 ok_passed one (Err e) P same holds = tt
