@@ -11,7 +11,7 @@ use Rattle.fragment_laws.specs.Flow.{Flow}
 use Rattle.plan_model.specs.Lines.{line_allocation, is_up_line}
 use Rattle.plan_model.specs.declared.lines.PlannedLine.{PlannedLine}
 use Rattle.replay_laws.specs.Events.{events}
-use Rattle.replay_laws.specs.Heard.{cells_heard}
+use Rattle.unit_model.specs.Heard.{cells_heard}
 use Rattle.replay_laws.specs.Moments.{all_arrivals, end_of_time}
 use Rattle.replay_laws.specs.Traffic.{Traffic, landings_at}
 use Rattle.schedule_laws.specs.Cells.{planned_air}

@@ -14,8 +14,8 @@ use Rattle.unit_model.specs.Meetings.{Arrival}
 use Rattle.unit_model.specs.Proper.{IsTime}
 use Rattle.unit_model.specs.Standing.{AreInTime}
 use Rattle.unit_memory.specs.Judgements.{judgements}
-use Rattle.replay_laws.specs.Heard.{arrivals_heard, is_of}
-use Rattle.replay_laws.proofs.HeardLemmas.{arrivals-append}
+use Rattle.unit_model.specs.Heard.{arrivals_heard, is_of}
+use Rattle.unit_laws.proofs.HeardLemmas.{arrivals-append}
 use Rattle.sound_judgements.specs.Sound.{IsSoundJudgement}
 use Rattle.sound_judgements.proofs.SoundLemmas.{are_sound}
 use Rattle.judged_widths.proofs.WidthLemmas.{have_widths}

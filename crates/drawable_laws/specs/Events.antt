@@ -14,7 +14,7 @@ use Rattle.fh_time.specs.Numbering.{code_of, offsets_of, slots_of, symbols_of}
 use Rattle.fh_time.specs.Spacing.{is_normal_code}
 use Rattle.plan_model.specs.Lines.{planned}
 use Rattle.plan_model.specs.declared.lines.PlannedLine.{PlannedLine}
-use Rattle.replay_laws.specs.Heard.{arrivals_heard}
+use Rattle.unit_model.specs.Heard.{arrivals_heard}
 use Rattle.unit_model.specs.Meetings.{find_endpoint}
 use Rattle.unit_model.specs.Proper.{IsSlot, IsTime}
 use Rattle.unit_model.specs.Standing.{AreInTime}

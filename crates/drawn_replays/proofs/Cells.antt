@@ -39,10 +39,11 @@ use Rattle.unit_model.specs.declared.verdicts.CommandVerdict.{CommandVerdict}
 use Rattle.unit_model.specs.declared.verdicts.CommandVerdict.TheVariants.{Accepted}
 use Rattle.schedule_laws.proofs.FoundLemmas.{found}
 use Rattle.schedule_laws.proofs.ListLemmas.{numerology_short}
-use Rattle.replay_laws.specs.Events.{arrivals_at, arrivals_told, cells_reported_at, count_event, count_events, events, events_at, number_of, result_event, start_of}
+use Rattle.replay_laws.specs.Events.{arrivals_at, cells_reported_at, count_event, count_events, events, events_at, number_of, start_of}
+use Rattle.unit_model.specs.Events.{arrivals_told, result_event}
 use Rattle.replay_laws.specs.Moments.{all_arrivals, landing_at}
 use Rattle.replay_laws.specs.Traffic.{Traffic, landings_at}
-use Rattle.replay_laws.specs.declared.results.DelayResult.{DelayResult}
+use Rattle.unit_model.specs.declared.results.DelayResult.{DelayResult}
 use Rattle.unit_laws.specs.Arriving.{known_at}
 use Rattle.judged_widths.proofs.WidthLemmas.{IsNarrow, commands_narrow}
 use Rattle.drawn_explanations.specs.Drawable.{IsNear}

@@ -12,7 +12,7 @@ use Rattle.explain_model.specs.Cells.{Entry, Lines, Of, closed_in, closed_lines,
 use Rattle.explain_model.specs.Pieces.{pieces}
 use Rattle.explain_model.specs.Stories.{Story, Came, Cell, Delay, arrival_count, arrival_with, stories, stories_in, story, told, told_after, told_of}
 use Rattle.fh_time.specs.declared.values.Ticks.{Ticks}
-use Rattle.replay_laws.specs.Heard.{arrivals_heard}
+use Rattle.unit_model.specs.Heard.{arrivals_heard}
 use Rattle.window_config.specs.declared.config.Config.{Config}
 
 -- ---- lines

@@ -19,7 +19,7 @@ use Rattle.unit_model.specs.declared.verdicts.CommandVerdict.TheVariants.{Accept
 use Rattle.unit_laws.proofs.ChangeLemmas.{accepted-cons, claim_stays}
 use Rattle.unit_memory.specs.Judgements.{Commanded, Judgement}
 use Rattle.plan_model.proofs.ListLemmas.{in_filter}
-use Rattle.replay_laws.specs.Heard.{arrivals_heard}
+use Rattle.unit_model.specs.Heard.{arrivals_heard}
 use Rattle.explain_model.specs.Stories.{Story, stories}
 use Rattle.reason_laws.specs.Decoded.{CommandedSection, commanded_in, commanded_sections, judged_of, of_unit}
 use Rattle.reason_laws.proofs.DecodedLemmas.{are_decoded}

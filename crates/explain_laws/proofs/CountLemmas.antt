@@ -43,8 +43,8 @@ use Rattle.unit_model.proofs.CountLemmas.{times-append}
 use Rattle.unit_memory.specs.Judgements.{Judgement, Met, Commanded, Fragmented, Unread, Turned, Given, judged_by, judged_commands, judged_data, judged_decoded, judged_in, judged_meeting, judged_now, judged_whole}
 use Rattle.judged_laws.specs.Counted.{ignored_counted, judged_counted, judgement_counted}
 use Rattle.judged_laws.proofs.CountedLemmas.{are_counted}
-use Rattle.replay_laws.specs.Heard.{arrivals_heard, cells_heard, is_of}
-use Rattle.replay_laws.proofs.HeardLemmas.{arrivals-append}
+use Rattle.unit_model.specs.Heard.{arrivals_heard, cells_heard, is_of}
+use Rattle.unit_laws.proofs.HeardLemmas.{arrivals-append}
 use Rattle.explain_lines.specs.declared.values.CellWord.{CellWord}
 use Rattle.explain_lines.specs.declared.values.CellWord.TheVariants.{Shown, Missing}
 use Rattle.explain_lines.specs.declared.values.ExplainLine.{ExplainLine}

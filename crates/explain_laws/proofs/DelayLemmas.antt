@@ -47,7 +47,7 @@ use Rattle.unit_model.proofs.CountLemmas.{times-append}
 use Rattle.unit_memory.specs.Judgements.{judgements}
 use Rattle.judged_laws.proofs.CountedLemmas.{are_counted}
 use Rattle.replay_laws.specs.Events.{events}
-use Rattle.replay_laws.specs.Heard.{arrivals_heard, cells_heard}
+use Rattle.unit_model.specs.Heard.{arrivals_heard, cells_heard}
 use Rattle.replay_laws.specs.Moments.{all_arrivals}
 use Rattle.explain_lines.specs.declared.values.CommandAnswer.{CommandAnswer}
 use Rattle.explain_lines.specs.declared.values.CommandAnswer.TheVariants as answer

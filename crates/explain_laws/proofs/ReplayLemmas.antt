@@ -20,11 +20,11 @@ use Rattle.unit_model.specs.Radiated.{first_clock}
 use Rattle.unit_model.specs.Reports.{arrivals_counted}
 use Rattle.unit_model.proofs.CountLemmas.{times-append}
 use Rattle.replay_laws.specs.Events.{all_counted, arrivals_at, cells_reported_at, count_event, count_events, events, events_at, events_between, is_measured, number_of}
-use Rattle.replay_laws.specs.Heard.{arrivals_heard}
+use Rattle.unit_model.specs.Heard.{arrivals_heard}
 use Rattle.replay_laws.specs.Moments.{all_arrivals, arrivals_in, end_of_time, landing_at}
 use Rattle.replay_laws.specs.Traffic.{Traffic, landings_at, reported_at}
 use Rattle.replay_laws.proofs.CameLemmas.{next_first, none_first}
-use Rattle.replay_laws.proofs.HeardLemmas.{arrivals-append, arrivals-cells, arrivals-none, arrivals-other, arrivals-own}
+use Rattle.unit_laws.proofs.HeardLemmas.{arrivals-append, arrivals-cells, arrivals-none, arrivals-other, arrivals-own}
 use Rattle.replay_laws.proofs.OnceLemmas.{cells_are_reported}
 use Rattle.explain_model.specs.Cells.{event_lines}
 use Rattle.explain_laws.specs.Counted.{CountersAreLines, LinesAreCounters, delay_count, word_count}

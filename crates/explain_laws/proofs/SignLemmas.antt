@@ -8,7 +8,7 @@ use Rattle.fh_time.specs.Carrier.{is_outside}
 use Rattle.fh_time.specs.Numbering.{shape_of}
 use Rattle.ecpri_fragments.specs.Sequence.{id_of}
 use Rattle.ecpri_frames.specs.declared.heads.TheConstants.{ONE_WAY_DELAY, REAL_TIME_CONTROL, IQ_DATA}
-use Rattle.replay_laws.specs.Heard.{arrivals_heard}
+use Rattle.unit_model.specs.Heard.{arrivals_heard}
 use Rattle.ecpri_fragments.specs.Pieces.{joined}
 use Rattle.ecpri_fragments.specs.Verdicts.{Message as Whole, whole_now}
 use Rattle.ecpri_frames.specs.Gathering.{whole_messages}

@@ -12,7 +12,7 @@ use Rattle.window_config.specs.declared.config.Config.{Config}
 use Rattle.unit_model.specs.Counts.{cells_counted, command_counter, data_counter, fragment_counter, refusal_counted}
 use Rattle.unit_model.specs.Reports.{arrivals_counted}
 use Rattle.replay_laws.specs.Events.{events, is_measured, number_of}
-use Rattle.replay_laws.specs.Heard.{arrivals_heard, cells_heard}
+use Rattle.unit_model.specs.Heard.{arrivals_heard, cells_heard}
 use Rattle.replay_laws.specs.Traffic.{Traffic}
 use Rattle.explain_lines.specs.declared.values.CellWord.{CellWord}
 use Rattle.explain_lines.specs.declared.values.CellWord.TheVariants.{Shown, Missing}

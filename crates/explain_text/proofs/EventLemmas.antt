@@ -7,11 +7,12 @@ use Rattle.air_source.specs.declared.events.Event.TheVariants as event
 use Rattle.air_source.specs.declared.events.Side.{Side}
 use Rattle.air_source.specs.declared.events.Side.TheVariants.{Ru, Du}
 use Rattle.replay_laws.specs.Traffic.{Traffic}
-use Rattle.replay_laws.specs.declared.results.DelayResult.{DelayResult}
+use Rattle.unit_model.specs.declared.results.DelayResult.{DelayResult}
 use Rattle.explain_growth.specs.Subjects.{are_counts, counts_last, has_count}
 use Rattle.fault_counters.specs.Names.{all_counters}
 use Rattle.fault_counters.specs.declared.kinds.Counter.{Counter}
-use Rattle.replay_laws.specs.Events.{arrival_told, arrivals_at, arrivals_told, cells_reported_at, count_event, count_events, events, events_at, number_of, result_event}
+use Rattle.replay_laws.specs.Events.{arrivals_at, cells_reported_at, count_event, count_events, events, events_at, number_of}
+use Rattle.unit_model.specs.Events.{arrival_told, arrivals_told, result_event}
 use Rattle.unit_model.specs.Lists.{each_tick}
 use Rattle.unit_model.specs.Meetings.{Arrival}
 use Rattle.window_config.specs.declared.config.Config.{Config}

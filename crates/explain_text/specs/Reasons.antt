@@ -26,7 +26,7 @@ use Rattle.reason_laws.specs.Decoded.{AreKept}
 use Rattle.reason_laws.specs.Giving.{cell_key, id_of_block, id_of_giver}
 use Rattle.reason_records.specs.declared.keys.SymbolKey.{SymbolKey}
 use Rattle.replay_laws.specs.Events.{all_counted}
-use Rattle.replay_laws.specs.Heard.{arrivals_heard}
+use Rattle.unit_model.specs.Heard.{arrivals_heard}
 use Rattle.explain_laws.specs.Silent.{SilentAreUnnamed}
 use Rattle.unit_model.specs.Blocks.{block_at}
 use Rattle.unit_model.specs.Claims.{first_prb, in_mask, is_from, prb_count}

@@ -36,8 +36,8 @@ use Rattle.explain_units.specs.Knowing.{known_of}
 use Rattle.explain_units.specs.Units.{IsElsewhere, IsUnitAfter, frame_lines, judged_next}
 use Rattle.explain_units.specs.declared.units.UnitLines.{UnitLines}
 use Rattle.fh_time.specs.declared.values.Ticks.{Ticks}
-use Rattle.replay_laws.proofs.HeardLemmas.{arrivals-append}
-use Rattle.replay_laws.specs.Heard.{arrivals_heard, is_of}
+use Rattle.unit_laws.proofs.HeardLemmas.{arrivals-append}
+use Rattle.unit_model.specs.Heard.{arrivals_heard, is_of}
 use Rattle.unit_memory.specs.Judgements.{Judgement}
 use Rattle.unit_model.specs.Lists.{onto}
 use Rattle.unit_model.specs.Meetings.{Arrival}

@@ -14,7 +14,7 @@ use Rattle.explain_units.specs.Ears.{HearsFor}
 use Rattle.explain_units.specs.Known.{IsKnown}
 use Rattle.explain_units.specs.Knowing.{known_of}
 use Rattle.explain_units.specs.declared.units.UnitLines.{UnitLines}
-use Rattle.replay_laws.specs.Heard.{arrivals_heard}
+use Rattle.unit_model.specs.Heard.{arrivals_heard}
 use Rattle.unit_memory.specs.Judgements.{Judgement, judgements}
 use Rattle.window_config.specs.declared.config.Config.{Config}
 

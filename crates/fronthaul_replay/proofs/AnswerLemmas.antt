@@ -20,7 +20,7 @@ use Rattle.frame_ways.specs.declared.way.Way.{Way}
 use Rattle.plan_model.specs.Packs.{Message}
 use Rattle.fronthaul_replay.proofs.BoxSteps.{arrivals_stay, cells_stay, intake_own, next_events}
 use Rattle.fronthaul_replay.specs.BoxTurns.{AtRadioTurn, IsRadioInStep, IsRadioLanded, events_before, intake_events, radio_events}
-use Rattle.replay_laws.specs.Heard.{arrivals_heard, cells_heard}
+use Rattle.unit_model.specs.Heard.{arrivals_heard, cells_heard}
 use Rattle.replay_laws.specs.Moments.{arrivals_before, end_of_time}
 use Rattle.ru_buffers.specs.Calls.{StandsFor}
 use Rattle.radio_laws.specs.Reporting.{due_of}

@@ -10,10 +10,10 @@ use Rattle.air_source.specs.declared.events.Side.TheVariants.{Ru as AtRu, Du as 
 use Rattle.fh_document.specs.declared.document.Document.{Document}
 use Rattle.measured_traffic.specs.Replayed.{traffic_of}
 use Rattle.replay_laws.proofs.EventLemmas.{events_go_on}
-use Rattle.replay_laws.proofs.HeardLemmas.{AreOf, arrivals-append, cells-append, tick_of_side}
-use Rattle.replay_laws.proofs.ToldLemmas.{told_all}
+use Rattle.unit_laws.proofs.HeardLemmas.{AreOf, arrivals-append, cells-append, tick_of_side}
+use Rattle.unit_model.proofs.ToldLemmas.{told_all}
 use Rattle.replay_laws.specs.Events.{arrivals_at, cells_reported_at, events_at, start_of}
-use Rattle.replay_laws.specs.Heard.{arrivals_heard, cells_heard, is_of}
+use Rattle.unit_model.specs.Heard.{arrivals_heard, cells_heard, is_of}
 use Rattle.replay_laws.specs.Moments.{all_arrivals, landing_at}
 use Rattle.replay_laws.specs.Traffic.{known_at, landings_at}
 use Rattle.ru_buffers.specs.declared.unit.Ru.{Ru}

@@ -10,9 +10,9 @@ use Rattle.document_traffic.specs.Laws.{IsReplayable}
 use Rattle.fh_document.specs.declared.document.Document.{Document}
 use Rattle.measured_traffic.specs.Doings.{Doings}
 use Rattle.measured_traffic.specs.Replayed.{landings_for, results_at}
-use Rattle.replay_laws.proofs.HeardLemmas.{AreOf, arrivals-append, arrivals-cells, cells-append, cells-arrivals, cells-own, due_of_side}
-use Rattle.replay_laws.specs.Events.{arrivals_told}
-use Rattle.replay_laws.specs.Heard.{arrivals_heard, cells_heard}
+use Rattle.unit_laws.proofs.HeardLemmas.{AreOf, arrivals-append, arrivals-cells, cells-append, cells-arrivals, cells-own, due_of_side}
+use Rattle.unit_model.specs.Events.{arrivals_told}
+use Rattle.unit_model.specs.Heard.{arrivals_heard, cells_heard}
 use Rattle.replay_laws.specs.Moments.{end_of_time, landing_at}
 use Rattle.ru_buffers.specs.Calls.{StandsFor, StopsAtDue, RadioMayTake}
 use Rattle.radio_laws.specs.Reporting.{due_of}

@@ -27,10 +27,10 @@ use Rattle.measured_traffic.proofs.OverLemmas.{documents_are_over}
 use Rattle.measured_traffic.proofs.SentLemmas.{messages_are_owed}
 use Rattle.fronthaul_replay.specs.BoxTurns.{AtRadioTurn, events_before}
 use Rattle.replay_laws.specs.Events.{all_counted, count_event, count_events, is_measured, number_of}
-use Rattle.replay_laws.specs.Heard.{arrivals_heard, cells_heard}
+use Rattle.unit_model.specs.Heard.{arrivals_heard, cells_heard}
 use Rattle.replay_laws.specs.Moments.{all_arrivals, end_of_time}
 use Rattle.replay_laws.specs.Traffic.{landings_at, reported_at}
-use Rattle.replay_laws.proofs.HeardLemmas.{arrivals-append, cells-append}
+use Rattle.unit_laws.proofs.HeardLemmas.{arrivals-append, cells-append}
 use Rattle.ru_buffers.specs.Calls.{IsQuietTo}
 use Rattle.ru_buffers.specs.declared.unit.Ru.{Ru}
 use Rattle.unit_model.specs.Counts.{StandAt, cells_counted}

@@ -13,11 +13,12 @@ use Rattle.window_config.specs.declared.config.Config.{Config}
 use Rattle.unit_model.specs.Lists.{each_tick}
 use Rattle.unit_model.specs.Meetings.{Arrival}
 use Rattle.unit_model.specs.Radiated.{first_clock}
-use Rattle.replay_laws.proofs.ToldLemmas.{Results, told_kept}
+use Rattle.unit_model.proofs.ToldLemmas.{Results, told_kept}
 use Rattle.replay_laws.specs.Traffic.{Traffic}
-use Rattle.replay_laws.specs.declared.results.DelayResult.{DelayResult}
+use Rattle.unit_model.specs.declared.results.DelayResult.{DelayResult}
 use Rattle.replay_laws.specs.Moments.{end_of_time, landing_at}
-use Rattle.replay_laws.specs.Events.{arrivals_at, arrivals_told, cells_reported_at, events_at, events_between, number_of, count_event, count_events, events, result_event}
+use Rattle.replay_laws.specs.Events.{arrivals_at, cells_reported_at, events_at, events_between, number_of, count_event, count_events, events}
+use Rattle.unit_model.specs.Events.{arrivals_told, result_event}
 use Rattle.fh_document.specs.declared.document.Document.{Document}
 use Rattle.measured_traffic.specs.Replayed.{traffic_of}
 use Rattle.fronthaul_replay.specs.Replaying.{events_of}

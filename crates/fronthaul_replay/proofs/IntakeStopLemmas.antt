@@ -17,9 +17,9 @@ use Rattle.unit_moments.proofs.StopLemmas.{halts_ahead, halts_moved, stops_ahead
 use Rattle.unit_moments.specs.Stops.{HaltsBehind, RestsBehind, StopsBehind}
 use Rattle.fronthaul_replay.specs.BoxTurns.{events_before, intake_events, radio_events}
 use Rattle.replay_laws.specs.Events.{arrivals_at, cells_reported_at}
-use Rattle.replay_laws.specs.Heard.{arrivals_heard, cells_heard}
+use Rattle.unit_model.specs.Heard.{arrivals_heard, cells_heard}
 use Rattle.replay_laws.specs.Moments.{end_of_time, landing_at}
-use Rattle.replay_laws.proofs.HeardLemmas.{AreOf, arrivals-append, cells-append, cells-arrivals, due_of_side}
+use Rattle.unit_laws.proofs.HeardLemmas.{AreOf, arrivals-append, cells-append, cells-arrivals, due_of_side}
 use Rattle.unit_model.specs.Lists.{onto}
 use Rattle.unit_model.specs.Meetings.{Arrival}
 use Rattle.unit_model.specs.Reports.{du_known}

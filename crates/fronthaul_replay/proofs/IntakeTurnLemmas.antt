@@ -14,14 +14,15 @@ use Rattle.measured_traffic.specs.Replayed.{begun, landings_for, results_at, tra
 use Rattle.measured_traffic.proofs.ReplayedLemmas.{landings_are_replayed}
 use Rattle.fronthaul_replay.specs.BoxTurns.{events_before, intake_events, radio_events}
 use Rattle.fronthaul_replay.proofs.BoxSteps.{AreEventsOf, arrivals_stay, cells_own, cells_stay, next_events, radio_own}
-use Rattle.replay_laws.specs.Events.{arrivals_told, cells_reported_at}
-use Rattle.replay_laws.specs.Heard.{arrivals_heard, cells_heard}
+use Rattle.replay_laws.specs.Events.{cells_reported_at}
+use Rattle.unit_model.specs.Events.{arrivals_told}
+use Rattle.unit_model.specs.Heard.{arrivals_heard, cells_heard}
 use Rattle.replay_laws.specs.Moments.{arrivals_before, end_of_time, landing_at}
 use Rattle.replay_laws.specs.Passing.{IsCalm, IsNextMoment, IsUnitMoment, due_from}
 use Rattle.replay_laws.proofs.CameLemmas.{arrivals_go_on, calm_adds_nothing, none_yet}
 use Rattle.replay_laws.proofs.EventLemmas.{events_wait}
-use Rattle.replay_laws.proofs.HeardLemmas.{AreOf, arrivals-append, arrivals-cells, arrivals-none, arrivals-own, cells-append, cells-arrivals, cells-none, cells-own}
-use Rattle.replay_laws.specs.declared.results.DelayResult.{DelayResult}
+use Rattle.unit_laws.proofs.HeardLemmas.{AreOf, arrivals-append, arrivals-cells, arrivals-none, arrivals-own, cells-append, cells-arrivals, cells-none, cells-own}
+use Rattle.unit_model.specs.declared.results.DelayResult.{DelayResult}
 use Rattle.replay_laws.proofs.MomentLemmas.{due_at_moment, reported_at_moment, reported_before_moment}
 use Rattle.unit_model.specs.Lists.{onto}
 use Rattle.unit_model.specs.Meetings.{Arrival}

@@ -12,7 +12,8 @@ use Rattle.measured_traffic.specs.Replayed.{landings_for, made_at, results_at, t
 use Rattle.document_delays.specs.Settings.{compensation_of}
 use Rattle.document_traffic.specs.Laws.{IsReplayable}
 use Rattle.fh_document.specs.declared.document.Document.{Document}
-use Rattle.replay_laws.specs.Events.{arrivals_at, arrivals_told}
+use Rattle.replay_laws.specs.Events.{arrivals_at}
+use Rattle.unit_model.specs.Events.{arrivals_told}
 use Rattle.replay_laws.specs.Traffic.{landings_at}
 use Rattle.unit_model.specs.Meetings.{Arrival}
 use Rattle.unit_model.specs.Standing.{History}

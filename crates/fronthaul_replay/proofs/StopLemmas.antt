@@ -15,7 +15,7 @@ use Rattle.unit_moments.proofs.StopLemmas as stop
 use Rattle.replay_laws.specs.Events.{count_events, events, events_at, events_between}
 use Rattle.replay_laws.specs.Moments.{end_of_time}
 use Rattle.replay_laws.proofs.EventLemmas.{events_go_on}
-use Rattle.replay_laws.proofs.HeardLemmas.{arrivals-none, cells-none}
+use Rattle.unit_laws.proofs.HeardLemmas.{arrivals-none, cells-none}
 use Rattle.replay_laws.proofs.TickLemmas.{ticks_append}
 use Rattle.ru_buffers.specs.Calls.{StandsFor}
 use Rattle.ru_buffers.specs.declared.unit.Ru.{Ru}

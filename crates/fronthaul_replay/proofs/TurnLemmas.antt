@@ -13,12 +13,13 @@ use Rattle.measured_traffic.proofs.ReplayedLemmas.{landings_are_replayed}
 use Rattle.measured_traffic.specs.Replayed.{landings_for, results_at, traffic_of}
 use Rattle.replay_laws.proofs.CameLemmas.{arrivals_go_on, calm_adds_nothing, none_yet}
 use Rattle.replay_laws.proofs.EventLemmas.{events_wait}
-use Rattle.replay_laws.proofs.HeardLemmas.{AreOf, tick_of_side, arrivals-append, arrivals-cells, arrivals-none, arrivals-own, cells-append, cells-arrivals, cells-none, cells-own}
+use Rattle.unit_laws.proofs.HeardLemmas.{AreOf, tick_of_side, arrivals-append, arrivals-cells, arrivals-none, arrivals-own, cells-append, cells-arrivals, cells-none, cells-own}
 use Rattle.replay_laws.proofs.MomentLemmas.{due_at_moment, reported_at_moment, reported_before_moment}
 use Rattle.replay_laws.proofs.TickLemmas.{no_ticks}
-use Rattle.replay_laws.proofs.ToldLemmas.{Results}
-use Rattle.replay_laws.specs.Events.{arrivals_at, arrivals_told, cells_reported_at, events_at, start_of}
-use Rattle.replay_laws.specs.Heard.{arrivals_heard, cells_heard}
+use Rattle.unit_model.proofs.ToldLemmas.{Results}
+use Rattle.replay_laws.specs.Events.{arrivals_at, cells_reported_at, events_at, start_of}
+use Rattle.unit_model.specs.Events.{arrivals_told}
+use Rattle.unit_model.specs.Heard.{arrivals_heard, cells_heard}
 use Rattle.replay_laws.specs.Moments.{all_arrivals, arrivals_before, end_of_time, landing_at}
 use Rattle.replay_laws.specs.Passing.{AreLandings, IsCalm, IsNextMoment, IsUnitMoment, due_from}
 use Rattle.replay_laws.specs.Traffic.{known_at, landings_at}

@@ -6,7 +6,7 @@ use Rattle.air_source.specs.declared.events.Side.TheVariants.{Ru as AtRu, Du as 
 use Rattle.measured_traffic.specs.Replayed.{landings_for, traffic_of}
 use Rattle.fh_document.specs.declared.document.Document.{Document}
 use Rattle.replay_laws.specs.Events.{arrivals_at, cells_reported_at, events_between}
-use Rattle.replay_laws.specs.Heard.{arrivals_heard, cells_heard}
+use Rattle.unit_model.specs.Heard.{arrivals_heard, cells_heard}
 use Rattle.replay_laws.specs.Moments.{arrivals_before, end_of_time}
 use Rattle.ru_buffers.specs.Calls.{IsQuietTo, StandsFor, radio_clock}
 use Rattle.ru_buffers.specs.declared.unit.Ru.{Ru}

@@ -7,7 +7,7 @@ use Rattle.du_intake.specs.Calls.{IntakeStandsFor, intake_clock}
 use Rattle.du_intake.specs.Units.{intake_due_of}
 use Rattle.du_intake.specs.declared.unit.Intake.{Intake}
 use Rattle.fh_document.specs.declared.document.Document.{Document}
-use Rattle.replay_laws.specs.Heard.{arrivals_heard, cells_heard}
+use Rattle.unit_model.specs.Heard.{arrivals_heard, cells_heard}
 use Rattle.replay_laws.specs.Moments.{arrivals_before, end_of_time}
 use Rattle.fronthaul_replay.specs.BoxTurns.{events_before, radio_events}
 use Rattle.unit_model.specs.Radiated.{first_clock}

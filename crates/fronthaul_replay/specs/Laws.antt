@@ -7,7 +7,7 @@ use Rattle.fh_document.specs.declared.document.Document.{Document}
 use Rattle.measured_traffic.specs.Delays.{DelayIs, InjectsNone, IsOfRequest, IsTimeOfWay}
 use Rattle.measured_traffic.specs.Exchanged.{TellsExchanges}
 use Rattle.measured_traffic.specs.Replayed.{traffic_of}
-use Rattle.replay_laws.specs.Events.{arrival_event, result_event}
+use Rattle.unit_model.specs.Events.{arrival_event, result_event}
 use Rattle.replay_laws.specs.Moments.{all_arrivals, end_of_time}
 use Rattle.replay_laws.specs.Traffic.{landings_at}
 use Rattle.replay_laws.specs.Delays.{FollowsFrame, IsLanding, IsResult, StandTogether, given_by}

@@ -25,7 +25,7 @@ use Rattle.fh_document.specs.declared.document.Document.{Document}
 use Rattle.replay_laws.proofs.EndLemmas.{lands_by_end}
 use Rattle.replay_laws.specs.Events.{events}
 use Rattle.replay_laws.specs.Moments.{end_of_time, landing_at}
-use Rattle.replay_laws.specs.declared.results.DelayResult.{DelayResult}
+use Rattle.unit_model.specs.declared.results.DelayResult.{DelayResult}
 use Rattle.replay_laws.proofs.DelayLemmas.{delays_are_results}
 use Rattle.replay_laws.specs.Delays.{IsAmong, IsResult}
 use Rattle.unit_model.proofs.SweepLaws.{gap_is, gap_parts}

@@ -21,11 +21,12 @@ use Rattle.document_traffic.specs.Laws.{IsReplayable}
 use Rattle.fault_counters.specs.Names.{all_counters}
 use Rattle.fault_counters.specs.declared.kinds.Counter.{Counter}
 use Rattle.replay_laws.proofs.CameLemmas.{landed_then}
-use Rattle.replay_laws.proofs.ToldLemmas.{none_told, told_next}
-use Rattle.replay_laws.specs.Events.{arrival_told, arrivals_at, arrivals_told, cells_reported_at, count_event, count_events, events, events_at, number_of, result_event}
+use Rattle.unit_model.proofs.ToldLemmas.{none_told, told_next}
+use Rattle.replay_laws.specs.Events.{arrivals_at, cells_reported_at, count_event, count_events, events, events_at, number_of}
+use Rattle.unit_model.specs.Events.{arrival_told, arrivals_told, result_event}
 use Rattle.replay_laws.specs.Moments.{landing_at}
 use Rattle.replay_laws.specs.Traffic.{Traffic}
-use Rattle.replay_laws.specs.declared.results.DelayResult.{DelayResult}
+use Rattle.unit_model.specs.declared.results.DelayResult.{DelayResult}
 use Rattle.unit_model.proofs.SweepLaws.{gap_is, ticks_split}
 use Rattle.unit_model.specs.Lists.{each_tick}
 use Rattle.unit_model.specs.Meetings.{Arrival}

@@ -16,7 +16,7 @@ use Rattle.delay_measure.specs.Payload.{message_of}
 use Rattle.delay_measure.specs.declared.message.DelayMessage.{DelayMessage}
 use Rattle.ecpri_frames.specs.Gathering.{whole_messages}
 use Rattle.ecpri_frames.specs.Messages.{Message, is_delay}
-use Rattle.replay_laws.specs.declared.results.DelayResult.{DelayResult}
+use Rattle.unit_model.specs.declared.results.DelayResult.{DelayResult}
 use Rattle.unit_model.specs.Meetings.{Arrival}
 use Rattle.measured_traffic.specs.Doings.{Doings, forgotten, results_known_by, told_in, with_begins, with_frame, with_frames, with_message, with_messages}
 use Rattle.measured_traffic.specs.Measured.{delay_frame, delay_messages, delays_of, read_as}

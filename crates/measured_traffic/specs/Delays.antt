@@ -8,7 +8,7 @@ use Rattle.document_delays.specs.Settings.{no_others, setting_of}
 use Rattle.document_traffic.specs.Laws.{IsReplayable}
 use Rattle.fh_document.specs.declared.document.Document.{Document}
 use Rattle.replay_laws.specs.Events.{events}
-use Rattle.replay_laws.specs.declared.results.DelayResult.{DelayResult}
+use Rattle.unit_model.specs.declared.results.DelayResult.{DelayResult}
 use Rattle.measured_traffic.specs.Measured.{delay_messages, exchanges}
 use Rattle.measured_traffic.specs.Replayed.{results_at, traffic_of}
 

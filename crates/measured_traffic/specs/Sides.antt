@@ -8,7 +8,7 @@ use Rattle.delay_laws.specs.Ticks.{Hearing, Setting, came_heard, told_all, told_
 use Rattle.delay_measure.specs.After.{Told}
 use Rattle.measured_traffic.specs.Measured.{delay_frame, delay_messages}
 use Rattle.measured_traffic.specs.Doings.{Doings, told_in, with_frame}
-use Rattle.replay_laws.specs.declared.results.DelayResult.{DelayResult}
+use Rattle.unit_model.specs.declared.results.DelayResult.{DelayResult}
 use Rattle.air_source.specs.Units.{other}
 
 -- it was told what was told to this side, and the frames that were not taken are those of what this side sent at the tick

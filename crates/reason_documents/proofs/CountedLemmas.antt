@@ -15,7 +15,7 @@ use Rattle.unit_model.specs.Counts.{block_counter, cells_counted}
 use Rattle.unit_model.specs.Reports.{arrivals_counted}
 use Rattle.unit_model.proofs.CountLemmas.{times-append}
 use Rattle.replay_laws.specs.Events.{events}
-use Rattle.replay_laws.specs.Heard.{cells_heard, is_of}
+use Rattle.unit_model.specs.Heard.{cells_heard, is_of}
 use Rattle.replay_laws.specs.Moments.{all_arrivals, end_of_time}
 use Rattle.replay_laws.specs.Traffic.{landings_at, reported_at}
 use Rattle.replay_laws.specs.Sums.{cells_total}

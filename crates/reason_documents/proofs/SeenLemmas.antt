@@ -9,7 +9,7 @@ use Rattle.air_source.specs.declared.events.Event.TheVariants as event
 use Rattle.air_source.specs.declared.events.Side.{Side}
 use Rattle.air_source.specs.declared.events.Side.TheVariants.{Ru, Du}
 use Rattle.fragment_laws.specs.Apart.{IsIn}
-use Rattle.replay_laws.specs.Heard.{cells_heard, is_of}
+use Rattle.unit_model.specs.Heard.{cells_heard, is_of}
 use Rattle.explain_reasons.specs.Missing.{is_missing}
 use Rattle.explain_reasons.specs.Seen.{Seen, seen, seen_of}
 

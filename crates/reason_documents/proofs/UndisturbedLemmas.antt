@@ -31,7 +31,7 @@ use Rattle.schedule_laws.specs.Data.{Blocks}
 use Rattle.schedule_laws.specs.Singles.{event_of}
 use Rattle.uplink_laws.specs.Cells.{taken_air, taken_cell, taken_event, taken_symbol}
 use Rattle.replay_laws.specs.Events.{events}
-use Rattle.replay_laws.specs.Heard.{cells_heard}
+use Rattle.unit_model.specs.Heard.{cells_heard}
 use Rattle.replay_laws.specs.Traffic.{Traffic}
 use Rattle.document_traffic.specs.Sending.{lines_of}
 use Rattle.document_traffic.specs.Undisturbed.{IsTakenInOnce, RadiatesOnce, answers_for, blocks_for, told_for}

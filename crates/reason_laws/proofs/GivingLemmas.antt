@@ -30,7 +30,7 @@ use Rattle.unit_model.specs.declared.verdicts.DataVerdict.TheVariants as user
 use Rattle.unit_model.proofs.ClaimLemmas.{way_self}
 use Rattle.unit_memory.specs.Judgements.{heading_of}
 use Rattle.unit_memory.proofs.MessageLemmas.{way_is}
-use Rattle.replay_laws.specs.Heard.{arrivals_heard}
+use Rattle.unit_model.specs.Heard.{arrivals_heard}
 use Rattle.explain_model.specs.Margins.{data_class_of}
 use Rattle.explain_model.specs.Stories.{stories}
 use Rattle.explain_model.specs.Timings.{heading_slot}

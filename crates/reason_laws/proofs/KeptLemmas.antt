@@ -27,7 +27,7 @@ use Rattle.unit_model.specs.Reports.{hold_of, met}
 use Rattle.unit_memory.specs.Judgements.{Commanded, Fragmented, Given, Judgement, Met, Turned, Unread, judged_in, judged_meeting, judged_message, judgements}
 use Rattle.explain_model.specs.Stories.{Story, arrival_with, stories, stories_in, told_after}
 use Rattle.explain_reasons.proofs.SameLemmas.{same_side_is}
-use Rattle.replay_laws.specs.Heard.{arrivals_heard}
+use Rattle.unit_model.specs.Heard.{arrivals_heard}
 use Rattle.reason_records.specs.declared.data.DataRecord.{DataRecord}
 use Rattle.reason_records.specs.declared.headers.HeaderRecord.{HeaderRecord}
 use Rattle.reason_records.specs.declared.headers.HeaderWhy.{HeaderWhy}

@@ -9,7 +9,7 @@ use Rattle.air_source.specs.declared.events.Side.TheVariants.{Ru, Du}
 use Rattle.window_config.specs.declared.config.Config.{Config}
 use Rattle.unit_model.specs.Meetings.{Arrival}
 use Rattle.unit_memory.specs.Judgements.{Judgement, judgements}
-use Rattle.replay_laws.specs.Heard.{arrivals_heard}
+use Rattle.unit_model.specs.Heard.{arrivals_heard}
 use Rattle.explain_model.specs.Stories.{arrival_with, stories_in, told_after}
 use Rattle.reason_laws.specs.Decoded.{StoriesAreJudged, judged_of, of_unit}
 

@@ -24,7 +24,7 @@ use Rattle.unit_model.specs.declared.verdicts.CommandVerdict.{CommandVerdict}
 use Rattle.unit_model.specs.declared.verdicts.DataVerdict.{DataVerdict}
 use Rattle.unit_cells.specs.declared.heading.DataHeading.{DataHeading}
 use Rattle.unit_memory.specs.Judgements.{Commanded, Fragmented, Given, Judgement, Turned, Unread, heading_of, judgements}
-use Rattle.replay_laws.specs.Heard.{arrivals_heard}
+use Rattle.unit_model.specs.Heard.{arrivals_heard}
 use Rattle.explain_model.specs.Stories.{Story, stories}
 use Rattle.reason_records.specs.declared.data.DataRecord.{DataRecord}
 use Rattle.reason_records.specs.declared.headers.HeaderRecord.{HeaderRecord}

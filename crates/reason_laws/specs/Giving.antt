@@ -8,7 +8,7 @@ use Rattle.unit_model.specs.Blocks.{block_at}
 use Rattle.unit_model.specs.Reports.{timely_of}
 use Rattle.unit_model.specs.declared.cells.Block.{Block}
 use Rattle.unit_model.specs.declared.cells.Cell.{Cell}
-use Rattle.replay_laws.specs.Heard.{arrivals_heard}
+use Rattle.unit_model.specs.Heard.{arrivals_heard}
 use Rattle.reason_records.specs.declared.data.DataRecord.{DataRecord}
 use Rattle.reason_records.specs.declared.keys.SymbolKey.{SymbolKey}
 use Rattle.explain_reasons.specs.Reasons.{giver_of, kept}

@@ -30,13 +30,14 @@ use Rattle.unit_laws.proofs.AheadLemmas.{unclaimed_reports_nothing}
 use Rattle.unit_laws.proofs.DueLemmas.{unheard}
 use Rattle.unit_laws.proofs.SweepLemmas.{tick-nothing}
 use Rattle.replay_laws.specs.Alone.{IdleWithoutPlan}
-use Rattle.replay_laws.specs.Events.{all_counted, arrivals_told, count_event, count_events, is_measured, number_of, start_of}
+use Rattle.replay_laws.specs.Events.{all_counted, count_event, count_events, is_measured, number_of, start_of}
+use Rattle.unit_model.specs.Events.{arrivals_told}
 use Rattle.replay_laws.specs.Moments.{all_arrivals, arrivals_in, end_of_time, landing_at}
 use Rattle.replay_laws.specs.Passing.{AreLandings}
 use Rattle.replay_laws.specs.Traffic.{Traffic}
-use Rattle.replay_laws.proofs.ToldLemmas.{none_told}
+use Rattle.unit_model.proofs.ToldLemmas.{none_told}
 use Rattle.unit_model.proofs.SweepLaws.{sweep_quiet as sweep-nothing}
-pub use Rattle.replay_laws.proofs.ToldLemmas.{told_each}
+pub use Rattle.unit_model.proofs.ToldLemmas.{told_each}
 
 -- ---- of nothing
 

@@ -12,6 +12,7 @@ use Rattle.unit_model.specs.Meetings.{Arrival}
 use Rattle.unit_model.specs.Proper.{IsTime}
 use Rattle.unit_model.specs.Radiated.{first_clock}
 use Rattle.unit_model.specs.Standing.{AreInTime}
+use Rattle.unit_model.proofs.OntoLemmas.{onto_none}
 use Rattle.unit_model.proofs.SweepLaws.{gap_is, gap_none}
 use Rattle.unit_laws.proofs.HistoryTicks.{last_is_earlier, last_of_next}
 use Rattle.replay_laws.specs.Moments.{arrivals_before, arrivals_in, landing_at}
@@ -39,10 +40,6 @@ arrivals_go_on landings tick begun =
 -- nothing came before the clock began
 pub none_yet : (landings : List Arrival) (tick : ℤ) → tick ≤ℤ first_clock → arrivals_before landings tick ≡ []
 none_yet landings tick early = ap (arrivals_in landings) (gap_none first_clock tick early) ∙ none_first landings
-
-pub onto_none : (earlier : List Arrival) → onto earlier [] ≡ earlier
-unfolding onto
-onto_none earlier = refl
 
 pub calm_adds_nothing : CalmAddsNothing
 calm_adds_nothing landings from to begun order calm =

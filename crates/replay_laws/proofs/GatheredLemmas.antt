@@ -29,7 +29,7 @@ use Rattle.unit_model.specs.Reports.{hold_of, met}
 use Rattle.unit_model.specs.Standing.{AreInTime}
 use Rattle.unit_model.specs.declared.decoded.UserSection.{UserSection}
 use Rattle.replay_laws.specs.Events.{events}
-use Rattle.replay_laws.specs.Heard.{cells_heard}
+use Rattle.unit_model.specs.Heard.{cells_heard}
 use Rattle.replay_laws.specs.Moments.{all_arrivals, end_of_time}
 use Rattle.replay_laws.specs.Traffic.{landings_at}
 use Rattle.replay_laws.proofs.CameLemmas.{arrivals_in_time}

@@ -22,11 +22,11 @@ use Rattle.unit_laws.proofs.DueLemmas.{reported_differ}
 use Rattle.unit_laws.proofs.SweepLemmas.{IsKept, each_tick_related}
 use Rattle.unit_laws.proofs.HistoryTicks.{clock_begins}
 use Rattle.replay_laws.specs.Events.{arrivals_at, cells_reported_at, count_event, count_events, events, events_at, events_between, number_of, start_of}
-use Rattle.replay_laws.specs.Heard.{cells_heard}
+use Rattle.unit_model.specs.Heard.{cells_heard}
 use Rattle.replay_laws.specs.Moments.{all_arrivals, end_of_time, landing_at}
 use Rattle.replay_laws.specs.Traffic.{Traffic, known_at, landings_at, reported_at}
 use Rattle.replay_laws.proofs.MomentLemmas.{by_start}
-use Rattle.replay_laws.proofs.HeardLemmas.{cells-append, cells-arrivals, cells-none, cells-other, cells-own, tick_of_side}
+use Rattle.unit_laws.proofs.HeardLemmas.{cells-append, cells-arrivals, cells-none, cells-other, cells-own, tick_of_side}
 use Rattle.replay_laws.specs.Once.{AtMostOnce}
 
 -- ---- those of a tick

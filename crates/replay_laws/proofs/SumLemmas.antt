@@ -32,11 +32,12 @@ use Rattle.unit_laws.specs.Totals.{commands_total, data_total}
 use Rattle.unit_laws.proofs.DifferLemmas.{all_kept}
 use Rattle.unit_laws.proofs.SweepLemmas.{each_tick_related}
 use Rattle.unit_laws.proofs.TotalLemmas.{commands_add_up, data_add_up}
-use Rattle.replay_laws.specs.Events.{additions_of, arrivals_at, arrivals_told, cells_reported_at, count_event, count_events, events, events_at, events_between, number_of}
+use Rattle.replay_laws.specs.Events.{additions_of, arrivals_at, cells_reported_at, count_event, count_events, events, events_at, events_between, number_of}
+use Rattle.unit_model.specs.Events.{arrivals_told}
 use Rattle.replay_laws.specs.Moments.{all_arrivals, end_of_time, landing_at}
 use Rattle.replay_laws.specs.Traffic.{Traffic, landings_at, reported_at}
-use Rattle.replay_laws.specs.declared.results.DelayResult.{DelayResult}
-use Rattle.replay_laws.proofs.ToldLemmas.{told_all}
+use Rattle.unit_model.specs.declared.results.DelayResult.{DelayResult}
+use Rattle.unit_model.proofs.ToldLemmas.{told_all}
 use Rattle.replay_laws.specs.Sums.{IsNumber, SumsAddUp, TellsNumber, UnitAddsUp, cells_total}
 use Rattle.replay_laws.proofs.BesideLemmas.{IsBeside, cells-append, commands-append, data-append, frames_beside, meetings_beside, messages_beside}
 use Rattle.replay_laws.proofs.OnceLemmas.{cells_are_reported}

@@ -6,10 +6,11 @@ use Rattle.air_source.specs.declared.events.Side.{Side}
 use Rattle.window_config.specs.declared.config.Config.{Config}
 use Rattle.unit_model.specs.Meetings.{Arrival}
 use Rattle.unit_model.specs.Radiated.{first_clock}
-use Rattle.replay_laws.specs.Events.{arrival_event, events, result_event}
+use Rattle.replay_laws.specs.Events.{events}
+use Rattle.unit_model.specs.Events.{arrival_event, result_event}
 use Rattle.replay_laws.specs.Moments.{end_of_time, landing_at}
 use Rattle.replay_laws.specs.Traffic.{Traffic, landings_at}
-use Rattle.replay_laws.specs.declared.results.DelayResult.{DelayResult}
+use Rattle.unit_model.specs.declared.results.DelayResult.{DelayResult}
 
 -- one of the results that some frames gave
 pub record IsAmong (results : List (List DelayResult)) (r : DelayResult) : Type 0 where

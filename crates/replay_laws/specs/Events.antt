@@ -14,13 +14,13 @@ use Rattle.fault_counters.specs.declared.kinds.Counter.{Counter}
 use Rattle.window_config.specs.declared.config.Config.{Config}
 use Rattle.window_config.specs.declared.delays.Delays.{Delays}
 use Rattle.unit_model.specs.Counts.{cells_counted}
+use Rattle.unit_model.specs.Events.{arrivals_told}
 use Rattle.unit_model.specs.Lists.{each_tick}
-use Rattle.unit_model.specs.Meetings.{Arrival}
 use Rattle.unit_model.specs.Radiated.{first_clock, symbol_report, wait_of}
 use Rattle.unit_model.specs.Reports.{arrivals_counted}
 use Rattle.unit_model.specs.Sweeps.{at_tick}
 use Rattle.replay_laws.specs.Moments.{all_arrivals, end_of_time, landing_at}
-use Rattle.replay_laws.specs.Traffic.{DelayResult, Traffic, known_at, landings_at, reported_at}
+use Rattle.replay_laws.specs.Traffic.{Traffic, known_at, landings_at, reported_at}
 
 -- the start of the symbols whose cells a unit reports at a tick
 abbrev pub start_of : Side → Delays → ℤ → ℤ
@@ -30,22 +30,6 @@ start_of Du d tick = tick -ℤ wait_of Du d
 -- the cells that it reports then, by all that lands at it
 abbrev pub cells_reported_at : Side → Config → Traffic → ℤ → List AirCell
 cells_reported_at side c t tick = at_tick (symbol_report side (known_at side c t.planned (all_arrivals (landings_at side t)))) c.endpoints (start_of side c.delays tick)
-
-abbrev pub arrival_event : Side → Arrival → Event
-arrival_event side a = event.Arrival side (record { 0 = a.at }) a.frame
-
-abbrev pub result_event : Side → ℤ → DelayResult → Event
-result_event side at r = event.Delay (record { 0 = at }) side r.id r.value
-
--- what is told of an arrival: it, and behind it the results of the measurements that it ends
-abbrev pub arrival_told : Side → Arrival → List DelayResult → List Event
-arrival_told side a results = arrival_event side a ∷ map (result_event side a.at) results
-
--- frames that arrive one after the other, each with its results; those beyond the results have none
-unfoldable pub arrivals_told : Side → List (List DelayResult) → List Arrival → List Event
-arrivals_told side results [] = []
-arrivals_told side [] (a ∷ xs) = arrival_told side a [] ++ arrivals_told side [] xs
-arrivals_told side (r ∷ results) (a ∷ xs) = arrival_told side a r ++ arrivals_told side results xs
 
 abbrev pub arrivals_at : Side → Traffic → ℤ → List Event
 arrivals_at side t tick = arrivals_told side (t.results side tick) (landing_at (landings_at side t) tick)

@@ -15,7 +15,7 @@ use Rattle.unit_model.specs.Reports.{hold_of, met}
 use Rattle.unit_model.specs.declared.cells.Cell.{Cell}
 use Rattle.unit_model.specs.declared.decoded.UserSection.{UserSection}
 use Rattle.replay_laws.specs.Events.{events}
-use Rattle.replay_laws.specs.Heard.{cells_heard}
+use Rattle.unit_model.specs.Heard.{cells_heard}
 use Rattle.replay_laws.specs.Moments.{all_arrivals}
 use Rattle.replay_laws.specs.Passing.{AreLandings}
 use Rattle.replay_laws.specs.Traffic.{Traffic, landings_at}

@@ -4,7 +4,7 @@ use Rattle.window_config.specs.Configs.{IsConfig}
 use Rattle.window_config.specs.declared.config.Config.{Config}
 use Rattle.unit_laws.specs.Due.{AreDifferent}
 use Rattle.replay_laws.specs.Events.{events}
-use Rattle.replay_laws.specs.Heard.{cells_heard}
+use Rattle.unit_model.specs.Heard.{cells_heard}
 use Rattle.replay_laws.specs.Traffic.{Traffic}
 
 -- no two of a unit's events are reports of one cell

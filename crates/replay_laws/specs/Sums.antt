@@ -10,7 +10,7 @@ use Rattle.window_config.specs.declared.config.Config.{Config}
 use Rattle.unit_model.specs.Reports.{commands_of, data_of}
 use Rattle.unit_laws.specs.Totals.{commands_total, data_total}
 use Rattle.replay_laws.specs.Events.{additions_of, all_counted, events}
-use Rattle.replay_laws.specs.Heard.{cells_heard}
+use Rattle.unit_model.specs.Heard.{cells_heard}
 use Rattle.replay_laws.specs.Moments.{all_arrivals}
 use Rattle.replay_laws.specs.Traffic.{Traffic, landings_at}
 

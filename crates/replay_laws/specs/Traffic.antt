@@ -5,7 +5,7 @@ use Rattle.air_source.specs.declared.events.Side.TheVariants.{Ru, Du}
 use Rattle.fault_counters.specs.declared.kinds.Counter.{Counter}
 use Rattle.unit_model.specs.Meetings.{Arrival}
 pub use Rattle.unit_laws.specs.Arriving.{known_at, reported_at}
-pub use Rattle.replay_laws.specs.declared.results.DelayResult.{DelayResult}
+use Rattle.unit_model.specs.declared.results.DelayResult.{DelayResult}
 use Rattle.unit_model.specs.declared.allocations.Allocation.{Allocation}
 
 -- the frames that land at each unit, listed in any order of their times, and the uplink allocations of the plan; and of delay measurement

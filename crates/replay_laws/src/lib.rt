@@ -4,11 +4,9 @@
 //! in its window, the counters add up, a message, fragment or section that is refused changes nothing but counters, and the delays
 //! that are told are the results of the frames that are received. By others a loop that lets time pass comes to the events
 //! (`specs/Passing.antt`). A law is stated in `specs/` and proved as a lemma in `proofs/`; [`all_is_told_by_the_end`] does nothing,
-//! and has one as its contract. A [`DelayResult`] is a measured delay, in units of 2^-16 ns.
+//! and has one as its contract.
 #![tactic(auto)]
 
 mod event_laws;
-mod results;
 
 pub use event_laws::all_is_told_by_the_end;
-pub use results::DelayResult;

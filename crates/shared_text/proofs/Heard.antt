@@ -7,7 +7,7 @@ use Rattle.air_source.specs.declared.events.Event.TheVariants as event
 use Rattle.air_source.specs.declared.events.Side.{Side}
 use Rattle.air_source.specs.declared.events.Side.TheVariants.{Ru, Du}
 use Rattle.air_source.specs.Units.{is_down}
-use Rattle.replay_laws.specs.Heard.{cells_heard, is_of}
+use Rattle.unit_model.specs.Heard.{cells_heard, is_of}
 use Rattle.shared_cell.specs.Joined.{joined_at, taken}
 use Rattle.shared_cell.specs.declared.values.Mixed.{Mixed}
 use Rattle.unit_air.specs.Text.{all_taken, event_taken}

@@ -5,7 +5,7 @@ use Rattle.air_source.specs.declared.events.Event.{Event}
 use Rattle.air_source.specs.declared.events.Side.TheVariants.{Du}
 use Rattle.fh_document.specs.declared.document.Document.{Document}
 use Rattle.fronthaul_replay.specs.Replaying.{events_of}
-use Rattle.replay_laws.specs.Heard.{cells_heard}
+use Rattle.unit_model.specs.Heard.{cells_heard}
 use Rattle.shared_cell.specs.Combined.{combined}
 use Rattle.shared_lines.specs.Lines.{mixes_text, unit_text}
 use Rattle.unit_air.specs.Text.{unit_events_text}

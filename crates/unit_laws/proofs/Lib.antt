@@ -28,3 +28,4 @@ pub mod FirstLemmas
 pub mod AddedLemmas
 pub mod ArrivingLemmas
 pub mod SendingLemmas
+pub mod HeardLemmas

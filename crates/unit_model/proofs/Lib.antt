@@ -14,3 +14,4 @@ pub mod VerdictLemmas
 pub mod ClaimLemmas
 pub mod GatheringLemmas
 pub mod InTimeLemmas
+pub mod ToldLemmas

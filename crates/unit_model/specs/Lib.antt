@@ -17,5 +17,7 @@ pub mod Reports
 pub mod ProperJobs
 pub mod Standing
 pub mod Met
+pub mod Events
+pub mod Heard
 pub mod Starts
 pub mod Terms

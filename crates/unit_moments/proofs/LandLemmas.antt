@@ -6,10 +6,10 @@ use Rattle.delay_exchange.specs.Units.{HasDoings}
 use Rattle.delay_exchange.specs.declared.unit.UnitMeter.{UnitMeter}
 use Rattle.delay_measure.specs.declared.edge.Compensation.{Compensation}
 use Rattle.delay_model.specs.Doings.{Doings, results_of, with_frame, with_frames}
-use Rattle.replay_laws.proofs.HeardLemmas.{arrivals-append, arrivals-own}
-use Rattle.replay_laws.proofs.ToldLemmas.{none_told, told_next, told_one}
-use Rattle.replay_laws.specs.Events.{arrival_told}
-use Rattle.replay_laws.specs.Heard.{arrivals_heard}
+use Rattle.unit_laws.proofs.HeardLemmas.{arrivals-append, arrivals-own}
+use Rattle.unit_model.proofs.ToldLemmas.{none_told, told_next, told_one}
+use Rattle.unit_model.specs.Events.{arrival_told}
+use Rattle.unit_model.specs.Heard.{arrivals_heard}
 use Rattle.frame_deliveries.specs.Landing.{arrival_at, landing_at}
 use Rattle.frame_ways.specs.Landed.{bytes_of}
 use Rattle.frame_ways.specs.Ways.{HasLanded, Lands, LandsNext, OnWay, landings_on}

@@ -13,7 +13,7 @@ use Rattle.unit_model.specs.Blocks.{block_at, every_data_cell, has_all, data_ver
 use Rattle.unit_model.specs.Decoding.{gathered, decode, data_sections}
 use Rattle.unit_model.specs.Radiated.{id_from}
 use Rattle.unit_memory.specs.Judgements.{judged_commands, judged_data, judged_whole, judged_in}
-use Rattle.replay_laws.specs.Heard.{arrivals_heard}
+use Rattle.unit_model.specs.Heard.{arrivals_heard}
 use Rattle.explain_model.specs.Stories.{arrival_count, told_after, stories_in}
 use Rattle.explain_model.specs.Pieces.{pieces}
 use Rattle.explain_model.specs.Timings.{control_timing, heading_slot, data_timing}

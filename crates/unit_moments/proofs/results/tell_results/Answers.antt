@@ -1,7 +1,7 @@
 use Rattle.std.proofs.Common.{rules, ◌≡◌, sym}
 use Rattle.std.proofs.lemmas.Result.{IfErr-weaker}
 use Rattle.air_source.proofs.Stops.{stops_at}
-use Rattle.replay_laws.specs.Events.{result_event}
+use Rattle.unit_model.specs.Events.{result_event}
 use Rattle.unit_moments.proofs.CauseLemmas.{cause_passed}
 use Rattle.unit_moments.proofs.results.tell_results.Goals as goal
 

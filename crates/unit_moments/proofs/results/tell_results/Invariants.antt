@@ -1,6 +1,6 @@
 use Rattle.std.proofs.Common.{take, ◌≡◌}
 use Rattle.std.specs.Prelude.{map}
-use Rattle.replay_laws.specs.Events.{result_event}
+use Rattle.unit_model.specs.Events.{result_event}
 use Rattle.unit_moments.proofs.results.tell_results.Given as goal
 
 abbrev pub invariant-loop-known : goal.invariant-loop-known

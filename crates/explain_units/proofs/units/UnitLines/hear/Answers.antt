@@ -2,7 +2,7 @@
 use Rattle.std.proofs.Common.{[], length, refl, subst, ◌∙◌}
 use Rattle.line_runs.specs.Stops.{StopsSome}
 use Rattle.explain_units.proofs.EventLemmas.{frame_said, unit_heard}
-use Rattle.replay_laws.specs.Heard.{arrivals_heard}
+use Rattle.unit_model.specs.Heard.{arrivals_heard}
 use Rattle.explain_units.proofs.units.UnitLines.hear.Goals as goal
 
 pub returns-in-Ok-tell_frame-clause-after : goal.returns-in-Ok-tell_frame-clause-after

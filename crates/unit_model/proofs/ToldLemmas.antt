@@ -4,9 +4,9 @@ use Rattle.std.specs.Prelude.{All, map}
 use Rattle.std.proofs.lemmas.List.Elements.{All-nil, All-cons, All-append}
 use Rattle.air_source.specs.declared.events.Event.{Event}
 use Rattle.air_source.specs.declared.events.Side.{Side}
+use Rattle.unit_model.specs.Events.{arrival_event, arrival_told, arrivals_told, result_event}
 use Rattle.unit_model.specs.Meetings.{Arrival}
-use Rattle.replay_laws.specs.Events.{arrival_event, arrival_told, arrivals_told, result_event}
-use Rattle.replay_laws.specs.Traffic.{DelayResult}
+use Rattle.unit_model.specs.declared.results.DelayResult.{DelayResult}
 
 abbrev pub Results : Type 0
 Results = List (List DelayResult)

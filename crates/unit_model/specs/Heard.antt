@@ -1,18 +1,18 @@
 -- What an air heard of one of the units among some events (this project's profile).
 use Rattle.std.specs.Prelude.{Bool, if◌then◌else◌, List, [], ◌∷◌}
+use Rattle.air_source.specs.Units.{is_down}
 use Rattle.air_source.specs.declared.events.AirCell.{AirCell}
 use Rattle.air_source.specs.declared.events.Event.{Event}
 use Rattle.air_source.specs.declared.events.Event.TheVariants as event
 use Rattle.air_source.specs.declared.events.Side.{Side}
 use Rattle.unit_model.specs.Claims.{same_way}
 use Rattle.unit_model.specs.Meetings.{Arrival}
-use Rattle.air_source.specs.Units.{is_down}
 
 -- the event is of this unit
 abbrev pub is_of : Side → Side → Bool
 is_of side other = same_way (is_down other) (is_down side)
 
--- the frames that arrived at the unit, behind earlier ones, the newest first
+-- the frames that arrived at the unit, after earlier ones, the newest first
 unfoldable pub arrivals_heard : Side → List Arrival → List Event → List Arrival
 arrivals_heard side earlier [] = earlier
 arrivals_heard side earlier (event.Arrival at_side at frame ∷ rest) =

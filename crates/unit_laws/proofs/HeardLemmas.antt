@@ -2,6 +2,7 @@
 use Rattle.std.proofs.Common.{◌≡◌, ℕ, ℤ, pos, ◌+ℤ◌, ◌-ℤ◌, Bool, true, false, List, [], ◌∷◌, ◌++◌, refl, sym, ap, ap₂, ◌∙◌}
 use Rattle.std.specs.Prelude.{All, ◌==◌, if◌then◌else◌, map}
 use Rattle.std.proofs.lemmas.List.Elements.{All-filter, All-head, All-tail}
+use Rattle.air_source.specs.Units.{is_down}
 use Rattle.air_source.specs.declared.events.AirCell.{AirCell}
 use Rattle.air_source.specs.declared.events.Event.{Event}
 use Rattle.air_source.specs.declared.events.Event.TheVariants as event
@@ -12,20 +13,19 @@ use Rattle.fh_time.specs.declared.values.Slot.{Slot}
 use Rattle.window_config.specs.declared.delays.Delays.{Delays}
 use Rattle.window_config.specs.declared.endpoints.EndpointConfig.{EndpointConfig}
 use Rattle.unit_model.specs.Claims.{cell_at}
+use Rattle.unit_model.specs.Events.{arrival_told, arrivals_told, result_event}
+use Rattle.unit_model.specs.Heard.{arrivals_heard, cells_heard, is_of}
 use Rattle.unit_model.specs.Lists.{onto}
 use Rattle.unit_model.specs.Meetings.{Arrival}
 use Rattle.unit_model.specs.Radiated.{Known, air_cell, cell_report, first_clock, symbol_report, used_mask, wait_of}
 use Rattle.unit_model.specs.Standing.{due, still_reported}
 use Rattle.unit_model.specs.Sweeps.{at_tick}
+use Rattle.unit_model.specs.declared.results.DelayResult.{DelayResult}
+use Rattle.unit_model.proofs.OntoLemmas.{onto_none, onto_one}
+use Rattle.unit_model.proofs.ToldLemmas.{none_told, told_kept, told_next, told_next_alone}
 use Rattle.unit_laws.proofs.DifferLemmas.{all_kept}
 use Rattle.unit_laws.proofs.DueLemmas.{unheard, one_or_none}
 use Rattle.unit_laws.proofs.SweepLemmas.{at_tick_related, each_related, sweep_related}
-use Rattle.replay_laws.specs.Events.{arrival_told, arrivals_told, result_event}
-use Rattle.replay_laws.specs.Heard.{arrivals_heard, cells_heard, is_of}
-use Rattle.replay_laws.specs.Traffic.{DelayResult}
-use Rattle.replay_laws.proofs.ToldLemmas.{none_told, told_kept, told_next, told_next_alone}
-use Rattle.replay_laws.proofs.CameLemmas.{onto_none}
-use Rattle.air_source.specs.Units.{is_down}
 
 -- ---- which unit's
 
@@ -162,10 +162,6 @@ arrival-other side other earlier x rs apart =
     ap (λ (b : Bool). arrivals_heard side (let zs : List Arrival = if b then x ∷ earlier else earlier in zs) (map (result_event other x.at) rs)) apart
     ∙ arrivals-results side other earlier x.at rs
 
-onto-next : (earlier : List Arrival) (x : Arrival) (xs : List Arrival) → onto earlier (x ∷ xs) ≡ onto (x ∷ earlier) xs
-unfolding onto
-onto-next earlier x xs = refl
-
 -- frames, each with its results
 pub arrivals-own : (side : Side) (earlier : List Arrival) (results : List (List DelayResult)) (xs : List Arrival)
     → arrivals_heard side earlier (arrivals_told side results xs) ≡ onto earlier xs
@@ -175,13 +171,13 @@ arrivals-own side earlier [] (x ∷ xs) =
     ∙ arrivals-append side earlier (arrival_told side x []) (arrivals_told side [] xs)
     ∙ ap (λ (zs : List Arrival). arrivals_heard side zs (arrivals_told side [] xs)) (arrival-own side earlier x [])
     ∙ arrivals-own side (x ∷ earlier) [] xs
-    ∙ sym (onto-next earlier x xs)
+    ∙ sym (onto_one earlier x xs)
 arrivals-own side earlier (r ∷ results) (x ∷ xs) =
     ap (arrivals_heard side earlier) (told_next side r results x xs)
     ∙ arrivals-append side earlier (arrival_told side x r) (arrivals_told side results xs)
     ∙ ap (λ (zs : List Arrival). arrivals_heard side zs (arrivals_told side results xs)) (arrival-own side earlier x r)
     ∙ arrivals-own side (x ∷ earlier) results xs
-    ∙ sym (onto-next earlier x xs)
+    ∙ sym (onto_one earlier x xs)
 
 pub arrivals-other : (side other : Side) (earlier : List Arrival) (results : List (List DelayResult)) (xs : List Arrival) → is_of side other ≡ false
     → arrivals_heard side earlier (arrivals_told other results xs) ≡ earlier
