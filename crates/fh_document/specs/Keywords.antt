@@ -1,6 +1,6 @@
 -- The keywords of lines, and the order of their kinds.
 use Rattle.std.specs.Prelude.{ℕ, List, Bool, true, false, Option, Some, None, if◌then◌else◌, codes}
-use Rattle.std.specs.Option.{option_map}
+use Rattle.std.specs.Option.{option_map, option_or}
 use Rattle.std.specs.Str.{bytes_eq}
 use Rattle.fh_document.specs.declared.document.Version.{Version}
 use Rattle.fh_document.specs.declared.document.Version.TheVariants.{One, Two, Three}
@@ -22,6 +22,15 @@ is_three One = false
 is_three Two = false
 is_three Three = true
 
+-- the windows of the units
+abbrev pub window_setting_of : List ℕ → Option Setting
+window_setting_of w =
+    if bytes_eq w (codes "t1a") then Some T1a
+    else (if bytes_eq w (codes "t2a") then Some T2a
+    else (if bytes_eq w (codes "ta3") then Some Ta3
+    else (if bytes_eq w (codes "ta4") then Some Ta4
+    else None)))
+
 -- the times that are no window of a unit
 abbrev pub delay_setting_of : List ℕ → Option Setting
 delay_setting_of w =
@@ -30,26 +39,21 @@ delay_setting_of w =
     else (if bytes_eq w (codes "t34") then Some T34
     else (if bytes_eq w (codes "hold") then Some Hold
     else (if bytes_eq w (codes "gap") then Some Gap
-    else None))))
+    else (if bytes_eq w (codes "comp") then Some Comp
+    else None)))))
 
--- the windows of the units, and other times
-abbrev pub window_setting_of : List ℕ → Option Setting
-window_setting_of w =
-    if bytes_eq w (codes "t1a") then Some T1a
-    else (if bytes_eq w (codes "t2a") then Some T2a
-    else (if bytes_eq w (codes "ta3") then Some Ta3
-    else (if bytes_eq w (codes "ta4") then Some Ta4
-    else delay_setting_of w)))
-
--- what a first word configures in every version
-abbrev pub common_setting_of : List ℕ → Option Setting
-common_setting_of w =
+-- the frames: the widths of their eAxC ids, their size, and the samples in them
+abbrev pub frame_setting_of : List ℕ → Option Setting
+frame_setting_of w =
     if bytes_eq w (codes "widths") then Some Widths
     else (if bytes_eq w (codes "fragment") then Some Fragment
     else (if bytes_eq w (codes "source") then Some Source
     else (if bytes_eq w (codes "antenna") then Some Antenna
-    else (if bytes_eq w (codes "comp") then Some Comp
-    else window_setting_of w))))
+    else None)))
+
+-- what a first word configures in every version
+abbrev pub common_setting_of : List ℕ → Option Setting
+common_setting_of w = option_or (option_or (window_setting_of w) (delay_setting_of w)) (frame_setting_of w)
 
 -- what a first word configures
 abbrev pub setting_of : Version → List ℕ → Option Setting

@@ -1,6 +1,6 @@
 // The keywords of lines, and the order of their kinds.
 ghost use Rattle.std.specs.Prelude.{◌≡◌, ◌<◌};
-ghost use Rattle.fh_document.specs.Keywords.{is_after_one, is_three, delay_setting_of, window_setting_of, common_setting_of, setting_of, transit_of, keyword_of, rank_of, number_of};
+ghost use Rattle.fh_document.specs.Keywords.{is_after_one, is_three, window_setting_of, delay_setting_of, frame_setting_of, common_setting_of, setting_of, transit_of, keyword_of, rank_of, number_of};
 
 use crate::document::Version;
 use line_words::Words;
@@ -59,6 +59,26 @@ pub(crate) fn is_three(version: Version) -> bool
     }
 }
 
+/// What a first word sets of the windows of the units.
+fn window_setting_of(word: &[u8]) -> Option<Setting>
+    ensures { result ≡ window_setting_of word.now }
+{
+    if word == b"t1a".as_slice() {
+        return Some(Setting::T1a);
+    }
+    if word == b"t2a".as_slice() {
+        return Some(Setting::T2a);
+    }
+    if word == b"ta3".as_slice() {
+        return Some(Setting::Ta3);
+    }
+    if word == b"ta4".as_slice() {
+        return Some(Setting::Ta4);
+    }
+    None
+}
+
+/// What a first word sets of the times that are no window of a unit.
 fn delay_setting_of(word: &[u8]) -> Option<Setting>
     ensures { result ≡ delay_setting_of word.now }
 {
@@ -77,29 +97,15 @@ fn delay_setting_of(word: &[u8]) -> Option<Setting>
     if word == b"gap".as_slice() {
         return Some(Setting::Gap);
     }
+    if word == b"comp".as_slice() {
+        return Some(Setting::Comp);
+    }
     None
 }
 
-fn window_setting_of(word: &[u8]) -> Option<Setting>
-    ensures { result ≡ window_setting_of word.now }
-{
-    if word == b"t1a".as_slice() {
-        return Some(Setting::T1a);
-    }
-    if word == b"t2a".as_slice() {
-        return Some(Setting::T2a);
-    }
-    if word == b"ta3".as_slice() {
-        return Some(Setting::Ta3);
-    }
-    if word == b"ta4".as_slice() {
-        return Some(Setting::Ta4);
-    }
-    delay_setting_of(word)
-}
-
-fn common_setting_of(word: &[u8]) -> Option<Setting>
-    ensures { result ≡ common_setting_of word.now }
+/// What a first word sets of the frames.
+fn frame_setting_of(word: &[u8]) -> Option<Setting>
+    ensures { result ≡ frame_setting_of word.now }
 {
     if word == b"widths".as_slice() {
         return Some(Setting::Widths);
@@ -113,10 +119,16 @@ fn common_setting_of(word: &[u8]) -> Option<Setting>
     if word == b"antenna".as_slice() {
         return Some(Setting::Antenna);
     }
-    if word == b"comp".as_slice() {
-        return Some(Setting::Comp);
-    }
+    None
+}
+
+/// What a first word sets in every version.
+fn common_setting_of(word: &[u8]) -> Option<Setting>
+    ensures { result ≡ common_setting_of word.now }
+{
     window_setting_of(word)
+        .or(delay_setting_of(word))
+        .or(frame_setting_of(word))
 }
 
 /// What a first word sets.
