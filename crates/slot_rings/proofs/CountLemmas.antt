@@ -1,10 +1,10 @@
 -- How many flags are set, and how many uplink sections the places hold.
-use Rattle.std.proofs.Common.{◌≡◌, ℕ, ◌+◌, ◌-◌, ◌*◌, ◌<◌, ◌≤◌, inl, inr, Bool, true, false, List, [], ◌∷◌, length, length-set, map, get_or, set, refl, ap, sym, ◌∙◌, subst, arith}
+use Rattle.std.proofs.Common.{◌≡◌, ℕ, zero, suc, ◌+◌, ◌-◌, ◌*◌, ◌<◌, ◌≤◌, inl, inr, Bool, true, false, List, [], ◌∷◌, length, length-set, map, replicate, get_or, set, refl, ap, sym, ◌∙◌, subst, arith}
 use Rattle.std.specs.Prelude.{All}
-use Rattle.std.specs.List.{sum_by}
 use Rattle.std.proofs.lemmas.Bool.{cases_Bool}
-use Rattle.std.proofs.lemmas.List.{get_or-map, get_or_read, map-set}
-use Rattle.std.proofs.lemmas.List.Elements.{All-from_get_or, All-get_or, All-set, All-weaker}
+use Rattle.std.proofs.lemmas.List.{get_or-map, get_or_read, length-replicate, map-set}
+use Rattle.std.proofs.lemmas.List.Elements.{All-get_or, All-replicate, All-set, All-weaker}
+use Rattle.std.proofs.lemmas.List.Folds.{sum_by-replicate}
 use Rattle.std.proofs.lemmas.List.Sums.{get_or-le-sum_by, sum_by-cons, sum_by-le, sum_by-set}
 use Rattle.fh_time.specs.declared.values.Slot.{Slot}
 use Rattle.unit_model.specs.declared.allocations.Allocation.{Allocation}
@@ -42,6 +42,22 @@ counted_put flags places count c i row new n m a within read place len is moved 
   each = ap (λ (l : List ℕ). set l i m) a.each ∙ ap (λ (k : ℕ). set (map set_of flags) i k) is ∙ sym (map-set set_of flags i new);
   number = omega (arith, sum_by-set set_of flags i new row within, place_is flags places count i row n a within place, moved, a.number, is);
 }
+
+-- none is set of any place
+pub counted_none : (n : ℕ) (row : List Bool) → n < 1024 → length row ≡ SLOT_SYMBOLS → set_of row ≡ 0 → AreCounted (replicate n row) (replicate n 0) 0
+counted_none n row few len none = record {
+  few = omega (arith, length-replicate n row, few);
+  rows = All-replicate (λ row. length row ≡ SLOT_SYMBOLS) n row len;
+  each = each n;
+  number = sym (sum_by-replicate set_of n row ∙ none_of n none);
+}
+  where
+    each : (n : ℕ) → replicate n 0 ≡ map set_of (replicate n row)
+    each zero = refl
+    each (suc n) = rw (none, each n) refl
+
+    none_of : (n : ℕ) {m : ℕ} → m ≡ 0 → n * m ≡ 0
+    none_of n e = rw e (omega arith)
 
 row_of : (flags : List (List Bool)) (places : List ℕ) (count i : ℕ) (row : List Bool) → AreCounted flags places count → i < length flags
     → row ≡ get_or flags i row → length row ≡ SLOT_SYMBOLS
@@ -100,13 +116,6 @@ sections_kept r n i p q has within read same =
     let few = All-get_or (λ x. uplink_sections_in x ≤ SLOT_SECTIONS) r.places i p within has.few in
     let still : uplink_sections_in q ≡ uplink_sections_in p = ap (λ (l : List Allocation). length l) same in
     sections_put r n n i p q has within read (omega (arith, few, still, ap uplink_sections_in read)) (omega (arith, still))
-
--- none at all
-pub no_sections : (r : RingValue) → sum_by uplink_sections_in r.places ≡ 0 → HasSections r 0
-no_sections r none = record {
-  few = All-from_get_or (λ x. uplink_sections_in x ≤ SLOT_SECTIONS) r.places blank (λ i within. omega (arith, get_or-le-sum_by uplink_sections_in r.places i blank within, none));
-  number = sym none;
-}
 
 empty_list : (l : List Allocation) → length l ≡ 0 → l ≡ []
 empty_list [] e = refl

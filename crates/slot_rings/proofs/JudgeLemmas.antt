@@ -1,7 +1,8 @@
 -- The cells of an allocation, symbol by symbol and PRB by PRB.
-use Rattle.std.proofs.Common.{◌≡◌, ℕ, ◌+◌, ◌-◌, ◌*◌, ◌<◌, ◌≤◌, inl, inr, Bool, true, false, ◌&&◌, ◌==◌, nat_lt, if◌then◌else◌, List, get_or, refl, ap, sym, ◌∙◌, subst, arith, Option, Some}
+use Rattle.std.proofs.Common.{◌≡◌, ◌≢◌, ℕ, ◌+◌, ◌-◌, ◌*◌, ◌<◌, ◌≤◌, inl, inr, Bool, true, false, ◌&&◌, ◌==◌, nat_lt, if◌then◌else◌, List, get_or, refl, ap, sym, ◌∙◌, subst, arith, Option, Some}
 use Rattle.std.proofs.lemmas.Bool.{cases_eq, cases_lt, ltb-false, le-ltb, lt-leb, and_left, and_right}
 use Rattle.std.proofs.lemmas.Nat.{mul-le}
+use Rattle.fh_time.proofs.Orders.{both_ways}
 use Rattle.fh_time.specs.Carrier.{is_outside}
 use Rattle.unit_model.specs.Claims.{first_prb, prb_count, cell_of, every_cell, some_cell, in_mask, is_from, is_claimed, is_overlapped, claim_of}
 use Rattle.unit_model.specs.Lists.{every, some}
@@ -145,6 +146,25 @@ row_claimed s y z p f c n m claim old mid new low fits below new_is mid_is = eli
       let same = not_now s y z low ne in
       let new_mid : new ≡ mid = rw away at new_is in
       rw same (new_mid ∙ mid_is)
+]
+
+-- one cell more
+pub cell_claimed : (s y z : ℕ) (m : Bool) (claim old mid new : Option Claim) → s ≤ y → (z ≡ y → new ≡ Chosen m claim mid) → (z ≢ y → new ≡ mid)
+    → mid ≡ Chosen (is_from s (y - s) z && m) claim old → new ≡ Chosen (is_from s (y + 1 - s) z && m) claim old
+cell_claimed s y z m claim old mid new low here others mid_is = elim (cases_eq z y) [
+  | inl e ↦
+      let before : is_from s (y - s) z ≡ false = subst (λ (k : ℕ). is_from s (y - s) k ≡ false) (sym e) (not_yet s y low) in
+      let after : is_from s (y + 1 - s) z ≡ true = subst (λ (k : ℕ). is_from s (y + 1 - s) k ≡ true) (sym e) (now s y low) in
+      let mid_old : mid ≡ old = rw before at mid_is in
+      rw after (rw mid_old at (here e))
+  | inr ne ↦ let same = not_now s y z low ne in rw same (others ne ∙ mid_is)
+]
+
+pub cell_kept : {A : Type 0} (s y z : ℕ) (old mid new : A) → s ≤ y → (z ≢ y → new ≡ mid) → (is_from s (y - s) z ≡ false → mid ≡ old)
+    → is_from s (y + 1 - s) z ≡ false → new ≡ old
+cell_kept s y z old mid new low others kept out = elim (cases_eq z y) [
+  | inl e ↦ absurd (both_ways (is_from s (y + 1 - s) y) (now s y low) (ap (is_from s (y + 1 - s)) (sym e) ∙ out))
+  | inr ne ↦ others ne ∙ kept (sym (not_now s y z low ne) ∙ out)
 ]
 
 -- cell k of the row of symbol y is as it was, and nothing clashes there

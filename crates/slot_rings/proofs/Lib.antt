@@ -9,6 +9,7 @@ pub mod RingLemmas
 pub mod RowLemmas
 pub mod PendingLemmas
 pub mod CountLemmas
+pub mod FreshLemmas
 pub mod SpanLemmas
 pub mod RunLemmas
 pub mod ReportedLemmas

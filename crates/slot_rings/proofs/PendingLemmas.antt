@@ -1,5 +1,5 @@
 -- Where the flag of a symbol is not set, none of its cells is due.
-use Rattle.std.proofs.Common.{◌≡◌, ◌≢◌, ℕ, zero, suc, ◌+◌, ◌*◌, ◌<◌, ◌≤◌, inl, inr, Bool, true, false, not, ◌&&◌, ◌==◌, if◌then◌else◌, List, [], ◌∷◌, ◌++◌, length, get_or, set, refl, ap, sym, ◌∙◌, subst, arith, length-set, get_or-set_same, get_or-set_other, Option, Some, None}
+use Rattle.std.proofs.Common.{◌≡◌, ◌≢◌, ℕ, zero, suc, ◌+◌, ◌*◌, ◌<◌, inl, inr, Bool, true, false, not, ◌&&◌, ◌==◌, if◌then◌else◌, List, length, get_or, set, refl, ap, sym, ◌∙◌, subst, arith, length-set, get_or-set_same, get_or-set_other, Option, None}
 use Rattle.std.specs.Prelude.{◌||◌}
 use Rattle.std.proofs.lemmas.Bool.{cases_eq, cases_Bool, and_parts, eq-eqb, eqb-true}
 use Rattle.std.proofs.lemmas.List.{get_or_read}
@@ -24,7 +24,6 @@ use Rattle.slot_rings.proofs.RingLemmas.{index_within, put, symbols_are}
 use Rattle.fh_time.specs.declared.symbols.TheConstants.{SLOT_SYMBOLS}
 use Rattle.unit_model.proofs.ClaimLemmas.{some_same, some_not as some_at}
 use Rattle.fh_time.proofs.Orders.{both_ways as unequal}
-use Rattle.fh_time.specs.declared.carrier.TheConstants.{CARRIER_PRBS}
 
 -- ---- cells in use
 
@@ -207,19 +206,6 @@ flagged_told r flags new i symbol p q all flagged within read size others claims
     still : (s : ℕ) → flag_at flags i s ≡ false → due_in r.endpoint.prbs q s ≡ false
     still s off = reported_quiet r.endpoint.prbs s p q claims more (ap (λ (x : PlaceValue). due_in r.endpoint.prbs x s) there ∙ flagged.quiet i s off)
 
-pub flagged_empty : (r : RingValue) (flags : List (List Bool)) → length flags ≡ length r.places → ((i : ℕ) → (get_or r.places i blank).down ≡ []) → IsFlagged r flags
-flagged_empty r flags size empty = record {
-  size = size;
-  quiet = λ i s off. due_wiped r.endpoint.prbs s (get_or r.places i blank) (λ k. ap (λ (l : List CellClaims). get_or l k no_claims) (empty i));
-}
-
-pub downs_pushed : (xs : List PlaceValue) (p : PlaceValue) → ((i : ℕ) → (get_or xs i blank).down ≡ []) → p.down ≡ []
-    → (i : ℕ) → (get_or (xs ++ p ∷ []) i blank).down ≡ []
-downs_pushed [] p all is zero = is
-downs_pushed [] p all is (suc i) = refl
-downs_pushed (x ∷ xs) p all is zero = all zero
-downs_pushed (x ∷ xs) p all is (suc i) = downs_pushed xs p (λ j. all (suc j)) is i
-
 -- ---- a symbol of a slot
 
 pub due_elsewhere : (r : RingValue) (ep : ℕ) (slot : Slot) (s : ℕ) → has_slot r slot ≡ false → ring_due r ep slot s ≡ false
@@ -272,19 +258,3 @@ no_flags_at r v flags ep slot s i same ring flagged at none within =
     off =
         ap (λ (k : ℕ). flag_at flags k s) (ap (λ (x : RingValue). place_index x slot) same ∙ at)
         ∙ none s (omega (arith, symbols_are r.endpoint.numerology, below))
-
--- ---- a ring of places that are no slot's
-
-pub fresh_ring : (r : RingValue) (slots : ℕ) → length r.places ≡ slots → 1 ≤ slots → slots < 1024 → 1 ≤ r.endpoint.prbs → r.endpoint.prbs ≤ CARRIER_PRBS
-    → ((i : ℕ) → (get_or r.places i blank).slot ≡ None) → ((i : ℕ) → i < length r.places → (get_or r.places i blank).prbs ≡ r.endpoint.prbs) → IsRing r
-fresh_ring r slots len one few prbs_some prbs_few none prbs = record {
-  some = omega (arith, len, one);
-  few = omega (arith, len, few);
-  prbs_some = prbs_some;
-  prbs_few = prbs_few;
-  widths = prbs;
-  homes = λ i s below is. absurd (no_slot s (sym (none i) ∙ is));
-}
-  where
-    no_slot : (s : Slot) → None ≡ Some s → ⊥
-    no_slot s e = cc

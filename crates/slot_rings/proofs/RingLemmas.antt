@@ -1,5 +1,5 @@
 -- The ring: a call changes one place.
-use Rattle.std.proofs.Common.{◌≡◌, ℕ, ℤ, pos, negsuc, zero, suc, ◌+◌, ◌<◌, ◌≤◌, inl, inr, Bool, true, false, List, [], ◌∷◌, ◌++◌, length, get_or, set, refl, ap, ap₂, not, ◌==◌, sym, ◌∙◌, subst, arith, length-set, get_or-set_same, get_or-set_other, Option, Some, None, if◌then◌else◌}
+use Rattle.std.proofs.Common.{◌≡◌, ℕ, ℤ, pos, negsuc, ◌+◌, ◌<◌, ◌≤◌, inl, inr, Bool, true, false, length, get_or, set, refl, ap, ap₂, not, ◌==◌, sym, ◌∙◌, subst, arith, length-set, get_or-set_same, get_or-set_other, Option, Some, None, if◌then◌else◌}
 use Rattle.std.specs.Int.{int_gap, int_rem_euclid}
 use Rattle.std.specs.Prelude.{◌||◌}
 use Rattle.std.proofs.lemmas.Bool.{cases_eq, cases_Bool, false_from_ne_true}
@@ -288,19 +288,3 @@ module _ (old new : RingValue) (slot : Slot) (ring : IsRing old) (only : new ≡
 pub ring_accepted : (r : RingValue) (a : Allocation) → a.endpoint ≡ r.endpoint → verdict_by (ring_claim r) (length (ring_uplink r a.slot)) a ≡ Accepted
     → verdict_by (place_claim a.endpoint.prbs (place_of r a.slot)) (length (place_uplink (place_of r a.slot) a.slot)) a ≡ Accepted
 ring_accepted r a is accepted = verdict_seen r a a.endpoint.prbs (place_of r a.slot) refl (ap (λ e. e.prbs) is) ∙ accepted
-
--- ---- a ring of places that are no slot's
-
-pub slots_pushed : (xs : List PlaceValue) (p : PlaceValue) → ((i : ℕ) → (get_or xs i blank).slot ≡ None) → p.slot ≡ None
-    → (i : ℕ) → (get_or (xs ++ p ∷ []) i blank).slot ≡ None
-slots_pushed [] p all is zero = is
-slots_pushed [] p all is (suc i) = refl
-slots_pushed (x ∷ xs) p all is zero = all zero
-slots_pushed (x ∷ xs) p all is (suc i) = slots_pushed xs p (λ j. all (suc j)) is i
-
-pub prbs_pushed : (xs : List PlaceValue) (p : PlaceValue) (n : ℕ) → ((i : ℕ) → i < length xs → (get_or xs i blank).prbs ≡ n) → p.prbs ≡ n
-    → (i : ℕ) → i < length xs + 1 → (get_or (xs ++ p ∷ []) i blank).prbs ≡ n
-prbs_pushed [] p n all is zero below = is
-prbs_pushed [] p n all is (suc i) below = absurd (omega arith)
-prbs_pushed (x ∷ xs) p n all is zero below = all zero (omega arith)
-prbs_pushed (x ∷ xs) p n all is (suc i) below = prbs_pushed xs p n (λ j b. all (suc j) (omega arith)) is i (omega arith)

@@ -1,5 +1,5 @@
 -- The ticks from which on the places may have cells to report, as a ring changes.
-use Rattle.std.proofs.Common.{◌≡◌, ◌≢◌, ℕ, ℤ, ◌<◌, ◌≤◌, ◌≤ℤ◌, inl, inr, Bool, true, false, not, ◌&&◌, List, pos, length, get_or, set, refl, ap, sym, ◌∙◌, subst, arith, length-set, get_or-set_same, get_or-set_other, Some, None}
+use Rattle.std.proofs.Common.{◌≡◌, ◌≢◌, ℕ, ℤ, ◌<◌, ◌≤◌, ◌≤ℤ◌, inl, inr, Bool, true, false, not, ◌&&◌, List, pos, length, get_or, set, refl, ap, sym, ◌∙◌, subst, arith, length-set, get_or-set_same, get_or-set_other, Some}
 use Rattle.std.proofs.lemmas.Bool.{and_parts, cases_Bool, cases_eq, cases_lt}
 use Rattle.std.proofs.lemmas.List.{get_or_read}
 use Rattle.fh_time.specs.Air.{air_of}
@@ -134,16 +134,6 @@ first_starts r flags i first t flagged none from s slot is few due = elim (cases
       (flagged.quiet i s (none s before (omega (arith, symbols_are r.endpoint.numerology, few)))))
   | inr past ↦ from slot s is few (omega (arith, past))
 ]
-
--- no place is a slot's yet
-pub starts_fresh : (r : RingValue) (starts : List Ticks) → length starts ≡ length r.places → ((i : ℕ) → (get_or r.places i blank).slot ≡ None) → HaveStarts r starts
-starts_fresh r starts size none = record {
-  size = size;
-  each = λ i below s slot is. absurd (no_slot slot (sym (none i) ∙ is));
-}
-  where
-    no_slot : (s : Slot) → None ≡ Some s → ⊥
-    no_slot s e = cc
 
 -- ---- what a ring answers
 

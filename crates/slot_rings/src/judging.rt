@@ -1,5 +1,5 @@
 // Allocations against the claims of their slot.
-ghost use Rattle.std.specs.Prelude.{◌≡◌, ℕ, ◌+◌, ◌*◌, ◌^◌, ◌<◌, ◌≤◌, ◌&&◌, false, get_or, vec_capacity, vec_len, if◌then◌else◌, Some};
+ghost use Rattle.std.specs.Prelude.{◌≡◌, ◌≢◌, ℕ, ◌+◌, ◌*◌, ◌^◌, ◌<◌, ◌≤◌, ◌&&◌, false, get_or, vec_capacity, vec_len, if◌then◌else◌, Some};
 ghost use Rattle.fh_time.specs.Carrier.{is_outside};
 ghost use Rattle.unit_model.specs.Claims.{first_prb, prb_count, cell_of, in_mask, is_from, is_claimed, is_overlapped, claim_of};
 ghost use Rattle.unit_model.specs.Commands.{is_uplink};
@@ -182,6 +182,20 @@ fn claim_fresh(claims: &mut Vec<CellClaims>, from: usize, count: usize, a: &Allo
     put_all(claims, from, count, NONE, one);
 }
 
+/// Claims one cell, whatever was claimed of it.
+fn claim_one(claims: &mut Vec<CellClaims>, k: usize, a: &Allocation)
+    requires within { k < vec_len claims.old }
+    requires free { is_overlapped a.now.section a.now.mask (claim_in (get_or claims.old.items k no_claims)) ≡ false }
+    ensures here { (re : ℕ) → re < 12 → claim_in (get_or claims.new.items k no_claims) re
+        ≡ (if in_mask a.now.mask re then Some (claim_of a.now) else claim_in (get_or claims.old.items k no_claims) re) }
+    ensures others { (i : ℕ) → i ≢ k → get_or claims.new.items i no_claims ≡ get_or claims.old.items i no_claims }
+    ensures reported { (i : ℕ) → is_reported claims.new.items i ≡ is_reported claims.old.items i }
+    ensures len { vec_len claims.new ≡ vec_len claims.old }
+    ensures capacity { vec_capacity claims.old ≤ vec_capacity claims.new }
+{
+    claims[k] = claims[k].with(a.section, a.mask, a.idle);
+}
+
 /// Claims the cells from number `from` on, whatever was claimed of them.
 fn claim_more(claims: &mut Vec<CellClaims>, from: usize, count: usize, a: &Allocation)
     requires room { from + count ≤ vec_capacity claims.old }
@@ -196,7 +210,7 @@ fn claim_more(claims: &mut Vec<CellClaims>, from: usize, count: usize, a: &Alloc
 {
     reach(claims, from + count, NONE);
     for k in from..from + count {
-        claims[k] = claims[k].with(a.section, a.mask, a.idle);
+        claim_one(claims, k, a);
     }
 }
 

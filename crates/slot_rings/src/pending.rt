@@ -35,12 +35,8 @@ impl Flags {
         requires { places < 1024 }
         ensures { IfOk result (λ f. length f ≡ places) }
     {
-        let mut symbols = Vec::with_capacity(alloc, places)?;
-        let mut counts = Vec::with_capacity(alloc, places)?;
-        for _k in 0..places {
-            symbols.push([false; SLOT_SYMBOLS])?;
-            counts.push(0)?;
-        }
+        let symbols = vec![in alloc; [false; SLOT_SYMBOLS]; places]?;
+        let counts = vec![in alloc; 0; places]?;
         Ok(Flags {
             symbols,
             places: counts,

@@ -1,5 +1,5 @@
 // The ring of places.
-ghost use Rattle.std.specs.Prelude.{◌≡◌, ◌≢◌, ℕ, ◌+◌, ◌*◌, ◌<◌, ◌≤◌, ◌||◌, ◌↔◌, true, false, [], length, get_or, reverse, is_some, IfOk, IfSome, None, Some, option_copied};
+ghost use Rattle.std.specs.Prelude.{◌≡◌, ◌≢◌, ℕ, ◌+◌, ◌*◌, ◌<◌, ◌≤◌, ◌||◌, ◌↔◌, true, false, [], length, get_or, replicate, reverse, is_some, IfOk, IfSome, None, Some, option_copied};
 ghost use Rattle.bfp_codec.specs.Layout.{HasWidth};
 ghost use Rattle.fh_time.specs.declared.values.Slot.{Slot};
 ghost use Rattle.fh_time.specs.Numbering.{symbols_of};
@@ -8,7 +8,7 @@ ghost use Rattle.unit_model.specs.Lists.{every, some, or_else};
 ghost use Rattle.unit_model.specs.Proper.{IsSlot};
 ghost use Rattle.unit_model.specs.declared.cells.Cell.{Cell};
 ghost use Rattle.unit_model.specs.declared.verdicts.CommandVerdict.TheVariants.{Accepted};
-ghost use Rattle.slot_rings.specs.Places.{blank, claim_in, no_claims, is_place_of, is_due, is_in_use, is_reported, unreported, IsOpened, place_claim, place_uplink, cell_number};
+ghost use Rattle.slot_rings.specs.Places.{blank, claim_in, empty_place, no_claims, is_place_of, is_due, is_in_use, is_reported, unreported, IsOpened, place_claim, place_uplink, cell_number};
 ghost use Rattle.slot_rings.specs.Runs.{packed_block, packed_samples};
 ghost use Rattle.slot_rings.specs.Verdicts.{verdict_by, claim_after, uplink_after};
 ghost use Rattle.fh_time.specs.declared.symbols.TheConstants.{SLOT_SYMBOLS};
@@ -61,6 +61,19 @@ impl Model for SlotRing {
         × HaveStarts (record { endpoint = r.endpoint; places = r.places.items }) r.starts };
 }
 
+/// Takes all memory of so many places, each for so many PRBs.
+fn empty_places(alloc: Global, count: usize, prbs: u16) -> Result<Vec<Place>, NoMemory>
+    requires { prbs ≤ CARRIER_PRBS }
+    ensures { IfOk result (λ v. v.items ≡ replicate count (empty_place None prbs)) }
+{
+    let mut places = Vec::with_capacity(alloc, count)?;
+    for _k in 0..count {
+        let place = Place::make(alloc, prbs)?;
+        places.push(place)?;
+    }
+    Ok(places)
+}
+
 impl SlotRing {
     ghost use Rattle.slot_rings.specs.Starts.{IsDueFrom, StartsFrom};
     ghost use Rattle.slot_rings.specs.Symbols.{AreCellsOf};
@@ -76,11 +89,7 @@ impl SlotRing {
         ensures size { IfOk result (λ r. length r.places ≡ slots) }
         ensures empty { IfOk result (λ r. IsEmpty r) }
     {
-        let mut places = Vec::with_capacity(alloc, slots)?;
-        for _k in 0..slots {
-            let place = Place::make(alloc, endpoint.prbs)?;
-            places.push(place)?;
-        }
+        let places = empty_places(alloc, slots, endpoint.prbs)?;
         let pending = Flags::make(alloc, slots)?;
         let starts = Starts::make(alloc, slots)?;
         Ok(SlotRing {

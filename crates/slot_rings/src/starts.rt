@@ -75,10 +75,7 @@ impl Starts {
     pub(crate) fn make(alloc: Global, places: usize) -> Result<Starts, NoMemory>
         ensures { IfOk result (λ s. length s ≡ places) }
     {
-        let mut starts = Vec::with_capacity(alloc, places)?;
-        for _k in 0..places {
-            starts.push(NEVER)?;
-        }
+        let starts = vec![in alloc; NEVER; places]?;
         let earliest = earliest_of(starts.as_slice());
         Ok(Starts {
             places: starts,
