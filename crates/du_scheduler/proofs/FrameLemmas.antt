@@ -27,7 +27,7 @@ use Rattle.plan_model.specs.declared.streams.Stream.{Stream}
 use Rattle.plan_model.specs.declared.streams.Stream.TheVariants.{DownCommands, UpCommands, DownData, UpData}
 use Rattle.frame_bytes.specs.Messages.{MessageFits, message_size}
 use Rattle.schedule_laws.proofs.ListLemmas.{at_in}
-use Rattle.schedule_laws.proofs.PackLemmas.{message_from}
+use Rattle.schedule_laws.proofs.PackLemmas.{message_from, all_few}
 use Rattle.schedule_laws.proofs.SentLemmas.{IsSentStream, message_part, part_is, sent_is}
 use Rattle.frame_bytes.specs.Cuts.{piece_frame}
 use Rattle.sent_frames.specs.Frames.{bytes_in, command_bytes, fragment_bytes, sent_bytes}
@@ -44,8 +44,7 @@ use Rattle.sent_frames.proofs.MessageFacts.{IsGoodMessage, IsGoodPart, good_mess
 use Rattle.du_scheduler.specs.Kept.{placed_line}
 use Rattle.du_scheduler.specs.declared.kept.PlacedLine.{PlacedLine}
 use Rattle.du_scheduler.specs.Written.{IsData, StandIn, StandsAt, message_sections}
-use Rattle.du_scheduler.proofs.FewLemmas.{all_few}
-use Rattle.du_scheduler.proofs.PlaceLemmas.{line_place}
+use Rattle.schedule_laws.proofs.PlannedLemmas.{line_place}
 use Rattle.window_config.specs.declared.config.TheConstants.{MESSAGE_SECTIONS}
 use Rattle.fh_time.specs.declared.symbols.TheConstants.{SLOT_SYMBOLS}
 use Rattle.frame_bytes.specs.Headers.{carrier_of}

@@ -23,7 +23,7 @@ use Rattle.frame_order.specs.Runs.{IsOrderOf, endpoint_runs, gap_ticks, rests_of
 use Rattle.du_scheduler.proofs.OrderLemmas.{sent_is_in_order}
 use Rattle.du_scheduler.proofs.ProperLemmas.{messages_are_runs}
 use Rattle.du_scheduler.specs.Kept.{placed_line, HasMessage, message_in}
-use Rattle.du_scheduler.specs.TablePlans.{IsTabledPlan}
+use Rattle.schedule_laws.specs.TabledPlans.{IsTabledPlan}
 use Rattle.du_scheduler.specs.Tables.{IsKeptInTable, IsTable, AddsEndpoint}
 use Rattle.du_scheduler.specs.declared.kept.StreamParts.{StreamParts}
 use Rattle.du_scheduler.specs.declared.tables.Table.{Table}

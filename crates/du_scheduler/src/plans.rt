@@ -90,7 +90,7 @@ impl Plan {
     ghost use Rattle.frame_order.specs.Runs.{turn_of};
     ghost use Rattle.du_scheduler.specs.Plans.{Checks, GivesSent, HasToSend, IsLent, IsPlan, LeavesPlan, Writes};
     ghost use Rattle.du_scheduler.specs.After.{LeavesAfter};
-    ghost use Rattle.du_scheduler.specs.Touched.{Touches};
+    ghost use Rattle.schedule_laws.specs.Touched.{Touches};
     ghost use Rattle.std.specs.Borrow.{sem};
 
     /// The plan of lines that were tested, with all its frames to send.

@@ -5,7 +5,7 @@ ghost use Rattle.window_config.specs.declared.endpoints.EndpointConfig.{Endpoint
 ghost use Rattle.unit_model.specs.Proper.{IsAt};
 ghost use Rattle.frame_order.specs.Runs.{endpoint_runs, stream_runs};
 ghost use Rattle.du_scheduler.specs.Kept.{IsStreamParts};
-ghost use Rattle.du_scheduler.specs.TablePlans.{IsTabledPlan};
+ghost use Rattle.schedule_laws.specs.TabledPlans.{IsTabledPlan};
 ghost use Rattle.du_scheduler.specs.Tables.{AddsEndpoint};
 
 use crate::kept::{StreamParts, placed_lines};

@@ -10,7 +10,7 @@ ghost use Rattle.frame_order.specs.Turns.{stream_place};
 ghost use Rattle.fragment_laws.specs.Apart.{IsIn};
 ghost use Rattle.frame_order.specs.Runs.{gap_ticks, turn_of};
 ghost use Rattle.du_scheduler.specs.Kept.{placed_line};
-ghost use Rattle.du_scheduler.specs.TablePlans.{IsTabledPlan};
+ghost use Rattle.schedule_laws.specs.TabledPlans.{IsTabledPlan};
 
 use crate::kept::{PlacedLine, StreamParts};
 use crate::streams::add_endpoint;

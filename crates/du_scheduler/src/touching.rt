@@ -1,7 +1,7 @@
 //! Which slots the downlink lines of a plan touch.
 ghost use Rattle.std.specs.Prelude.{◌≡◌};
 ghost use Rattle.std.specs.List.{list_any};
-ghost use Rattle.du_scheduler.specs.Touched.{is_touching};
+ghost use Rattle.schedule_laws.specs.Touched.{is_touching};
 
 use fh_time::Slot;
 use plan_model::{PlannedLine, line_allocation};

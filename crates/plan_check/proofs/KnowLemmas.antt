@@ -1,5 +1,5 @@
 -- What the ring knows, and its verdicts.
-use Rattle.std.proofs.Common.{◌≡◌, ℕ, ◌+◌, ◌<◌, inl, inr, Bool, true, false, ◌&&◌, ◌==◌, nat_le, if◌then◌else◌, List, [], ◌∷◌, length, get_or, Option, Some, None, refl, ap, ap₂, sym, ◌∙◌, subst, arith}
+use Rattle.std.proofs.Common.{◌≡◌, ℕ, ◌+◌, ◌<◌, inl, inr, Bool, true, false, ◌&&◌, ◌==◌, nat_le, if◌then◌else◌, List, [], ◌∷◌, length, get_or, Option, Some, refl, ap, ap₂, sym, ◌∙◌, subst, arith}
 use Rattle.std.proofs.lemmas.Bool.{cases_Bool, and_from, eq-eqb}
 use Rattle.std.proofs.Math.Nat.{lt_of_lt_of_le}
 use Rattle.std.proofs.lemmas.Option.{same_Some}
@@ -8,7 +8,7 @@ use Rattle.fh_time.specs.Numbering.{symbols_of}
 use Rattle.fh_time.specs.declared.values.Slot.{Slot}
 use Rattle.window_config.specs.declared.endpoints.EndpointConfig.{EndpointConfig}
 use Rattle.unit_model.specs.Claims.{same_slot, claim_at, covers, names, repeats, overlaps, claim_of}
-use Rattle.unit_model.specs.Commands.{is_uplink, uplink_in, is_full, timely_verdict}
+use Rattle.unit_model.specs.Commands.{is_uplink, uplink_in, timely_verdict}
 use Rattle.unit_model.specs.Proper.{IsSlot}
 use Rattle.unit_model.specs.declared.allocations.Allocation.{Allocation}
 use Rattle.unit_model.specs.declared.cells.Cell.{Cell}
@@ -22,25 +22,17 @@ use Rattle.slot_rings.specs.Verdicts.{repeats_by, overlaps_by, verdict_by, claim
 use Rattle.slot_rings.proofs.PlaceLemmas.{of_is}
 use Rattle.slot_rings.proofs.RingLemmas.{index_within}
 use Rattle.plan_model.specs.Lines.{line_allocation}
-use Rattle.plan_model.specs.Validity.{is_out_of_range}
 use Rattle.plan_model.specs.declared.lines.PlannedLine.{PlannedLine}
-use Rattle.plan_model.specs.declared.refusals.PlanWhy.{PlanWhy}
-use Rattle.plan_model.specs.declared.refusals.PlanWhy.TheVariants.{Overlap, TooManySections}
-use Rattle.plan_parts.proofs.InsideLemmas.{inside_is, slot_inside}
-use Rattle.plan_check.specs.Judging.{IsLineOf, IsLineAt, Knows, why_in}
-use Rattle.plan_check.specs.Slots.{why_judged}
+use Rattle.schedule_laws.proofs.InsideLemmas.{inside_is, slot_of_line}
+use Rattle.schedule_laws.specs.SlotOrder.{IsSlotLine}
+use Rattle.plan_check.specs.Judging.{Knows}
 use Rattle.unit_model.specs.declared.uplink.TheConstants.{SLOT_SECTIONS}
 use Rattle.unit_model.proofs.ClaimLemmas.{within_carrier, slot_self as slot_own, from_within, covers_is}
-
--- ---- what it is to be in range
-
-pub slot_of_line : (e : EndpointConfig) (ep : ℕ) (p : PlannedLine) → IsLineOf e ep p → IsSlot p.endpoint.numerology p.line.slot
-slot_of_line e ep p is = slot_inside p is.ranges is.inside
 
 -- ---- verdicts
 
 -- the claims of what a line covers are known
-agree : (e : EndpointConfig) (ep : ℕ) (slot : Slot) (r : RingValue) (earlier : List Allocation) (p : PlannedLine) → Knows e ep slot r earlier → IsLineAt e ep slot p
+agree : (e : EndpointConfig) (ep : ℕ) (slot : Slot) (r : RingValue) (earlier : List Allocation) (p : PlannedLine) → Knows e ep slot r earlier → IsSlotLine e ep slot p
     → (cell : Cell) (re : ℕ) → covers (line_allocation p) cell ≡ true → re < 12 → ring_claim r cell re ≡ claim_at earlier cell re
 agree e ep slot r earlier p knows line cell re covered below =
     let is = covers_is (line_allocation p) cell covered in
@@ -55,7 +47,7 @@ agree e ep slot r earlier p knows line cell re covered below =
     })
     (sym is.ep ∙ line.of_endpoint.ep_is) (sym is.slot ∙ line.slot_is) below
 
-pub verdict_known : (e : EndpointConfig) (ep : ℕ) (slot : Slot) (r : RingValue) (earlier : List Allocation) (p : PlannedLine) → Knows e ep slot r earlier → IsLineAt e ep slot p
+pub verdict_known : (e : EndpointConfig) (ep : ℕ) (slot : Slot) (r : RingValue) (earlier : List Allocation) (p : PlannedLine) → Knows e ep slot r earlier → IsSlotLine e ep slot p
     → verdict_by (ring_claim r) (length (ring_uplink r p.line.slot)) (line_allocation p) ≡ timely_verdict earlier (line_allocation p)
 verdict_known e ep slot r earlier p knows line =
     let a = line_allocation p in
@@ -73,23 +65,9 @@ verdict_known e ep slot r earlier p knows line =
         else (if is_uplink (line_allocation p) && nat_le SLOT_SECTIONS m then verdict.Full else verdict.Accepted))) in v)
     go r1 r2 o1 o2 n m a b c = rw (a, b, c) refl
 
--- the reason by the verdict
-pub why_known : (earlier : List Allocation) (p : PlannedLine) → is_out_of_range p.endpoint p.line ≡ false
-    → why_judged earlier (line_allocation p) ≡ why_in (timely_verdict earlier (line_allocation p))
-why_known earlier p inside = go (is_outside p.endpoint.prbs p.line.start_prb p.line.num_prb) (repeats earlier (line_allocation p)) (overlaps earlier (line_allocation p)) (is_full earlier (line_allocation p)) (inside_is p inside).prbs
-  where
-    go : (x r o f : Bool) → x ≡ false
-        → (let w : Option PlanWhy = if r then Some Overlap else (if o then Some Overlap else (if f then Some TooManySections else None)) in w)
-        ≡ why_in (let v : CommandVerdict = if x then verdict.Range else (if r then verdict.Repeat else (if o then verdict.Overlap else (if f then verdict.Full else verdict.Accepted))) in v)
-    go true r o f h = cc
-    go false true o f h = refl
-    go false false true f h = refl
-    go false false false true h = refl
-    go false false false false h = refl
-
 -- ---- a line more
 
-pub knows_more : (e : EndpointConfig) (ep : ℕ) (slot : Slot) (old new : RingValue) (earlier : List Allocation) (p : PlannedLine) → Knows e ep slot old earlier → IsLineAt e ep slot p
+pub knows_more : (e : EndpointConfig) (ep : ℕ) (slot : Slot) (old new : RingValue) (earlier : List Allocation) (p : PlannedLine) → Knows e ep slot old earlier → IsSlotLine e ep slot p
     → ((cell : Cell) (re : ℕ) → IsRingCell old cell → cell.ep ≡ p.ep → cell.slot ≡ p.line.slot → re < 12
     → ring_claim new cell re ≡ claim_after verdict.Accepted (line_allocation p) cell re (ring_claim old cell re))
     → ring_uplink new p.line.slot ≡ uplink_after verdict.Accepted (line_allocation p) (ring_uplink old p.line.slot)

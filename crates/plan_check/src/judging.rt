@@ -7,11 +7,10 @@ ghost use Rattle.slot_rings.specs.Rings.{has_slot};
 ghost use Rattle.plan_model.specs.Lines.{line_allocation};
 ghost use Rattle.plan_model.specs.Validity.{why_claimed};
 ghost use Rattle.plan_model.specs.declared.lines.PlannedLine.{PlannedLine as SpecLine};
-ghost use Rattle.plan_parts.specs.Placing.{ArePlaced, IsPlaced};
+ghost use Rattle.schedule_laws.specs.PlacedLines.{ArePlaced, IsPlaced};
 ghost use Rattle.fragment_laws.specs.Apart.{IsIn};
-ghost use Rattle.plan_check.specs.Judging.{Covers, IsFirstRun, IsLineAt, IsLineOf, ep_of, why_of};
-ghost use Rattle.plan_check.specs.Order.{ArePlannedInOrder};
-ghost use Rattle.plan_check.specs.Slots.{entry_of, judged, least_along, lesser_refusal, numbered_lines, refused_along};
+ghost use Rattle.schedule_laws.specs.SlotTests.{Covers, entry_of, judged, least_along, lesser_refusal, numbered_lines, refused_along, why_of};
+ghost use Rattle.schedule_laws.specs.SlotOrder.{ArePlannedInOrder, IsEndpointLine, IsFirstRun, IsSlotLine, ep_of};
 
 use crate::sorting::{lines_of, sort_by_slot};
 use fh_base::NoMemory;
@@ -46,8 +45,8 @@ fn judge_slot(
 ) -> Option<(usize, PlanWhy)>
     requires one { length ring.old.places ≡ 1 }
     requires free { has_slot ring.old first.now.line.slot ≡ false }
-    requires slot { IsLineAt ring.old.endpoint first.now.ep first.now.line.slot first.now }
-    requires lines { AllByRecursion (IsLineAt ring.old.endpoint first.now.ep first.now.line.slot) lines.now }
+    requires slot { IsSlotLine ring.old.endpoint first.now.ep first.now.line.slot first.now }
+    requires lines { AllByRecursion (IsSlotLine ring.old.endpoint first.now.ep first.now.line.slot) lines.now }
     ensures value { result ≡ judged lines.now }
     ensures endpoint { ring.new.endpoint ≡ ring.old.endpoint }
     ensures one { length ring.new.places ≡ 1 }
@@ -93,7 +92,7 @@ fn lesser(a: Option<(usize, PlanWhy)>, b: Option<(usize, PlanWhy)>) -> Option<(u
 fn judge_slots(ring: &mut SlotRing, lines: &[PlannedLine]) -> Option<(usize, PlanWhy)>
     requires one { length ring.old.places ≡ 1 }
     requires free { (slot : SpecSlot) → has_slot ring.old slot ≡ false }
-    requires lines { AllByRecursion (IsLineOf ring.old.endpoint (ep_of lines.now)) lines.now }
+    requires lines { AllByRecursion (IsEndpointLine ring.old.endpoint (ep_of lines.now)) lines.now }
     requires order { ArePlannedInOrder lines.now }
     ensures { result ≡ least_along lines.now None lines.now }
 {
@@ -110,7 +109,7 @@ fn judge_slots(ring: &mut SlotRing, lines: &[PlannedLine]) -> Option<(usize, Pla
 /// The least of what the slots of an endpoint's lines refuse, which stand in the order of slots.
 fn judge_own(alloc: Global, own: &[PlannedLine]) -> Result<Option<(usize, PlanWhy)>, NoMemory>
     requires endpoint { (p : SpecLine) → IsIn p own.now → IsEndpoint p.endpoint }
-    requires lines { (p : SpecLine) → IsIn p own.now → AllByRecursion (IsLineOf p.endpoint (ep_of own.now)) own.now }
+    requires lines { (p : SpecLine) → IsIn p own.now → AllByRecursion (IsEndpointLine p.endpoint (ep_of own.now)) own.now }
     requires order { ArePlannedInOrder own.now }
     ensures { IfOk result (λ least. least ≡ least_along own.now None own.now) }
 {

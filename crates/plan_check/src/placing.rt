@@ -1,6 +1,6 @@
 // The tests of a line by itself.
 ghost use Rattle.std.specs.Prelude.{◌≡◌, ◌<◌, length, slice_get, IfOk, Some};
-ghost use Rattle.plan_check.specs.Placed.{placed_from, placing, stopped_from};
+ghost use Rattle.schedule_laws.specs.PlacedLines.{placed_from, placing, stopped_from};
 ghost use Rattle.plan_model.specs.Lines.{planned_at};
 
 use fh_base::{List, NoMemory};

@@ -2,8 +2,8 @@
 ghost use Rattle.std.specs.Prelude.{◌≡◌, ℕ, length, take, get_or, ◌<◌, ◌≤◌, false, filter, ◌==◌, List as SpecList, IfOk, OnOk};
 ghost use Rattle.std.specs.List.{AllByRecursion};
 ghost use Rattle.plan_model.specs.declared.lines.PlannedLine.{PlannedLine as SpecLine};
-ghost use Rattle.plan_check.specs.Order.{ArePlannedInOrder, comes_first, slot_cmp};
-ghost use Rattle.plan_check.specs.Slots.{of_home};
+ghost use Rattle.schedule_laws.specs.SlotOrder.{ArePlannedInOrder, comes_first, slot_cmp};
+ghost use Rattle.schedule_laws.specs.SlotTests.{of_home};
 
 use fh_base::NoMemory;
 use plan_model::PlannedLine;

@@ -7,10 +7,9 @@ ghost use Rattle.window_config.specs.Plans.{IsPlanLine};
 ghost use Rattle.window_config.specs.declared.endpoints.EndpointConfig.{EndpointConfig as SpecEndpoint};
 ghost use Rattle.plan_model.specs.Dense.{dense, dense_from, dense_in, lesser, sendings};
 ghost use Rattle.plan_model.specs.Valid.{plan_refusal};
-ghost use Rattle.plan_check.specs.Answers.{Answers, distance_of};
-ghost use Rattle.plan_parts.specs.Placing.{ArePlaced, IsPlaced};
-ghost use Rattle.plan_parts.specs.Parts.{HasEndpoint};
-ghost use Rattle.plan_check.specs.Walks.{stream_of};
+ghost use Rattle.plan_check.specs.Answers.{Answers};
+ghost use Rattle.schedule_laws.specs.DenseWays.{distance_of, stream_of};
+ghost use Rattle.schedule_laws.specs.PlacedLines.{ArePlaced, HasEndpoint, IsPlaced};
 
 use crate::judging::judge_lines;
 use crate::placing::place_lines;

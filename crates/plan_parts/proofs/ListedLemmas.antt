@@ -13,8 +13,8 @@ use Rattle.unit_model.specs.Proper.{IsSlot}
 use Rattle.unit_model.proofs.SweepLaws.{each_split}
 use Rattle.plan_model.specs.declared.streams.Stream.{Stream}
 use Rattle.plan_model.specs.declared.streams.Stream.TheVariants.{DownCommands, UpCommands, DownData, UpData}
-use Rattle.plan_parts.specs.Placing.{ArePlaced}
-use Rattle.plan_parts.proofs.InsideLemmas.{inside_is, slot_inside}
+use Rattle.schedule_laws.specs.PlacedLines.{ArePlaced}
+use Rattle.schedule_laws.proofs.InsideLemmas.{inside_is, slot_inside}
 use Rattle.unit_model.specs.Claims.{is_from}
 use Rattle.unit_model.specs.Lists.{each}
 use Rattle.unit_model.specs.Sweeps.{slot_at}

@@ -31,15 +31,16 @@ use Rattle.plan_model.specs.declared.streams.Stream.{Stream}
 use Rattle.plan_model.specs.declared.streams.Stream.TheVariants.{DownCommands, UpCommands, DownData, UpData}
 use Rattle.plan_model.proofs.ListLemmas.{of_filter, in_filter, all_in, all_from, all_map, filter_all, filter_mapped, filter_has}
 use Rattle.plan_model.proofs.TickLemmas.{nat_same, int_same}
-use Rattle.plan_parts.specs.Placing.{ArePlaced}
-use Rattle.plan_parts.specs.Parts.{is_up_data, part_symbols, timed, listed, prb_cmp, part_cmp, part_first, AreOrderedBy, HasEndpoint, IsTimed}
+use Rattle.schedule_laws.specs.PlacedLines.{ArePlaced, HasEndpoint}
+use Rattle.plan_parts.specs.Parts.{is_up_data, part_symbols, timed, listed, prb_cmp, part_cmp, part_first, IsTimed}
+use Rattle.schedule_laws.specs.Ordered.{AreOrderedBy}
 use Rattle.plan_parts.specs.Sweeping.{clock_of, is_at, parts_of_endpoint, IsPart, Precedes}
 use Rattle.plan_parts.specs.declared.parts.TimedPart.{TimedPart}
-use Rattle.plan_parts.proofs.ListLemmas.{filter_and, related_filter, related_map}
-use Rattle.plan_parts.proofs.InsideLemmas.{inside_is, size_small}
+use Rattle.schedule_laws.proofs.FilterLemmas.{filter_and, related_filter, related_map}
+use Rattle.schedule_laws.proofs.InsideLemmas.{inside_is, size_small}
 use Rattle.plan_parts.proofs.ListedLemmas.{Named, named_is, listed_at, listed_few, few_symbols}
-use Rattle.plan_parts.proofs.OrderedLemmas.{ordered_same, in_order_ordered, in_order_keeps}
-use Rattle.plan_parts.proofs.OrderLemmas.{nat_equal, int_equal, then_equal}
+use Rattle.schedule_laws.proofs.OrderedLemmas.{ordered_same, in_order_ordered, in_order_keeps}
+use Rattle.std.proofs.lemmas.Map.Lookups.{exact_signed, exact_unsigned}
 use Rattle.plan_parts.proofs.SymbolLemmas.{filter_alike, AtSymbol, at_parts, start_at, sweeps_find_all}
 use Rattle.fh_time.specs.declared.frames.TheConstants.{FRAME}
 use Rattle.window_config.specs.declared.plan.TheConstants.{LAST_FRAME}
@@ -186,6 +187,11 @@ one_symbol : (x z : TimedPart) → x.start.0 ≡ z.start.0 → x.frame ≡ z.fra
 one_symbol x z s f b l y =
     rw (int_same x.start.0 z.start.0 s, int_same x.frame z.frame f, nat_same x.subframe z.subframe b, nat_same x.slot z.slot l, nat_same x.symbol z.symbol y) refl
 
+then_equal : (a b : Ordering) → ordering_then a b ≡ Equal → (a ≡ Equal) × (b ≡ Equal)
+then_equal Less b h = cc
+then_equal Equal b h = (refl, h)
+then_equal Greater b h = cc
+
 same_place : (x z : TimedPart) → part_cmp x z ≡ Equal → (x.frame ≡ z.frame) × (x.subframe ≡ z.subframe) × (x.slot ≡ z.slot) × (x.symbol ≡ z.symbol) × (prb_cmp x z ≡ Equal)
 same_place x z h =
     let a = then_equal (int_cmp x.start.0 z.start.0) _ h in
@@ -193,7 +199,7 @@ same_place x z h =
     let c = then_equal (nat_cmp x.subframe z.subframe) _ b.1 in
     let d = then_equal (nat_cmp x.slot z.slot) _ c.1 in
     let k = then_equal (nat_cmp x.symbol z.symbol) (prb_cmp x z) d.1 in
-    (int_equal x.frame z.frame b.0, nat_equal x.subframe z.subframe c.0, nat_equal x.slot z.slot d.0, nat_equal x.symbol z.symbol k.0, k.1)
+    (exact_signed x.frame z.frame b.0, exact_unsigned x.subframe z.subframe c.0, exact_unsigned x.slot z.slot d.0, exact_unsigned x.symbol z.symbol k.0, k.1)
 
 tie_parts : (stream : Stream) (e : EndpointConfig) (f : ℤ) (b l y : ℕ) (x z : TimedPart) → Fact stream e z
     → ties part_first (at_symbol e f b l y x) z ≡ (ties prb_first x z && is_at f b l y z)

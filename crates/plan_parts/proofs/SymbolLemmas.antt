@@ -14,7 +14,7 @@ use Rattle.plan_model.proofs.ListLemmas.{all_from, all_map, filter_none, filter_
 use Rattle.plan_model.proofs.TickLemmas.{ticks_same}
 use Rattle.plan_parts.specs.Sweeping.{of_key, timed_at, Clock, is_at, parts_of_symbol, parts_of_endpoint, IsPart, Precedes, AreOrdered, SweepsFindAll}
 use Rattle.plan_parts.specs.declared.parts.TimedPart.{TimedPart}
-use Rattle.plan_parts.proofs.ListLemmas.{filter_and, related_filter, related_map}
+use Rattle.schedule_laws.proofs.FilterLemmas.{filter_and, related_filter, related_map}
 use Rattle.plan_parts.proofs.SweepLemmas.{each_is_all, ticks_are_all}
 
 -- ---- filters

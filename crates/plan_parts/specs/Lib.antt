@@ -1,4 +1,3 @@
-pub mod Placing
 pub mod Sweeping
 pub mod Parts
 pub mod Keys

@@ -1,12 +1,10 @@
 -- The parts of an endpoint's messages, as they are listed and in their order (this project's means).
-use Rattle.std.specs.Prelude.{◌≡◌, ℕ, pos, neg_ℤ, ◌^◌, ◌≤◌, ◌≤ℤ◌, Bool, true, false, not, ◌&&◌, ◌==◌, if◌then◌else◌, List, [], ◌∷◌, ◌++◌}
+use Rattle.std.specs.Prelude.{ℕ, pos, neg_ℤ, ◌^◌, ◌≤◌, ◌≤ℤ◌, Bool, true, false, not, ◌&&◌, ◌==◌, if◌then◌else◌, List, [], ◌∷◌, ◌++◌}
 use Rattle.std.specs.Ordering.{nat_cmp, int_cmp, on, then_cmp, is_lt}
 use Rattle.std.specs.declared.cmp.Ordering.{Ordering}
-use Rattle.window_config.specs.declared.endpoints.EndpointConfig.{EndpointConfig}
 use Rattle.unit_model.specs.Commands.{is_uplink}
-use Rattle.unit_model.specs.Lists.{each, AreRelated}
+use Rattle.unit_model.specs.Lists.{each}
 use Rattle.unit_model.specs.declared.allocations.Allocation.{Allocation}
-use Rattle.fragment_laws.specs.Apart.{IsIn}
 use Rattle.plan_model.specs.Departures.{start_of_part}
 use Rattle.plan_model.specs.Lines.{line_allocation}
 use Rattle.plan_model.specs.Streams.{Part, part_in, section_size}
@@ -82,11 +80,3 @@ part_cmp = then_cmp (on (λ p. p.start.0) int_cmp) (then_cmp (on (λ p. p.frame)
 
 abbrev pub part_first : TimedPart → TimedPart → Bool
 part_first p q = is_lt (part_cmp p q)
-
--- by a test, none comes behind one that it puts behind
-abbrev pub AreOrderedBy : {X : Type 0} → (X → X → Bool) → List X → Type 0
-AreOrderedBy lt = AreRelated (λ p q. lt q p ≡ false)
-
--- the endpoint of lines with this index
-abbrev pub HasEndpoint : List PlannedLine → ℕ → EndpointConfig → Type 0
-HasEndpoint ps ep e = (p : PlannedLine) → IsIn p ps → p.ep ≡ ep → p.endpoint ≡ e

@@ -7,9 +7,10 @@ ghost use Rattle.window_config.specs.Endpoints.{IsEndpoint};
 ghost use Rattle.window_config.specs.declared.endpoints.EndpointConfig.{EndpointConfig as SpecEndpoint};
 ghost use Rattle.unit_model.specs.Proper.{IsSlot};
 ghost use Rattle.plan_model.specs.Streams.{part_in, parts_in};
-ghost use Rattle.plan_parts.specs.Placing.{ArePlaced};
+ghost use Rattle.schedule_laws.specs.PlacedLines.{ArePlaced, HasEndpoint};
 ghost use Rattle.plan_parts.specs.Keys.{key_of};
-ghost use Rattle.plan_parts.specs.Parts.{AreOrderedBy, HasEndpoint, IsTimed, is_sent, is_up_data, line_parts, listed, part_first, part_symbols, timed};
+ghost use Rattle.schedule_laws.specs.Ordered.{AreOrderedBy};
+ghost use Rattle.plan_parts.specs.Parts.{IsTimed, is_sent, is_up_data, line_parts, listed, part_first, part_symbols, timed};
 
 use fh_base::NoMemory;
 use fh_time::{Ticks, air};

@@ -1,10 +1,11 @@
 -- What the messages of some parts are of.
-use Rattle.std.proofs.Common.{◌≡◌, ℕ, suc, ◌+◌, ◌⊎◌, inl, inr, Bool, true, false, ◌&&◌, ◌==◌, nat_le, nat_lt, if◌then◌else◌, List, [], ◌∷◌, length, refl, ap, sym, ◌∙◌, subst, arith}
+use Rattle.std.proofs.Common.{◌≡◌, ℕ, suc, ◌+◌, ◌⊎◌, inl, inr, Bool, true, false, ◌&&◌, ◌==◌, nat_le, nat_lt, if◌then◌else◌, List, [], ◌∷◌, length, refl, ap, sym, ◌∙◌, subst, arith, ◌≤◌}
 use Rattle.std.proofs.lemmas.Bool.{cases_Bool, ltb-true}
 use Rattle.fragment_laws.specs.Apart.{IsIn}
 use Rattle.plan_model.specs.Packs.{PartFields, Message, Numbered, alone, frames_before, numbered, numbered_behind, packs, packs_behind, parts_of, same_symbol, size_of, takes, with_part}
 use Rattle.plan_model.proofs.ListLemmas.{in_left, in_right, in_either}
 use Rattle.ecpri_fragments.specs.declared.place.TheConstants.{MESSAGE_BYTES}
+use Rattle.plan_model.proofs.PackLemmas.{takes_room}
 
 module _ {P : Type 0} (f : PartFields P) (most : ℕ) where
   -- each part of a message is one of the parts
@@ -127,3 +128,7 @@ module _ {P : Type 0} (f : PartFields P) (frames : Message P → ℕ) where
 
   pub has_number : (ms : List (Message P)) (m : Message P) → IsIn m ms → (n : Numbered P) × IsIn n (numbered f frames ms) × (n.message ≡ m)
   has_number ms m i = has_numbered [] ms m i
+
+-- a message has no more parts than it may have
+pub all_few : {P : Type 0} (f : PartFields P) (most : ℕ) (ps : List P) (n : Message P) → 1 ≤ most → IsIn n (packs f most ps) → length (parts_of n) ≤ most
+all_few f most ps n some i = packs_hold f most (λ m. length (parts_of m) ≤ most) (λ m p h t. (takes_room f most m p t).parts) ps n (λ q k. some) i

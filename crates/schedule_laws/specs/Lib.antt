@@ -6,3 +6,10 @@ pub mod Commands
 pub mod Cells
 pub mod Least
 pub mod Singles
+pub mod Ordered
+pub mod PlacedLines
+pub mod SlotTests
+pub mod SlotOrder
+pub mod DenseWays
+pub mod Touched
+pub mod TabledPlans

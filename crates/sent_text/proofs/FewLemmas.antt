@@ -26,12 +26,12 @@ use Rattle.plan_model.specs.declared.lines.PlannedLine.{PlannedLine}
 use Rattle.plan_model.specs.declared.streams.Stream.{Stream}
 use Rattle.plan_model.specs.declared.streams.Stream.TheVariants.{DownCommands, UpCommands, DownData}
 use Rattle.plan_model.proofs.TickLemmas.{int_below, int_cases, ticks_same}
-use Rattle.plan_parts.specs.Parts.{HasEndpoint, listed, part_first, timed}
-use Rattle.plan_parts.specs.Placing.{ArePlaced}
-use Rattle.plan_parts.proofs.OrderedLemmas.{in_order_keeps, in_order_ordered}
+use Rattle.schedule_laws.specs.PlacedLines.{HasEndpoint, ArePlaced}
+use Rattle.plan_parts.specs.Parts.{listed, part_first, timed}
+use Rattle.schedule_laws.proofs.OrderedLemmas.{in_order_keeps, in_order_ordered}
 use Rattle.plan_parts.proofs.PartLemmas.{few_parts, part_ranks, parts_are}
-use Rattle.du_scheduler.specs.TablePlans.{IsTabledPlan}
-use Rattle.du_scheduler.proofs.TablePlanLemmas.{has_endpoint, placed, short}
+use Rattle.schedule_laws.specs.TabledPlans.{IsTabledPlan}
+use Rattle.schedule_laws.proofs.TabledLemmas.{has_endpoint, placed, short}
 use Rattle.frame_order.specs.Turns.{IsRun, rest_of, turns}
 use Rattle.frame_order.specs.declared.turns.Run.{Run}
 use Rattle.frame_order.specs.Runs.{endpoint_runs, gap_ticks, rests_of, run_of, runs_from, runs_of, stream_runs, turn_of}

@@ -20,7 +20,7 @@ use Rattle.frame_order.specs.declared.turns.Turn.{Turn}
 use Rattle.plan_model.specs.Sent.{SentFrame}
 use Rattle.plan_model.specs.Valid.{IsValid}
 use Rattle.plan_model.proofs.ListLemmas.{in_right}
-use Rattle.du_scheduler.specs.TablePlans.{IsTabledPlan}
+use Rattle.schedule_laws.specs.TabledPlans.{IsTabledPlan}
 use Rattle.du_scheduler.specs.Tables.{IsTable}
 use Rattle.du_scheduler.specs.declared.tables.Table.{Table}
 use Rattle.frame_order.specs.Runs.{turn_of}

@@ -15,7 +15,7 @@ use Rattle.unit_model.specs.Claims.{same_slot}
 use Rattle.unit_model.specs.Lists.{in_order}
 use Rattle.unit_model.specs.Order.{comes_before, slot_before}
 use Rattle.unit_model.specs.declared.symbol_start.SymbolStart.{SymbolStart}
-use Rattle.plan_parts.proofs.OrderedLemmas.{in_order_keeps, in_order_ordered, ordered_from, ordered_same}
+use Rattle.schedule_laws.proofs.OrderedLemmas.{in_order_keeps, in_order_ordered, ordered_from, ordered_same}
 use Rattle.explain_reasons.specs.Unused.{same_start}
 use Rattle.unused_lines.specs.Starts.{start_cmp, start_key}
 use Rattle.unused_lines.specs.declared.starts.StartKey.{StartKey}

@@ -20,8 +20,8 @@ use Rattle.unit_model.specs.Order.{comes_before}
 use Rattle.unit_model.specs.declared.symbol_start.SymbolStart.{SymbolStart}
 use Rattle.unit_model.proofs.ClaimLemmas.{same_slot_is, slot_self}
 use Rattle.plan_model.proofs.ListLemmas.{all_join, all_map, filter_all, filter_has, filter_same, kept_first}
-use Rattle.plan_parts.specs.Parts.{AreOrderedBy}
-use Rattle.plan_parts.proofs.OrderedLemmas.{ordered_from}
+use Rattle.schedule_laws.specs.Ordered.{AreOrderedBy}
+use Rattle.schedule_laws.proofs.OrderedLemmas.{ordered_from}
 use Rattle.reason_records.specs.Keys.{data_key, same_symbol}
 use Rattle.reason_records.specs.declared.data.DataRecord.{DataRecord}
 use Rattle.reason_records.specs.declared.keys.SymbolKey.{SymbolKey}

@@ -1,6 +1,6 @@
 use Rattle.std.proofs.Common.{ℕ, ◌+◌, ◌≤◌, List, sym, subst}
 use Rattle.plan_model.specs.declared.lines.PlannedLine.{PlannedLine}
-use Rattle.du_scheduler.proofs.LineLemmas.{Goes, goes_on, goes_all}
+use Rattle.schedule_laws.proofs.PlannedLemmas.{Goes, goes_on, goes_all}
 use Rattle.du_scheduler.proofs.keeping.planned_lines.Goals as goal
 
 pub loop-index-preserved : goal.loop-index-preserved

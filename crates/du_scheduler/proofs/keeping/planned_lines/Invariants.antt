@@ -1,4 +1,4 @@
-use Rattle.du_scheduler.proofs.LineLemmas.{Goes}
+use Rattle.schedule_laws.proofs.PlannedLemmas.{Goes}
 use Rattle.du_scheduler.proofs.keeping.planned_lines.Given as goal
 
 abbrev pub invariant-loop-index : goal.invariant-loop-index

@@ -4,7 +4,7 @@ use Rattle.std.specs.List.{AllByRecursion}
 use Rattle.plan_model.specs.Streams.{parts_in}
 use Rattle.plan_parts.specs.declared.parts.TimedPart.{TimedPart}
 use Rattle.du_scheduler.specs.Kept.{placed_line_of}
-use Rattle.du_scheduler.proofs.TablePlanLemmas.{placed, has_endpoint, short, few_of}
+use Rattle.schedule_laws.proofs.TabledLemmas.{placed, has_endpoint, short, few_of}
 use Rattle.du_scheduler.proofs.MessageLemmas.{lines_are}
 use Rattle.du_scheduler.proofs.streams.kept_stream.Goals as goal
 

@@ -1,8 +1,8 @@
 -- Its own lines, sorted.
 use Rattle.std.proofs.Common.{sym, subst, List}
 use Rattle.plan_model.specs.declared.lines.PlannedLine.{PlannedLine}
-use Rattle.plan_check.specs.Order.{ArePlannedInOrder}
-use Rattle.plan_check.proofs.EndpointLemmas.{Own, own_is, own_lines, own_endpoint, covers_own}
+use Rattle.schedule_laws.specs.SlotOrder.{ArePlannedInOrder}
+use Rattle.schedule_laws.proofs.EndpointTestLemmas.{Own, own_is, own_lines, own_endpoint, covers_own}
 use Rattle.plan_check.proofs.judging.judge_endpoint.Goals as goal
 
 pub judge_own-requires : goal.judge_own-requires

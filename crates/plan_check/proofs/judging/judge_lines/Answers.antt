@@ -1,6 +1,6 @@
 -- Endpoint after endpoint.
-use Rattle.plan_parts.proofs.PlacingLemmas.{are_placed}
-use Rattle.plan_check.proofs.EndpointLemmas.{found_start, found_more, found_all}
+use Rattle.schedule_laws.proofs.PlacedLemmas.{are_placed}
+use Rattle.schedule_laws.proofs.EndpointTestLemmas.{found_start, found_more, found_all}
 use Rattle.plan_check.proofs.judging.judge_lines.Goals as goal
 
 pub loop-ep-init : goal.loop-ep-init

@@ -1,4 +1,4 @@
-use Rattle.plan_check.proofs.EndpointLemmas.{Found}
+use Rattle.schedule_laws.proofs.EndpointTestLemmas.{Found}
 use Rattle.plan_check.proofs.judging.judge_lines.Given as goal
 
 abbrev pub invariant-loop-ep : goal.invariant-loop-ep

@@ -2,8 +2,8 @@
 use Rattle.std.proofs.Common.{sym, ◌∙◌, subst}
 use Rattle.std.specs.List.{AllByRecursion}
 use Rattle.window_config.specs.declared.endpoints.EndpointConfig.{EndpointConfig}
-use Rattle.plan_check.specs.Judging.{IsLineOf, ep_of}
-use Rattle.plan_check.proofs.EndpointLemmas.{first_in, none_is}
+use Rattle.schedule_laws.specs.SlotOrder.{IsEndpointLine, ep_of}
+use Rattle.schedule_laws.proofs.EndpointTestLemmas.{first_in, none_is}
 use Rattle.plan_check.proofs.judging.judge_own.Goals as goal
 
 pub returns-then-is_empty : goal.returns-then-is_empty
@@ -17,5 +17,5 @@ make-requires-clause-prbs_few c = (c.requires.endpoint _ (first_in c.args.own.no
 
 pub judge_slots-requires-clause-lines : goal.judge_slots-requires-clause-lines
 judge_slots-requires-clause-lines c =
-    subst (λ (e : EndpointConfig). AllByRecursion (IsLineOf e (ep_of c.args.own.now)) c.args.own.now) (sym c.in_ok-ring.ensures.endpoint)
+    subst (λ (e : EndpointConfig). AllByRecursion (IsEndpointLine e (ep_of c.args.own.now)) c.args.own.now) (sym c.in_ok-ring.ensures.endpoint)
     (c.requires.lines _ (first_in c.args.own.now c.index-own-0.result (sym c.is_empty.ensures ∙ c.if-is_empty.false)))

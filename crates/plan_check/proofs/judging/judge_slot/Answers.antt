@@ -2,7 +2,8 @@
 use Rattle.std.proofs.Common.{Some, refl, ap, ◌∙◌}
 use Rattle.plan_model.specs.declared.refusals.PlanWhy.{PlanWhy}
 use Rattle.plan_check.proofs.KnowLemmas.{others_free}
-use Rattle.plan_check.proofs.StepLemmas.{line_at, ring_slot, at_start, at_more, at_refused, at_end}
+use Rattle.schedule_laws.proofs.SlotWalkLemmas.{line_at, rest_end}
+use Rattle.plan_check.proofs.StepLemmas.{ring_slot, at_start, at_more, at_refused}
 use Rattle.plan_check.proofs.judging.judge_slot.Goals as goal
 
 pub loop-line-init : goal.loop-line-init
@@ -40,7 +41,7 @@ loop-line-preserved c =
     c.judge.ensures c.in-Accepted.is c.claim.ensures.claims c.claim.ensures.uplink c.claim.ensures.has c.claim.ensures.touches
 
 pub returns-clause-value : goal.returns-clause-value
-returns-clause-value c = at_end _ _ _ c.loop-line.ring c.args.lines.now c.loop-line.line-index c.loop-line.invariant c.loop-line-test.false
+returns-clause-value c = rest_end c.args.lines.now c.loop-line.line-index c.loop-line.invariant.rest c.loop-line-test.false
 
 pub returns-clause-others : goal.returns-clause-others
 returns-clause-others c = λ other apart. others_free c.loop-line.ring c.args.first.now.line.slot other c.loop-line.invariant.knows.one c.loop-line.invariant.knows.has apart

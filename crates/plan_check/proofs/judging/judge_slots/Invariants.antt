@@ -1,5 +1,5 @@
 use Rattle.std.proofs.Common.{length}
-use Rattle.plan_check.specs.Judging.{ep_of}
+use Rattle.schedule_laws.specs.SlotOrder.{ep_of}
 use Rattle.plan_check.proofs.WalkLemmas.{Left}
 use Rattle.plan_check.proofs.judging.judge_slots.Given as goal
 

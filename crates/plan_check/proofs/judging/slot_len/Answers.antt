@@ -1,6 +1,6 @@
 -- Line by line.
 use Rattle.std.proofs.Common.{sym, ◌∙◌}
-use Rattle.plan_check.proofs.WalkLemmas.{same_first, same_more, run_ends, run_whole}
+use Rattle.schedule_laws.proofs.SlotRunLemmas.{same_first, same_more, run_ends, run_whole}
 use Rattle.plan_check.proofs.judging.slot_len.Goals as goal
 
 pub loop-k-init : goal.loop-k-init

@@ -1,4 +1,4 @@
-use Rattle.plan_check.proofs.WalkLemmas.{SameTo}
+use Rattle.schedule_laws.proofs.SlotRunLemmas.{SameTo}
 use Rattle.plan_check.proofs.judging.slot_len.Given as goal
 
 abbrev pub invariant-loop-k : goal.invariant-loop-k

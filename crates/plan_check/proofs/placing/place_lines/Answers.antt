@@ -1,6 +1,6 @@
 -- Line by line.
 use Rattle.std.proofs.Common.{ℕ, ◌≤◌, sym, ◌∙◌, subst}
-use Rattle.plan_check.proofs.PlacedLemmas.{follows_start, follows_more, stops_at, ends_at, placed_whole}
+use Rattle.schedule_laws.proofs.PlacedLemmas.{follows_start, follows_more, stops_at, ends_at, placed_whole}
 use Rattle.plan_check.proofs.placing.place_lines.Goals as goal
 
 pub loop-index-init : goal.loop-index-init

@@ -1,4 +1,4 @@
-use Rattle.plan_check.proofs.PlacedLemmas.{Follows}
+use Rattle.schedule_laws.proofs.PlacedLemmas.{Follows}
 use Rattle.plan_check.proofs.placing.place_lines.Given as goal
 
 abbrev pub invariant-loop-index : goal.invariant-loop-index

@@ -1,8 +1,8 @@
 -- Endpoint after endpoint.
 use Rattle.std.proofs.Common.{◌<◌, ◌≤◌, length, List, subst}
 use Rattle.window_config.specs.declared.endpoints.EndpointConfig.{EndpointConfig}
-use Rattle.plan_parts.proofs.PlacingLemmas.{are_placed, has_endpoint, some_of}
-use Rattle.plan_check.proofs.PlanLemmas.{dense_more, dense_end}
+use Rattle.schedule_laws.proofs.PlacedLemmas.{are_placed, has_endpoint, some_of}
+use Rattle.schedule_laws.proofs.PlanTestLemmas.{dense_more, dense_end}
 use Rattle.plan_check.proofs.testing.direction_dense.Goals as goal
 
 pub endpoint_dense-requires-clause-lines : goal.endpoint_dense-requires-clause-lines

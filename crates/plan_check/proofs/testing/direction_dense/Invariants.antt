@@ -1,7 +1,6 @@
 use Rattle.std.proofs.Common.{◌≡◌, drop}
 use Rattle.plan_model.specs.Dense.{dense_from, lesser}
-use Rattle.plan_check.specs.Answers.{distance_of}
-use Rattle.plan_check.specs.Walks.{stream_of}
+use Rattle.schedule_laws.specs.DenseWays.{distance_of, stream_of}
 use Rattle.plan_check.proofs.testing.direction_dense.Given as goal
 
 abbrev pub invariant-loop-ep : goal.invariant-loop-ep

@@ -6,9 +6,9 @@ use Rattle.window_config.specs.declared.endpoints.EndpointConfig.{EndpointConfig
 use Rattle.plan_model.specs.Lines.{line_allocation}
 use Rattle.plan_model.specs.Valid.{dense_refused}
 use Rattle.plan_model.specs.declared.lines.PlannedLine.{PlannedLine}
-use Rattle.plan_check.specs.Slots.{entry_of, numbered_lines}
-use Rattle.plan_check.proofs.PlacedLemmas.{placed_numbered}
-use Rattle.plan_check.proofs.PlanLemmas.{placed_lines, placed_at, stop_at, tests_first, judged_first, stop_first, dense_last}
+use Rattle.schedule_laws.specs.SlotTests.{entry_of, numbered_lines}
+use Rattle.schedule_laws.proofs.PlacedLemmas.{placed_numbered, placed_lines}
+use Rattle.schedule_laws.proofs.PlanTestLemmas.{placed_at, stop_at, tests_first, judged_first, stop_first, dense_last}
 use Rattle.plan_check.proofs.testing.refusal.Goals as goal
 
 pub judge_lines-requires : goal.judge_lines-requires

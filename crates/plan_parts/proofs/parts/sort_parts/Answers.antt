@@ -1,7 +1,7 @@
 -- By what the sort ensures.
 use Rattle.std.proofs.Common.{rules}
 use Rattle.std.proofs.lemmas.List.Sorted.{answers_always, length_permutation}
-use Rattle.plan_parts.proofs.OrderedLemmas.{ordered_from}
+use Rattle.schedule_laws.proofs.OrderedLemmas.{ordered_from}
 use Rattle.plan_parts.proofs.PartLemmas.{part_ranks}
 use Rattle.plan_parts.specs.Keys.{key_of}
 use Rattle.plan_parts.specs.Parts.{part_first}

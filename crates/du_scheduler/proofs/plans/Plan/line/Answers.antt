@@ -1,7 +1,7 @@
 use Rattle.std.proofs.Common.{arith, Some, sym, ap, ◌∙◌}
 use Rattle.std.proofs.lemmas.Option.{slice_get-get_or}
 use Rattle.plan_model.specs.declared.lines.PlannedLine.{PlannedLine}
-use Rattle.du_scheduler.proofs.PlaceLemmas.{line_here, no_line}
+use Rattle.schedule_laws.proofs.PlannedLemmas.{line_here, no_line}
 use Rattle.du_scheduler.proofs.plans.Plan.line.Goals as goal
 
 pub returns-then-k-len : goal.returns-then-k-len

@@ -2,8 +2,8 @@ use Rattle.std.proofs.Common.{◌≡◌, List, ap, sym, ◌∙◌}
 use Rattle.std.specs.List.{list_any}
 use Rattle.plan_model.specs.Lines.{planned}
 use Rattle.plan_model.specs.declared.lines.PlannedLine.{PlannedLine}
-use Rattle.du_scheduler.specs.Touched.{is_touching}
-use Rattle.du_scheduler.proofs.TouchLemmas.{touch_found, touch_told}
+use Rattle.schedule_laws.specs.Touched.{is_touching}
+use Rattle.schedule_laws.proofs.TouchLemmas.{touch_found, touch_told}
 use Rattle.du_scheduler.proofs.plans.Plan.touches.Goals as goal
 
 pub returns : goal.returns

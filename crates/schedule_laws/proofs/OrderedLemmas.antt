@@ -8,13 +8,13 @@ use Rattle.std.proofs.lemmas.List.Sorted.{sorted_far}
 use Rattle.unit_model.specs.Lists.{put_in, in_order}
 use Rattle.fragment_laws.specs.Apart.{IsIn}
 use Rattle.plan_model.proofs.ListLemmas.{of_filter, in_filter, all_in, all_from, own_tie, kept_first}
-use Rattle.plan_parts.specs.Parts.{AreOrderedBy}
-use Rattle.plan_parts.proofs.ListLemmas.{all_index}
+use Rattle.schedule_laws.specs.Ordered.{AreOrderedBy}
+use Rattle.std.proofs.lemmas.List.Elements.{recursion_from_All}
 
 pub ordered_from : {X : Type 0} (lt : X → X → Bool) → IsStrictWeakOrder lt → (xs : List X) → IsSortedBy lt xs → AreOrderedBy lt xs
 ordered_from lt o [] h = tt
 ordered_from lt o (p ∷ ps) h = (
-  all_index (λ q. lt q p ≡ false) ps (λ k d below. sorted_far lt o (p ∷ ps) h 0 (suc k) d (omega arith) (omega (arith, below))),
+  recursion_from_All (λ q. lt q p ≡ false) ps (λ k d below. sorted_far lt o (p ∷ ps) h 0 (suc k) d (omega arith) (omega (arith, below))),
   ordered_from lt o ps (λ k d low high.
       let e : suc k + 1 ≡ suc (k + 1) = omega arith in
       subst (λ (n : ℕ). lt (get_or (p ∷ ps) n d) (get_or ps k d) ≡ false) e (h (suc k) d (omega arith) (omega (arith, high)))),

@@ -18,7 +18,7 @@ use Rattle.plan_model.specs.declared.lines.PlannedLine.{PlannedLine}
 use Rattle.plan_model.proofs.ClashLemmas.{bit_of, covers_own}
 use Rattle.plan_model.proofs.ListLemmas.{among, any_in}
 use Rattle.schedule_laws.proofs.LineLemmas.{line_good, line_proper}
-use Rattle.du_scheduler.specs.Touched.{NamesCell, Touches, is_touching}
+use Rattle.schedule_laws.specs.Touched.{NamesCell, Touches, is_touching}
 
 -- it names its first element
 names_first : (ep : ℕ) (slot : Slot) (p : PlannedLine) → IsProper (line_allocation p) → is_touching ep slot p ≡ true → NamesCell ep slot p

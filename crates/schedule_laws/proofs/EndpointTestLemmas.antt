@@ -14,14 +14,14 @@ use Rattle.plan_model.specs.declared.lines.PlannedLine.{PlannedLine}
 use Rattle.plan_model.specs.declared.refusals.PlanWhy.{PlanWhy}
 use Rattle.plan_model.proofs.ListLemmas.{of_filter, in_filter, all_in, all_from, filter_same, endpoint_is}
 use Rattle.plan_model.proofs.SizeLemmas.{some_prbs}
-use Rattle.plan_parts.specs.Placing.{ArePlaced, IsPlaced}
-use Rattle.plan_check.specs.Judging.{Covers, IsBefore, IsLineOf, ep_of}
-use Rattle.plan_check.specs.Slots.{IsFrom, AreProper, is_of_slot, judged, judged_in, of_home, lesser_refusal, least_along, entry_of, numbered_lines, refused_along, refused_in, why_judged}
-use Rattle.plan_check.proofs.GroupLemmas.{along_from, along_one, lesser_from, lesser_left, lesser_right, from_none, from_nothing, judged_is, some_line}
-use Rattle.plan_parts.proofs.InsideLemmas.{inside_is}
-use Rattle.plan_check.proofs.RunLemmas.{home_true}
-use Rattle.plan_parts.proofs.ListLemmas.{filter_and}
-use Rattle.plan_check.proofs.SlotLemmas.{least_is}
+use Rattle.schedule_laws.specs.PlacedLines.{ArePlaced, IsPlaced}
+use Rattle.schedule_laws.specs.SlotTests.{Covers, IsBefore, IsFrom, AreProper, is_of_slot, judged, judged_in, of_home, lesser_refusal, least_along, entry_of, numbered_lines, refused_along, refused_in, why_judged}
+use Rattle.schedule_laws.specs.SlotOrder.{IsEndpointLine, ep_of}
+use Rattle.schedule_laws.proofs.LeastSlotLemmas.{along_from, along_one, lesser_from, lesser_left, lesser_right, from_none, from_nothing, judged_is, some_line}
+use Rattle.schedule_laws.proofs.InsideLemmas.{inside_is}
+use Rattle.schedule_laws.proofs.SlotRunLemmas.{home_true}
+use Rattle.schedule_laws.proofs.FilterLemmas.{filter_and}
+use Rattle.schedule_laws.proofs.SlotTestLemmas.{least_is}
 
 -- ---- an endpoint's own lines, sorted
 
@@ -84,10 +84,10 @@ first_ep [] ep p m h = absurd m
 first_ep (x ∷ own) ep p m h = h x (inl refl)
 
 pub own_lines : (lines : List PlannedLine) (ep : ℕ) (own : List PlannedLine) → Own lines ep own → ArePlaced lines
-    → (p : PlannedLine) → IsIn p own → AllByRecursion (IsLineOf p.endpoint (ep_of own)) own
+    → (p : PlannedLine) → IsIn p own → AllByRecursion (IsEndpointLine p.endpoint (ep_of own)) own
 own_lines lines ep own o all p m =
     let first = o.inside p m in
-    all_from (IsLineOf p.endpoint (ep_of own)) own (λ q n.
+    all_from (IsEndpointLine p.endpoint (ep_of own)) own (λ q n.
     let there = o.inside q n in
     record {
       endpoint = all.same q p there.0 first.0 (there.1 ∙ sym first.1);

@@ -12,11 +12,10 @@ use Rattle.unit_laws.proofs.FarLemmas.{endpoints_equal}
 use Rattle.fragment_laws.specs.Apart.{IsIn}
 use Rattle.plan_model.specs.Lines.{planned, planned_from, planned_with}
 use Rattle.plan_model.specs.declared.lines.PlannedLine.{PlannedLine}
-use Rattle.plan_parts.specs.Parts.{HasEndpoint}
-use Rattle.plan_parts.specs.Placing.{ArePlaced}
+use Rattle.schedule_laws.specs.PlacedLines.{HasEndpoint, ArePlaced}
 use Rattle.schedule_laws.proofs.LineLemmas.{IsGoodLine, good}
 use Rattle.schedule_laws.proofs.PlanLemmas.{in_range, valid_tested}
-use Rattle.du_scheduler.specs.TablePlans.{IsTabledPlan}
+use Rattle.schedule_laws.specs.TabledPlans.{IsTabledPlan}
 use Rattle.window_config.specs.declared.plan.TheConstants.{PLAN_LINES}
 
 module _ (c : Config) (ps : List PlannedLine) (config : IsConfig c) (plan : IsTabledPlan c ps) where

@@ -1,6 +1,6 @@
--- The tests of lines by themselves, and those against earlier lines.
-use Rattle.std.proofs.Common.{◌≡◌, ℕ, zero, suc, ◌+◌, ◌≤◌, Bool, true, false, if◌then◌else◌, List, [], ◌∷◌, ◌++◌, length, map, drop, append_assoc, Option, Some, None, Result, Ok, Err, refl, ap, ap₂, sym, ◌∙◌, arith}
-use Rattle.std.specs.Prelude.{slice_get}
+-- The tests of lines by themselves, and those against earlier lines; lines that stand at endpoints of a list.
+use Rattle.std.proofs.Common.{◌≡◌, ℕ, zero, suc, ◌+◌, ◌≤◌, Bool, true, false, if◌then◌else◌, List, [], ◌∷◌, ◌++◌, length, map, drop, append_assoc, Option, Some, None, Result, Ok, Err, refl, ap, ap₂, sym, ◌∙◌, arith, ◌<◌, get_or, subst}
+use Rattle.std.specs.Prelude.{slice_get, All}
 use Rattle.std.proofs.lemmas.List.{append-nil, drop_all}
 use Rattle.window_config.specs.declared.endpoints.EndpointConfig.{EndpointConfig}
 use Rattle.window_config.specs.declared.plan.PlanLine.{PlanLine}
@@ -13,8 +13,17 @@ use Rattle.plan_model.specs.declared.lines.PlannedLine.{PlannedLine}
 use Rattle.plan_model.specs.declared.refusals.PlanWhy.{PlanWhy}
 use Rattle.plan_model.specs.declared.refusals.PlanWhy.TheVariants.{Range}
 use Rattle.std.specs.Option.{option_to_list}
-use Rattle.plan_check.specs.Placed.{why_alone, placing, placed_on, placed_from, stopped_from}
-use Rattle.plan_check.specs.Slots.{refused_along, numbered_lines, entry_of}
+use Rattle.schedule_laws.specs.PlacedLines.{why_alone, placing, placed_on, placed_from, stopped_from, IsPlaced, HasEndpoint, ArePlaced}
+use Rattle.schedule_laws.specs.SlotTests.{refused_along, numbered_lines, entry_of}
+use Rattle.std.specs.List.{AllByRecursion}
+use Rattle.std.proofs.lemmas.Option.{same_Some, get_or_from_slice_get}
+use Rattle.window_config.specs.Plans.{IsPlanLine}
+use Rattle.unit_model.specs.Proper.{IsAt}
+use Rattle.window_config.specs.Endpoints.{IsEndpoint}
+use Rattle.plan_model.proofs.ListLemmas.{all_in, endpoint_is}
+use Rattle.unit_laws.proofs.FarLemmas.{endpoints_equal}
+use Rattle.unit_laws.proofs.HistoryLemmas.{found_at}
+use Rattle.std.proofs.lemmas.List.Elements.{recursion_from_All}
 
 -- a line that is refused by itself is refused whatever stands before it; else it goes by these
 later_of : (k : ℕ) (w : Option PlanWhy) (x y : Option (ℕ × PlanWhy)) → or_else (refused_at k w x) y ≡ refused_at k w (or_else x y)
@@ -195,3 +204,53 @@ placed_whole es k lines placed stop f s = record {
 
 pub follows_start : (es : List EndpointConfig) (lines : List PlanLine) (placed : List PlannedLine) → placed ≡ [] → Follows es 0 lines placed
 follows_start es lines placed none = record { placed = ap (λ (xs : List PlannedLine). xs ++ placed_from es 0 lines) none; stopped = refl }
+
+-- ---- the lines that are placed
+
+planned_is : (es : List EndpointConfig) (k : ℕ) (line : PlanLine) (p : PlannedLine) → planned_at es k line ≡ Some p → IsAt es p.ep p.endpoint × (p.line ≡ line)
+planned_is es k line p h = go (find_endpoint es line.id) refl h
+  where
+    go : (o : Option (ℕ × EndpointConfig)) → find_endpoint es line.id ≡ o → planned_with k line o ≡ Some p → IsAt es p.ep p.endpoint × (p.line ≡ line)
+    go None e g = cc
+    go (Some (ep, f)) e g =
+        let is = same_Some (record { index = k; ep = ep; endpoint = f; line = line }) p g in
+        (subst (λ (q : PlannedLine). IsAt es q.ep q.endpoint) is (found_at es line.id ep f e), sym (ap (λ (q : PlannedLine). q.line) is))
+
+placed_each : (es : List EndpointConfig) (k : ℕ) (lines : List PlanLine) → AllByRecursion IsPlanLine lines → AllByRecursion (IsPlaced es) (placed_from es k lines)
+unfolding placed_from
+placed_each es k [] all = tt
+placed_each es k (line ∷ lines) all = go (planned_at es k line) (λ p h. planned_is es k line p h) (placed_each es (k + 1) lines all.1)
+  where
+    ranged : (p : PlannedLine) (t : Bool) → is_out_of_range p.endpoint p.line ≡ t → IsAt es p.ep p.endpoint → p.line ≡ line → AllByRecursion (IsPlaced es) (placed_from es (k + 1) lines)
+        → AllByRecursion (IsPlaced es) (let ps : List PlannedLine = if t then [] else p ∷ placed_from es (k + 1) lines in ps)
+    ranged p true e at is rest = tt
+    ranged p false e at is rest = (record { at = at; ranges = subst IsPlanLine (sym is) all.0; inside = e }, rest)
+
+    go : (o : Option PlannedLine) → ((p : PlannedLine) → o ≡ Some p → IsAt es p.ep p.endpoint × (p.line ≡ line)) → AllByRecursion (IsPlaced es) (placed_from es (k + 1) lines)
+        → AllByRecursion (IsPlaced es) (placed_on o (placed_from es (k + 1) lines))
+    go None h rest = tt
+    go (Some p) h rest = let r = h p refl in ranged p (is_out_of_range p.endpoint p.line) refl r.0 r.1 rest
+
+pub placed_lines : (es : List EndpointConfig) (lines : List PlanLine) (placed : List PlannedLine) → All IsPlanLine lines → placed ≡ placed_from es 0 lines → AllByRecursion (IsPlaced es) placed
+placed_lines es lines placed all is =
+    subst (λ (ps : List PlannedLine). AllByRecursion (IsPlaced es) ps) (sym is) (placed_each es 0 lines (recursion_from_All IsPlanLine lines all))
+
+-- ---- at endpoints
+
+pub are_placed : (es : List EndpointConfig) (lines : List PlannedLine) → All IsEndpoint es → AllByRecursion (IsPlaced es) lines → ArePlaced lines
+are_placed es lines ends all = record {
+  endpoint = λ p m. endpoint_is es p.ep p.endpoint ends (all_in (IsPlaced es) lines p all m).at;
+  same = λ p q m n e. endpoints_equal es p.ep q.ep p.endpoint q.endpoint (all_in (IsPlaced es) lines p all m).at (all_in (IsPlaced es) lines q all n).at e;
+  ranges = λ p m. (all_in (IsPlaced es) lines p all m).ranges;
+  inside = λ p m. (all_in (IsPlaced es) lines p all m).inside;
+}
+
+pub has_endpoint : (es : List EndpointConfig) (lines : List PlannedLine) (ep : ℕ) (d : EndpointConfig) → AllByRecursion (IsPlaced es) lines → HasEndpoint lines ep (get_or es ep d)
+has_endpoint es lines ep d all = λ p m e.
+    let is = all_in (IsPlaced es) lines p all m in
+    sym (ap (λ (i : ℕ). get_or es i d) (sym e) ∙ get_or_from_slice_get es p.ep p.endpoint d is.at)
+
+-- an endpoint, where there is one
+pub some_of : (es : List EndpointConfig) (k : ℕ) → k < length es → EndpointConfig
+some_of [] k below = absurd (omega (arith, below))
+some_of (e ∷ es) k below = e

@@ -8,7 +8,7 @@ use Rattle.plan_model.specs.Validity.{refused_at}
 use Rattle.plan_model.specs.declared.refusals.PlanWhy.{PlanWhy}
 use Rattle.plan_model.specs.Lines.{line_allocation}
 use Rattle.plan_model.specs.declared.lines.PlannedLine.{PlannedLine}
-use Rattle.plan_check.specs.Slots.{why_judged, refused_in, is_of_slot, IsFrom, lesser_refusal, numbered_lines, refused_of, entry_of, judged, of_home, judged_in, least_along}
+use Rattle.schedule_laws.specs.SlotTests.{why_judged, refused_in, is_of_slot, IsFrom, lesser_refusal, numbered_lines, refused_of, entry_of, judged, of_home, judged_in, least_along}
 
 -- ---- the lesser of two
 

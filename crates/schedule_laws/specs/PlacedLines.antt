@@ -1,13 +1,36 @@
--- The lines of a plan up to the first whose endpoint is unknown or that is out of its range, and that one (this project's means: the
+-- Lines of a plan at their endpoints, in their ranges, and those up to the first that is not so placed (this project's means: the
 -- other tests of a line need the lines before it).
-use Rattle.std.specs.Prelude.{ℕ, ◌+◌, if◌then◌else◌, List, [], ◌∷◌, Option, Some, None, Result, Ok, Err}
+use Rattle.std.specs.Prelude.{◌≡◌, false, List, ℕ, ◌+◌, if◌then◌else◌, [], ◌∷◌, Option, Some, None, Result, Ok, Err}
+use Rattle.window_config.specs.Endpoints.{IsEndpoint}
+use Rattle.window_config.specs.Plans.{IsPlanLine}
 use Rattle.window_config.specs.declared.endpoints.EndpointConfig.{EndpointConfig}
-use Rattle.window_config.specs.declared.plan.PlanLine.{PlanLine}
-use Rattle.plan_model.specs.Lines.{planned_at}
+use Rattle.unit_model.specs.Proper.{IsAt}
+use Rattle.fragment_laws.specs.Apart.{IsIn}
 use Rattle.plan_model.specs.Validity.{is_out_of_range, refused_at}
 use Rattle.plan_model.specs.declared.lines.PlannedLine.{PlannedLine}
+use Rattle.window_config.specs.declared.plan.PlanLine.{PlanLine}
+use Rattle.plan_model.specs.Lines.{planned_at}
 use Rattle.plan_model.specs.declared.refusals.PlanWhy.{PlanWhy}
 use Rattle.plan_model.specs.declared.refusals.PlanWhy.TheVariants.{UnknownEndpoint, Range}
+
+-- a line at its endpoint, in its ranges
+pub record IsPlaced (es : List EndpointConfig) (p : PlannedLine) : Type 0 where
+  pub at : IsAt es p.ep p.endpoint
+  pub ranges : IsPlanLine p.line
+  pub inside : is_out_of_range p.endpoint p.line ≡ false
+
+-- lines of one endpoint have it whole, and each is in its ranges
+pub record ArePlaced (ps : List PlannedLine) : Type 0 where
+  pub endpoint : (p : PlannedLine) → IsIn p ps → IsEndpoint p.endpoint
+  pub same : (p q : PlannedLine) → IsIn p ps → IsIn q ps → p.ep ≡ q.ep → p.endpoint ≡ q.endpoint
+  pub ranges : (p : PlannedLine) → IsIn p ps → IsPlanLine p.line
+  pub inside : (p : PlannedLine) → IsIn p ps → is_out_of_range p.endpoint p.line ≡ false
+
+-- the endpoint of lines with this index
+abbrev pub HasEndpoint : List PlannedLine → ℕ → EndpointConfig → Type 0
+HasEndpoint ps ep e = (p : PlannedLine) → IsIn p ps → p.ep ≡ ep → p.endpoint ≡ e
+
+-- ---- up to the first that is refused by itself
 
 -- why a line is refused by itself
 abbrev pub why_alone : Option PlannedLine → Option PlanWhy

@@ -10,9 +10,9 @@ use Rattle.unit_model.specs.Commands.{is_uplink, uplink_in, is_full}
 use Rattle.fragment_laws.specs.Apart.{IsIn}
 use Rattle.plan_model.specs.Validity.{share_cell, clash, why_claimed, refused_at}
 use Rattle.plan_model.specs.declared.refusals.PlanWhy.{PlanWhy}
-use Rattle.plan_check.specs.Slots.{AreProper, AreClear, why_judged, refused_along, refused_in, is_of_slot, IsFrom, IsLeastSlot}
+use Rattle.schedule_laws.specs.SlotTests.{AreProper, AreClear, why_judged, refused_along, refused_in, is_of_slot, IsFrom, IsLeastSlot}
 use Rattle.plan_model.specs.declared.refusals.PlanWhy.TheVariants.{Overlap, TooManySections}
-use Rattle.plan_check.proofs.ListLemmas.{why_is, none_is}
+use Rattle.schedule_laws.proofs.OverlapLemmas.{why_is, none_is}
 use Rattle.unit_model.specs.declared.uplink.TheConstants.{SLOT_SECTIONS}
 use Rattle.unit_model.proofs.ClaimLemmas.{same_slot_is as slot_is, slot_self as slot_own}
 

@@ -1,24 +1,57 @@
--- The lines of a plan of which none is refused stand at their places.
-use Rattle.std.proofs.Common.{◌≡◌, ℕ, suc, ◌+◌, ◌≤◌, List, [], ◌∷◌, ◌++◌, length, map, inl, inr, Option, Some, None, refl, ap, ap₂, sym, ◌∙◌, arith, zero-add}
+-- The lines of a plan at their endpoints, one after the other; those of a plan of which none is refused stand at their places.
+use Rattle.std.proofs.Common.{◌≡◌, ℕ, ◌+◌, ◌≤◌, List, [], ◌∷◌, ◌++◌, length, drop, Option, Some, refl, ap, sym, ◌∙◌, append-nil, append_assoc, suc, map, inl, inr, None, ap₂, arith, zero-add}
 use Rattle.std.specs.List.{slice_get}
-use Rattle.std.specs.Option.{option_map, option_to_list}
+use Rattle.std.specs.Option.{option_to_list, option_map}
+use Rattle.std.proofs.lemmas.List.{drop_all}
+use Rattle.window_config.specs.declared.endpoints.EndpointConfig.{EndpointConfig}
+use Rattle.window_config.specs.declared.plan.PlanLine.{PlanLine}
+use Rattle.plan_model.specs.Lines.{planned_at, planned_from, line_allocation, planned, planned_with}
+use Rattle.plan_model.specs.declared.lines.PlannedLine.{PlannedLine}
+use Rattle.schedule_laws.proofs.PlacedLemmas.{drop_at, index_is, index_or}
 use Rattle.std.proofs.lemmas.Option.{slice_get-map, slice_get_past}
 use Rattle.fragment_laws.specs.Apart.{IsIn}
 use Rattle.window_config.specs.declared.config.Config.{Config}
-use Rattle.window_config.specs.declared.endpoints.EndpointConfig.{EndpointConfig}
-use Rattle.window_config.specs.declared.plan.PlanLine.{PlanLine}
 use Rattle.unit_model.specs.Lists.{or_else}
 use Rattle.unit_model.specs.Meetings.{find_endpoint}
 use Rattle.unit_model.specs.declared.allocations.Allocation.{Allocation}
 use Rattle.unit_model.proofs.CountLemmas.{no_time}
 use Rattle.plan_model.specs.Dense.{dense}
-use Rattle.plan_model.specs.Lines.{line_allocation, planned, planned_at, planned_from, planned_with}
 use Rattle.plan_model.specs.Valid.{IsValid, dense_refused}
 use Rattle.plan_model.specs.Validity.{first_refused, refused_at, refused_from, why_found, why_planned, with_line}
 use Rattle.plan_model.specs.declared.dense.Dense.{Dense}
-use Rattle.plan_model.specs.declared.lines.PlannedLine.{PlannedLine}
 use Rattle.plan_model.specs.declared.refusals.PlanWhy.{PlanWhy}
-use Rattle.plan_check.proofs.PlacedLemmas.{index_is, index_or}
+
+-- ---- one after the other
+
+-- the lines so far, and those to come, are all
+abbrev pub Goes : List EndpointConfig → ℕ → List PlanLine → List PlannedLine → Type 0
+Goes es k lines so_far = so_far ++ planned_from es k (drop k lines) ≡ planned_from es 0 lines
+
+next_lines : (es : List EndpointConfig) (k : ℕ) (line : PlanLine) (lines : List PlanLine) → planned_from es k (line ∷ lines) ≡ option_to_list (planned_at es k line) ++ planned_from es (k + 1) lines
+unfolding planned_from
+next_lines es k line lines = refl
+
+no_lines : (es : List EndpointConfig) (k : ℕ) → planned_from es k [] ≡ []
+unfolding planned_from
+no_lines es k = refl
+
+pub goes_on : (es : List EndpointConfig) (k : ℕ) (lines : List PlanLine) (line : PlanLine) (so_far : List PlannedLine) (o : Option PlannedLine) → Goes es k lines so_far
+    → slice_get lines k ≡ Some line → o ≡ planned_at es k line → Goes es (k + 1) lines (so_far ++ option_to_list o)
+goes_on es k lines line so_far o goes at is =
+    append_assoc so_far (option_to_list o) (planned_from es (k + 1) (drop (k + 1) lines))
+    ∙ ap (λ (x : Option PlannedLine). so_far ++ (option_to_list x ++ planned_from es (k + 1) (drop (k + 1) lines))) is
+    ∙ ap (λ (ps : List PlannedLine). so_far ++ ps) (sym (next_lines es k line (drop (k + 1) lines)))
+    ∙ ap (λ (ls : List PlanLine). so_far ++ planned_from es k ls) (sym (drop_at k lines line at))
+    ∙ goes
+
+pub goes_all : (es : List EndpointConfig) (k : ℕ) (lines : List PlanLine) (so_far : List PlannedLine) → Goes es k lines so_far → length lines ≤ k → so_far ≡ planned_from es 0 lines
+goes_all es k lines so_far goes end =
+    sym (append-nil so_far)
+    ∙ ap (λ (ps : List PlannedLine). so_far ++ ps) (sym (no_lines es k))
+    ∙ ap (λ (ls : List PlanLine). so_far ++ planned_from es k ls) (sym (drop_all k lines end))
+    ∙ goes
+
+-- ---- at their places
 
 abbrev line_or : PlanLine → Option PlannedLine → PlanLine
 line_or l None = l

@@ -1,13 +1,15 @@
 -- Lines in the order of slots: the first ones of one slot are all of it.
-use Rattle.std.proofs.Common.{◌≡◌, ℕ, inl, inr, Bool, true, false, ◌==◌, nat_lt, if◌then◌else◌, List, [], ◌∷◌, ◌++◌, Option, Some, None, refl, ap, ap₂, sym, ◌∙◌, subst}
+use Rattle.std.proofs.Common.{◌≡◌, ℕ, inl, inr, Bool, true, false, ◌==◌, nat_lt, if◌then◌else◌, List, [], ◌∷◌, ◌++◌, Option, Some, None, refl, ap, ap₂, sym, ◌∙◌, subst, zero, suc, ◌+◌, ◌<◌, ◌≤◌, length, get_or, take, drop, true≢false, arith}
 use Rattle.std.specs.List.{AllByRecursion}
+use Rattle.std.proofs.lemmas.Map.Lookups.{exact_pairs, exact_signed, exact_unsigned}
+use Rattle.std.specs.Prelude.{ℤ}
 use Rattle.std.specs.Cmp.{IsTotalOrder}
-use Rattle.std.specs.Ordering.{nat_cmp, int_cmp, is_lt, ordering_reverse, ordering_then}
+use Rattle.std.specs.Ordering.{nat_cmp, int_cmp, is_lt, ordering_reverse}
 use Rattle.std.specs.declared.cmp.Ordering.{Ordering}
 use Rattle.std.specs.declared.cmp.Ordering.TheVariants.{Less, Equal, Greater}
-use Rattle.std.proofs.lemmas.Bool.{cases_Bool, and_parts, and_from, eq-eqb}
+use Rattle.std.proofs.lemmas.Bool.{cases_Bool, and_parts, and_from, eq-eqb, cases_eq}
 use Rattle.std.proofs.lemmas.Cmp.{nat_cmp_total, int_cmp_total, on_total, then_total}
-use Rattle.std.proofs.lemmas.List.{append-nil}
+use Rattle.std.proofs.lemmas.List.{append-nil, get_or_default, take-append-drop}
 use Rattle.std.proofs.lemmas.List.Elements.{filter-append}
 use Rattle.fh_time.specs.declared.values.Slot.{Slot}
 use Rattle.unit_model.specs.Claims.{same_slot}
@@ -16,11 +18,11 @@ use Rattle.plan_model.specs.Lines.{line_allocation}
 use Rattle.plan_model.specs.declared.lines.PlannedLine.{PlannedLine}
 use Rattle.plan_model.specs.declared.refusals.PlanWhy.{PlanWhy}
 use Rattle.plan_model.proofs.ListLemmas.{all_in, all_from, all_map, filter_all, filter_none}
-use Rattle.plan_check.specs.Order.{slot_cmp, comes_first, ArePlannedInOrder}
-use Rattle.plan_check.specs.Slots.{is_of_slot, of_home, judged, judged_in, lesser_refusal, least_along}
-use Rattle.plan_parts.proofs.OrderLemmas.{nat_equal, int_equal, then_equal}
+use Rattle.schedule_laws.specs.SlotOrder.{slot_cmp, comes_first, ArePlannedInOrder, IsFirstRun}
+use Rattle.schedule_laws.specs.SlotTests.{is_of_slot, of_home, judged, judged_in, lesser_refusal, least_along}
 use Rattle.fh_time.proofs.Order.{same_fields as same_slot_fields}
 use Rattle.unit_model.proofs.ClaimLemmas.{same_slot_is as slot_is, slot_self as slot_own}
+use Rattle.std.proofs.Math.Seq.{drop-nil}
 
 -- ---- the order of slots
 
@@ -29,9 +31,8 @@ slot_total = then_total (on_total (λ (s : Slot). s.frame) int_cmp_total) (then_
 
 pub slot_equal : (a b : Slot) → slot_cmp a b ≡ Equal → a ≡ b
 slot_equal a b h =
-    let x = then_equal (int_cmp a.frame b.frame) (ordering_then (nat_cmp a.subframe b.subframe) (nat_cmp a.slot b.slot)) h in
-    let y = then_equal (nat_cmp a.subframe b.subframe) (nat_cmp a.slot b.slot) x.1 in
-    same_slot_fields a b (int_equal a.frame b.frame x.0) (nat_equal a.subframe b.subframe y.0) (nat_equal a.slot b.slot y.1)
+    let same = exact_pairs int_cmp _ exact_signed (exact_pairs nat_cmp nat_cmp exact_unsigned exact_unsigned) (a.frame, (a.subframe, a.slot)) (b.frame, (b.subframe, b.slot)) h in
+    same_slot_fields a b (ap (λ (x : ℤ × (ℕ × ℕ)). x.0) same) (ap (λ (x : ℤ × (ℕ × ℕ)). x.1.0) same) (ap (λ (x : ℤ × (ℕ × ℕ)). x.1.1) same)
 
 -- neither comes first: they are of one slot
 pub tie_is : (a b : Slot) → is_lt (slot_cmp a b) ≡ false → is_lt (slot_cmp b a) ≡ false → a ≡ b
@@ -150,3 +151,82 @@ least_of_run ps x p xs others eps slots =
     least_same ps (judged_in ps p) (lesser_refusal x (judged_in ps p)) xs others
     (all_map (λ q. (q.ep ≡ p.ep) × (q.line.slot ≡ p.line.slot)) (λ q. judged_in ps q ≡ judged_in ps p) (λ q h. home_same ps p q h.0 h.1) xs
     (both_all (λ q. q.ep ≡ p.ep) (λ q. q.line.slot ≡ p.line.slot) xs eps.1 slots.1)) (lesser_twice x (judged_in ps p))
+
+-- ---- the first slot of what is left
+
+-- the first lines, all of one slot, and what is behind them
+pub record IsCut (lines run others : List PlannedLine) (p : PlannedLine) : Type 0 where
+  pub run_is : IsRun p run others
+  pub whole : run ++ others ≡ lines
+  pub first : (xs : List PlannedLine) × (run ≡ p ∷ xs)
+
+all_taken : {X : Type 0} (P : X → Type 0) (n : ℕ) (xs : List X) → ((k : ℕ) (d : X) → k < n → k < length xs → P (get_or xs k d)) → AllByRecursion P (take n xs)
+all_taken P zero xs h = tt
+all_taken P (suc n) [] h = tt
+all_taken P (suc n) (x ∷ xs) h = (h 0 x (omega arith) (omega arith), all_taken P n xs (λ k d a b. h (suc k) d (omega (arith, a)) (omega (arith, b))))
+
+dropped_first : {X : Type 0} (n : ℕ) (xs : List X) (z : X) (zs : List X) → drop n xs ≡ z ∷ zs → (n < length xs) × (get_or xs n z ≡ z)
+dropped_first n [] z zs h = (let e : [] ≡ z ∷ zs = sym (drop-nil n) ∙ h in cc)
+dropped_first zero (x ∷ xs) z zs h = (omega arith, cc)
+dropped_first (suc n) (x ∷ xs) z zs h = let r = dropped_first n xs z zs h in (let l = r.0 in omega (arith, l), r.1)
+
+pub cut_is : (lines : List PlannedLine) (n : ℕ) (p : PlannedLine) → IsFirstRun lines n → p ≡ get_or lines 0 p → ArePlannedInOrder lines → IsCut lines (take n lines) (drop n lines) p
+cut_is [] n p f is order = absurd (let s = f.some in let w = f.within in omega (arith, s, w))
+cut_is (x ∷ xs) zero p f is order = absurd (let s = f.some in omega (arith, s))
+cut_is (x ∷ xs) (suc n) p f is order =
+    let whole : take n xs ++ drop n xs ≡ xs = take-append-drop n xs in
+    let in_order : ArePlannedInOrder (x ∷ (take n xs ++ drop n xs)) = subst (λ (ys : List PlannedLine). ArePlannedInOrder (x ∷ ys)) (sym whole) order in
+    let same : AllByRecursion (λ q. q.line.slot ≡ x.line.slot) (x ∷ take n xs) =
+    (refl, all_taken (λ q. q.line.slot ≡ x.line.slot) n xs (λ k d a b. f.same (suc k) d (omega (arith, a)))) in
+    let run : IsRun x (x ∷ take n xs) (drop n xs) = run_is x (take n xs) (drop n xs) in_order same
+    (λ z zs e s. let r = dropped_first n xs z zs e in f.next z (let l = r.0 in omega (arith, l)) (ap (λ (q : PlannedLine). q.line.slot) r.1 ∙ s)) in
+    record {
+      run_is = subst (λ (y : PlannedLine). IsRun y (x ∷ take n xs) (drop n xs)) (sym is) run;
+      whole = ap (λ (ys : List PlannedLine). x ∷ ys) whole;
+      first = (take n xs, ap (λ (y : PlannedLine). y ∷ take n xs) (sym is));
+    }
+
+-- ---- how long the first slot is
+
+abbrev pub SameTo : List PlannedLine → ℕ → Type 0
+SameTo lines n = (j : ℕ) (d : PlannedLine) → j < n → (get_or lines j d).line.slot ≡ (get_or lines 0 d).line.slot
+
+pub same_first : (lines : List PlannedLine) → SameTo lines 1
+same_first lines zero d below = refl
+same_first lines (suc j) d below = absurd (omega (arith, below))
+
+read_at : (lines : List PlannedLine) (k : ℕ) (d x : PlannedLine) → k < length lines → (get_or lines k x).line.slot ≡ (get_or lines k d).line.slot
+read_at lines k d x below = ap (λ (q : PlannedLine). q.line.slot) (get_or_default lines k x d below)
+
+pub same_more : (lines : List PlannedLine) (k : ℕ) (x y : PlannedLine) → SameTo lines k → 1 ≤ k → k < length lines
+    → same_slot (get_or lines k x).line.slot (get_or lines 0 y).line.slot ≡ true → SameTo lines (k + 1)
+same_more lines k x y same some below is j d j_below = elim (cases_eq j k) [
+  | inr other ↦ same j d (omega (arith, other))
+  | inl here ↦
+      ap (λ (i : ℕ). (get_or lines i d).line.slot) here ∙ sym (read_at lines k d x below)
+      ∙ slot_is (get_or lines k x).line.slot (get_or lines 0 y).line.slot is ∙ read_at lines 0 d y (omega (arith, some, below))
+]
+
+pub run_ends : (lines : List PlannedLine) (k : ℕ) (x y : PlannedLine) → SameTo lines k → 1 ≤ k → k < length lines
+    → same_slot (get_or lines k x).line.slot (get_or lines 0 y).line.slot ≡ false → IsFirstRun lines k
+run_ends lines k x y same some below is = record {
+  some = omega (arith, some);
+  within = omega (arith, below);
+  same = same;
+  next = λ d n_below e.
+      let both : (get_or lines k x).line.slot ≡ (get_or lines 0 y).line.slot = read_at lines k d x below ∙ e ∙ sym (read_at lines 0 d y (omega (arith, some, below))) in
+      true≢false (sym (ap (λ (s : Slot). same_slot s (get_or lines 0 y).line.slot) both ∙ slot_own (get_or lines 0 y).line.slot) ∙ is);
+}
+
+pub run_whole : (lines : List PlannedLine) (k : ℕ) → SameTo lines k → 0 < length lines → 1 ≤ k → (1 ≤ length lines → k ≤ length lines) → length lines ≤ k → IsFirstRun lines (length lines)
+run_whole lines k same some one few all = record {
+  some = some;
+  within = omega arith;
+  same = λ j d below. same j d (omega (arith, below, all));
+  next = λ d below e. absurd (omega (arith, below));
+}
+
+pub cut_of : (lines run others : List PlannedLine) (n : ℕ) (p : PlannedLine) → IsFirstRun lines n → p ≡ get_or lines 0 p → ArePlannedInOrder lines → run ≡ take n lines → others ≡ drop n lines
+    → IsCut lines run others p
+cut_of lines run others n p f is order front back =
+    subst (λ (xs : List PlannedLine). IsCut lines xs others p) (sym front) (subst (λ (ys : List PlannedLine). IsCut lines (take n lines) ys p) (sym back) (cut_is lines n p f is order))

@@ -11,7 +11,10 @@ use Rattle.plan_model.specs.Lines.{line_allocation}
 use Rattle.plan_model.specs.Validity.{clash, why_claimed, refused_at, IsProper}
 use Rattle.plan_model.specs.declared.lines.PlannedLine.{PlannedLine}
 use Rattle.plan_model.specs.declared.refusals.PlanWhy.{PlanWhy}
-use Rattle.plan_model.specs.declared.refusals.PlanWhy.TheVariants.{Overlap, TooManySections}
+use Rattle.plan_model.specs.declared.refusals.PlanWhy.TheVariants.{Range, Overlap, TooManySections}
+use Rattle.unit_model.specs.declared.verdicts.CommandVerdict.{CommandVerdict}
+use Rattle.unit_model.specs.declared.verdicts.CommandVerdict.TheVariants as verdict
+use Rattle.unit_model.specs.Lists.{onto}
 
 abbrev pub AreProper : List Allocation → Type 0
 AreProper ls = AllByRecursion IsProper ls
@@ -90,3 +93,37 @@ judged_in ps p = judged (of_home p.ep p.line.slot ps)
 unfoldable pub least_along : List PlannedLine → Option (ℕ × PlanWhy) → List PlannedLine → Option (ℕ × PlanWhy)
 least_along ps least [] = least
 least_along ps least (q ∷ qs) = least_along ps (lesser_refusal least (judged_in ps q)) qs
+
+-- what lines name, the newest first, behind these
+abbrev pub behind : List Allocation → List PlannedLine → List Allocation
+behind earlier ps = onto earlier (map line_allocation ps)
+
+-- ---- the reason by a verdict
+
+-- the reason that a verdict other than Accepted is
+abbrev pub why_of : CommandVerdict → PlanWhy
+why_of verdict.Mismatch = Overlap
+why_of verdict.Late = Overlap
+why_of verdict.Early = Overlap
+why_of verdict.Range = Range
+why_of verdict.Repeat = Overlap
+why_of verdict.Overlap = Overlap
+why_of verdict.Full = TooManySections
+why_of verdict.Accepted = Overlap
+
+abbrev pub why_in : CommandVerdict → Option PlanWhy
+why_in verdict.Accepted = None
+why_in v = Some (why_of v)
+
+-- ---- endpoint after endpoint
+
+-- what no slot refuses earlier
+abbrev pub IsBefore : List PlannedLine → Option (ℕ × PlanWhy) → Type 0
+IsBefore ps r = (q : PlannedLine) → IsFrom r (judged_in ps q)
+
+-- the least of a refusal and of what the slots of an endpoint refuse: of what no slot refuses earlier it is that, where it was
+-- that already or a slot refuses it
+pub record Covers (ps : List PlannedLine) (ep : ℕ) (old new : Option (ℕ × PlanWhy)) : Type 0 where
+  pub from : (r : Option (ℕ × PlanWhy)) → IsBefore ps r → IsFrom r old → IsFrom r new
+  pub kept : (r : Option (ℕ × PlanWhy)) → IsBefore ps r → old ≡ r → new ≡ r
+  pub one : (r : Option (ℕ × PlanWhy)) → IsBefore ps r → IsFrom r old → (q : PlannedLine) → IsIn q ps → q.ep ≡ ep → judged_in ps q ≡ r → new ≡ r

@@ -1,12 +1,8 @@
--- Lists: all by place, a filter by two tests, and what a filter leaves.
-use Rattle.std.proofs.Common.{◌≡◌, ℕ, suc, ◌<◌, Bool, true, false, ◌&&◌, if◌then◌else◌, List, [], ◌∷◌, length, filter, get_or, refl, ap, arith}
+-- A filter by two tests, and what a filter leaves of lists whose elements are related.
+use Rattle.std.proofs.Common.{◌≡◌, Bool, true, false, ◌&&◌, if◌then◌else◌, List, [], ◌∷◌, filter, refl, ap}
 use Rattle.std.specs.List.{AllByRecursion}
 use Rattle.plan_model.proofs.ListLemmas.{all_in, all_from, filter_has}
 use Rattle.unit_model.specs.Lists.{AreRelated}
-
-pub all_index : {X : Type 0} (P : X → Type 0) (xs : List X) → ((k : ℕ) (d : X) → k < length xs → P (get_or xs k d)) → AllByRecursion P xs
-all_index P [] h = tt
-all_index P (x ∷ xs) h = (h 0 x (omega arith), all_index P xs (λ k d below. h (suc k) d (omega (arith, below))))
 
 pub filter_and : {X : Type 0} (a b : X → Bool) (xs : List X) → filter (λ x. a x && b x) xs ≡ filter a (filter b xs)
 filter_and a b [] = refl

@@ -1,21 +1,24 @@
--- What two lines share, and what earlier lines that do not clash claim.
-use Rattle.std.proofs.Common.{◌≡◌, ℕ, ◌+◌, ◌<◌, ◌≤◌, inl, inr, Bool, true, false, not, ◌&&◌, ◌||◌, ◌==◌, is_some, if◌then◌else◌, List, [], ◌∷◌, Option, Some, None, refl, ap, sym, ◌∙◌, subst, true≢false, arith}
+-- What two lines share, what earlier lines that do not clash claim, and the tests of one line after the other.
+use Rattle.std.proofs.Common.{◌≡◌, ℕ, ◌+◌, ◌<◌, ◌≤◌, inl, inr, Bool, true, false, not, ◌&&◌, ◌||◌, ◌==◌, is_some, if◌then◌else◌, List, [], ◌∷◌, Option, Some, None, refl, ap, sym, ◌∙◌, true≢false, arith}
 use Rattle.std.specs.List.{list_any}
-use Rattle.std.proofs.lemmas.Bool.{cases_Bool, or_cases, and_parts, and_from, or_left, or_right, eq-eqb, eqb-true}
+use Rattle.std.proofs.lemmas.Bool.{or_cases, and_parts, and_from, or_left, or_right, eq-eqb, eqb-true}
 use Rattle.std.specs.Cmp.{both_ways}
 use Rattle.unit_model.specs.Lists.{some}
 use Rattle.unit_model.specs.declared.allocations.Allocation.{Allocation}
 use Rattle.unit_model.specs.declared.cells.Cell.{Cell}
 use Rattle.unit_model.specs.declared.cells.Claim.{Claim}
-use Rattle.unit_model.specs.Claims.{same_slot, same_way, first_prb, prb_count, covers, in_mask, names, claim_of, claim_at, cell_of, some_cell, is_under, is_other, is_claimed, is_overlapped, repeats, overlaps}
-use Rattle.fragment_laws.specs.Apart.{IsIn}
-use Rattle.plan_model.specs.Validity.{ranges_meet, share_cell, share_bit, clash, IsProper}
-use Rattle.plan_model.proofs.ListLemmas.{any_in, among}
+use Rattle.unit_model.specs.Claims.{same_slot, same_way, first_prb, prb_count, covers, in_mask, claim_at, cell_of, some_cell, is_under, is_other, is_claimed, is_overlapped, repeats, overlaps}
+use Rattle.plan_model.specs.Validity.{ranges_meet, share_cell, share_bit, clash, IsProper, why_claimed}
+use Rattle.plan_model.proofs.ListLemmas.{all_in, any_in, among}
+use Rattle.schedule_laws.proofs.ClashLemmas.{IsClear, clash_swap, own_claim}
 use Rattle.plan_model.proofs.RangeLemmas.{found, common}
 use Rattle.plan_model.proofs.SlotLemmas.{eqb_swap}
-use Rattle.plan_model.proofs.ClashLemmas.{bit_of, name_one, cell_at_start, overlap_of}
-use Rattle.plan_check.specs.Slots.{AreProper, AreClear}
+use Rattle.plan_model.proofs.ClashLemmas.{bit_of, cell_at_start, overlap_of}
+use Rattle.schedule_laws.specs.SlotTests.{AreProper, AreClear, why_judged}
 use Rattle.unit_model.proofs.ClaimLemmas.{same_way_is as way_is, same_slot_is as slot_is, way_self as way_own, slot_self as slot_own, every_at, some_one}
+use Rattle.unit_model.specs.Commands.{is_full}
+use Rattle.plan_model.specs.declared.refusals.PlanWhy.{PlanWhy}
+use Rattle.plan_model.specs.declared.refusals.PlanWhy.TheVariants.{Overlap, TooManySections}
 
 -- ---- a cell that both cover
 
@@ -53,23 +56,19 @@ shared a b pa pb h =
 
 -- ---- claims
 
--- among lines that do not clash, the claim is that of the one that names the element
-pub own_claim : (earlier : List Allocation) (b : Allocation) (cell : Cell) (re : ℕ) → AreClear earlier → re < 12 → IsIn b earlier → names b cell re ≡ true
-    → claim_at earlier cell re ≡ Some (claim_of b)
-unfolding claim_at
-own_claim [] b cell re clear below m is = absurd m
-own_claim (c ∷ earlier) b cell re clear below m is = elim m [
-  | inl here ↦ let e : names c cell re ≡ true = ap (λ (x : Allocation). names x cell re) (sym here) ∙ is in
-      ap (λ (t : Bool). let o : Option Claim = if t then Some (claim_of c) else claim_at earlier cell re in o) e ∙ ap (λ (x : Allocation). Some (claim_of x)) (sym here)
-  | inr there ↦ elim (cases_Bool (names c cell re)) [
-    | inl both ↦ absurd (true≢false (sym (any_in (clash c) b earlier there (name_one c b cell re below both is)) ∙ clear.0))
-    | inr other ↦ ap (λ (t : Bool). let o : Option Claim = if t then Some (claim_of c) else claim_at earlier cell re in o) other ∙ own_claim earlier b cell re clear.1 below there is
+-- among lines of which none clashes with one before it, two that clash are one
+clear_is : (ls : List Allocation) → AreClear ls → IsClear ls
+clear_is [] clear a b m n h = absurd m
+clear_is (c ∷ ls) clear a b m n h = elim m [
+  | inl a_here ↦ elim n [
+    | inl b_here ↦ a_here ∙ sym b_here
+    | inr b_there ↦ absurd (true≢false (sym (any_in (clash c) b ls b_there (ap (λ (x : Allocation). clash x b) (sym a_here) ∙ h)) ∙ clear.0))
+  ]
+  | inr a_there ↦ elim n [
+    | inl b_here ↦ absurd (true≢false (sym (any_in (clash c) a ls a_there (clash_swap a c (ap (clash a) (sym b_here) ∙ h))) ∙ clear.0))
+    | inr b_there ↦ clear_is ls clear.1 a b a_there b_there h
   ]
 ]
-
-pub proper_in : (ls : List Allocation) (b : Allocation) → AreProper ls → IsIn b ls → IsProper b
-proper_in [] b p m = absurd m
-proper_in (a ∷ ls) b p m = elim m [ inl here ↦ subst IsProper (sym here) p.0 | inr there ↦ proper_in ls b p.1 there ]
 
 -- ---- tests over cells
 
@@ -114,7 +113,7 @@ pub clash_overlaps : (earlier : List Allocation) (a : Allocation) → AreProper 
 unfolding overlaps
 clash_overlaps earlier a ps clear p h =
     let m = among (clash a) earlier h in
-    let pb = proper_in earlier m.x ps m.there in
+    let pb = all_in IsProper earlier m.x ps m.there in
     let c = and_parts (share_cell a m.x) _ m.is in
     let s = shared a m.x p pb c.0 in
     let cell = cell_of a s.y s.n in
@@ -123,13 +122,13 @@ clash_overlaps earlier a ps clear p h =
           let re = found 0 12 (λ k. in_mask a.mask k && in_mask m.x.mask k) bits in
           let below = re.high in
           let both = and_parts (in_mask a.mask re.k) _ re.is in
-          let claim = own_claim earlier m.x cell re.k clear (omega arith) m.there (and_from (covers m.x cell) _ s.other both.1) in
+          let claim = own_claim earlier m.x cell re.k (clear_is earlier clear) (omega arith) m.there (and_from (covers m.x cell) _ s.other both.1) in
           some_one 0 12 (λ k. (in_mask a.mask k && is_some (claim_at earlier cell k)) || is_other a.section (claim_at earlier cell k)) re.k re.low re.high
           (or_left (in_mask a.mask re.k && is_some (claim_at earlier cell re.k)) _ (and_from _ _ both.0 (ap (λ (o : Option Claim). is_some o) claim)))
       | inr other ↦
           let re = bit_of m.x pb in
           let below = re.high in
-          let claim = own_claim earlier m.x cell re.k clear (omega arith) m.there (and_from (covers m.x cell) _ s.other re.is) in
+          let claim = own_claim earlier m.x cell re.k (clear_is earlier clear) (omega arith) m.there (and_from (covers m.x cell) _ s.other re.is) in
           some_one 0 12 (λ k. (in_mask a.mask k && is_some (claim_at earlier cell k)) || is_other a.section (claim_at earlier cell k)) re.k re.low re.high
           (or_right (in_mask a.mask re.k && is_some (claim_at earlier cell re.k)) _
           (ap (λ (o : Option Claim). is_other a.section o) claim ∙ ap not (eqb_swap m.x.section a.section) ∙ other))
@@ -140,3 +139,23 @@ pub verdict_is : (earlier : List Allocation) (a : Allocation) → AreProper earl
 verdict_is earlier a ps clear p = both_ways _ _
     (λ h. overlap_clashes earlier a (elim (or_cases (repeats earlier a) _ h) [ inl r ↦ repeat_overlaps earlier a p r | inr o ↦ o ]))
     (λ h. or_right (repeats earlier a) _ (clash_overlaps earlier a ps clear p h))
+
+-- ---- line by line
+
+either : (r o c f : Bool) → (r || o) ≡ c
+    → (let x : Option PlanWhy = if c then Some Overlap else (if f then Some TooManySections else None) in x)
+    ≡ (let y : Option PlanWhy = if r then Some Overlap else (if o then Some Overlap else (if f then Some TooManySections else None)) in y)
+either true o true f e = refl
+either true o false f e = cc
+either false true true f e = refl
+either false true false f e = cc
+either false false true f e = cc
+either false false false f e = refl
+
+pub why_is : (earlier : List Allocation) (a : Allocation) → AreProper earlier → AreClear earlier → IsProper a → why_claimed earlier a ≡ why_judged earlier a
+why_is earlier a ps clear p = either (repeats earlier a) (overlaps earlier a) (list_any (clash a) earlier) (is_full earlier a) (verdict_is earlier a ps clear p)
+
+pub none_is : (c f : Bool) → (let x : Option PlanWhy = if c then Some Overlap else (if f then Some TooManySections else None) in x) ≡ None → (c ≡ false) × (f ≡ false)
+none_is true f e = cc
+none_is false true e = cc
+none_is false false e = (refl, refl)

@@ -1,5 +1,5 @@
 -- What it is for a line to be in the ranges of its endpoint.
-use Rattle.std.proofs.Common.{◌≡◌, ◌+◌, ◌<◌, ◌≤◌, Bool, true, false, ◌||◌, ◌==◌, nat_lt, nat_le, refl, arith}
+use Rattle.std.proofs.Common.{◌≡◌, ◌+◌, ◌<◌, ◌≤◌, Bool, true, false, ◌||◌, ◌==◌, nat_lt, nat_le, refl, arith, ℕ, if◌then◌else◌, List, Option, Some, None}
 use Rattle.std.proofs.lemmas.Int.{ints}
 use Rattle.std.proofs.lemmas.Bool.{or_parts, leb-false, ltb-false}
 use Rattle.fh_time.specs.Carrier.{is_outside}
@@ -12,6 +12,17 @@ use Rattle.plan_model.specs.Validity.{is_out_of_range}
 use Rattle.plan_model.specs.declared.lines.PlannedLine.{PlannedLine}
 use Rattle.plan_model.proofs.SizeLemmas.{section_few}
 use Rattle.fh_time.proofs.Orders.{not_zero}
+use Rattle.window_config.specs.declared.endpoints.EndpointConfig.{EndpointConfig}
+use Rattle.unit_model.specs.Claims.{repeats, overlaps}
+use Rattle.unit_model.specs.Commands.{is_full, timely_verdict}
+use Rattle.unit_model.specs.declared.allocations.Allocation.{Allocation}
+use Rattle.unit_model.specs.declared.verdicts.CommandVerdict.{CommandVerdict}
+use Rattle.unit_model.specs.declared.verdicts.CommandVerdict.TheVariants as verdict
+use Rattle.plan_model.specs.Lines.{line_allocation}
+use Rattle.plan_model.specs.declared.refusals.PlanWhy.{PlanWhy}
+use Rattle.plan_model.specs.declared.refusals.PlanWhy.TheVariants.{Overlap, TooManySections}
+use Rattle.schedule_laws.specs.SlotOrder.{IsEndpointLine}
+use Rattle.schedule_laws.specs.SlotTests.{why_in, why_judged}
 
 pub record Inside (p : PlannedLine) : Type 0 where
   pub slot : p.line.slot.slot < slots_of p.endpoint.numerology
@@ -50,3 +61,22 @@ slot_inside p ranges inside =
 
 pub size_small : (p : PlannedLine) → IsEndpoint p.endpoint → is_out_of_range p.endpoint p.line ≡ false → section_size p.endpoint p.line.num_prb ≤ 13383
 size_small p is inside = section_few p.endpoint p.line.start_prb p.line.num_prb is.width is.most (inside_is p inside).prbs
+
+-- ---- a line of an endpoint
+
+pub slot_of_line : (e : EndpointConfig) (ep : ℕ) (p : PlannedLine) → IsEndpointLine e ep p → IsSlot p.endpoint.numerology p.line.slot
+slot_of_line e ep p is = slot_inside p is.ranges is.inside
+
+-- the reason by the verdict
+pub why_known : (earlier : List Allocation) (p : PlannedLine) → is_out_of_range p.endpoint p.line ≡ false
+    → why_judged earlier (line_allocation p) ≡ why_in (timely_verdict earlier (line_allocation p))
+why_known earlier p inside = go (is_outside p.endpoint.prbs p.line.start_prb p.line.num_prb) (repeats earlier (line_allocation p)) (overlaps earlier (line_allocation p)) (is_full earlier (line_allocation p)) (inside_is p inside).prbs
+  where
+    go : (x r o f : Bool) → x ≡ false
+        → (let w : Option PlanWhy = if r then Some Overlap else (if o then Some Overlap else (if f then Some TooManySections else None)) in w)
+        ≡ why_in (let v : CommandVerdict = if x then verdict.Range else (if r then verdict.Repeat else (if o then verdict.Overlap else (if f then verdict.Full else verdict.Accepted))) in v)
+    go true r o f h = cc
+    go false true o f h = refl
+    go false false true f h = refl
+    go false false false true h = refl
+    go false false false false h = refl

@@ -1,31 +1,23 @@
--- The tests of a whole plan.
-use Rattle.std.proofs.Common.{◌≡◌, ℕ, suc, ◌+◌, ◌-◌, ◌<◌, ◌≤◌, Bool, true, false, ◌==◌, nat_lt, if◌then◌else◌, List, [], ◌∷◌, length, map, get_or, drop, drop-cons, Option, Some, None, refl, ap, ap₂, sym, ◌∙◌, subst, arith}
-use Rattle.std.specs.Prelude.{All, slice_get, is_some}
-use Rattle.std.specs.List.{AllByRecursion}
+-- The tests of a complete plan, and its dense messages.
+use Rattle.std.proofs.Common.{◌≡◌, ℕ, suc, ◌+◌, ◌<◌, ◌≤◌, Bool, true, false, nat_lt, if◌then◌else◌, List, [], ◌∷◌, length, map, get_or, drop, drop-cons, Option, Some, None, refl, ap, ap₂, sym, ◌∙◌, arith}
+use Rattle.std.specs.Prelude.{is_some}
 use Rattle.std.proofs.lemmas.Bool.Decides.{nat_tests}
 use Rattle.std.proofs.lemmas.List.{drop_all}
-use Rattle.std.proofs.lemmas.Option.{same_Some}
-use Rattle.window_config.specs.Plans.{IsPlanLine}
 use Rattle.window_config.specs.declared.config.Config.{Config}
 use Rattle.window_config.specs.declared.endpoints.EndpointConfig.{EndpointConfig}
 use Rattle.window_config.specs.declared.plan.PlanLine.{PlanLine}
 use Rattle.unit_model.specs.Lists.{or_else}
-use Rattle.unit_model.specs.Meetings.{find_from, find_endpoint}
-use Rattle.unit_model.specs.Proper.{IsAt}
 use Rattle.plan_model.specs.Dense.{dense, dense_from, dense_in, lesser, sendings}
-use Rattle.plan_model.specs.Lines.{line_allocation, planned, planned_with, planned_at}
+use Rattle.plan_model.specs.Lines.{line_allocation, planned}
 use Rattle.plan_model.specs.Valid.{dense_refused, plan_refusal}
-use Rattle.plan_model.specs.Validity.{first_refused, is_out_of_range, why_claimed}
+use Rattle.plan_model.specs.Validity.{first_refused, why_claimed}
 use Rattle.plan_model.specs.declared.dense.Dense.{Dense}
 use Rattle.plan_model.specs.declared.lines.PlannedLine.{PlannedLine}
 use Rattle.plan_model.specs.declared.refusals.PlanWhy.{PlanWhy}
-use Rattle.plan_check.specs.Answers.{distance_of}
-use Rattle.plan_parts.specs.Placing.{IsPlaced}
-use Rattle.plan_check.specs.Walks.{stream_of}
-use Rattle.plan_check.specs.Placed.{placed_on, placed_from, stopped_from}
-use Rattle.plan_check.specs.Slots.{refused_along}
-use Rattle.plan_check.proofs.PlacedLemmas.{refused_apart, placed_all}
-use Rattle.plan_parts.proofs.ListLemmas.{all_index}
+use Rattle.schedule_laws.specs.DenseWays.{distance_of, stream_of}
+use Rattle.schedule_laws.specs.PlacedLines.{placed_from, stopped_from}
+use Rattle.schedule_laws.specs.SlotTests.{refused_along}
+use Rattle.schedule_laws.proofs.PlacedLemmas.{refused_apart, placed_all}
 
 -- ---- dense messages
 
@@ -73,61 +65,6 @@ pub dense_end : (c : Config) (lines : List PlannedLine) (up : Bool) (ep : ℕ) (
 unfolding dense_from
 dense_end c lines up ep first end so_far =
     sym (lesser_none first) ∙ sym (ap (λ (es : List EndpointConfig). lesser first (dense_from c lines (stream_of up) (distance_of c.delays up) ep es)) (drop_all ep c.endpoints end)) ∙ so_far
-
--- ---- the lines that are placed
-
-pub record FoundAt (k : ℕ) (es : List EndpointConfig) (found : ℕ × EndpointConfig) : Type 0 where
-  pub low : k ≤ found.0
-  pub at : slice_get es (found.0 - k) ≡ Some found.1
-
-find_at : (k : ℕ) (es : List EndpointConfig) (id : ℕ) (found : ℕ × EndpointConfig) → find_from k es id ≡ Some found → FoundAt k es found
-find_at k [] id found h = cc
-find_at k (e ∷ es) id found h = go (e.id == id) h (find_at (k + 1) es id found)
-  where
-    go : (t : Bool) → (let o : Option (ℕ × EndpointConfig) = if t then Some (k, e) else find_from (k + 1) es id in o) ≡ Some found
-        → (find_from (k + 1) es id ≡ Some found → FoundAt (k + 1) es found) → FoundAt k (e ∷ es) found
-    go true g rest =
-        let is : (k, e) ≡ found = same_Some (k, e) found g in
-        subst (FoundAt k (e ∷ es)) is (record { low = omega arith; at = ap (slice_get (e ∷ es)) (nothing k) })
-      where
-        nothing : (n : ℕ) → n - n ≡ 0
-        nothing n = omega arith
-    go false g rest =
-        let r = rest g in
-        record {
-          low = (let l = r.low in omega (arith, l));
-          at = (let l = r.low in let s : found.0 - k ≡ suc (found.0 - (k + 1)) = omega (arith, l) in ap (slice_get (e ∷ es)) s ∙ r.at);
-        }
-
-planned_is : (es : List EndpointConfig) (k : ℕ) (line : PlanLine) (p : PlannedLine) → planned_at es k line ≡ Some p → IsAt es p.ep p.endpoint × (p.line ≡ line)
-planned_is es k line p h = go (find_endpoint es line.id) refl h
-  where
-    go : (o : Option (ℕ × EndpointConfig)) → find_endpoint es line.id ≡ o → planned_with k line o ≡ Some p → IsAt es p.ep p.endpoint × (p.line ≡ line)
-    go None e g = cc
-    go (Some found) e g =
-        let at = (find_at 0 es line.id found e).at in
-        let same : found.0 - 0 ≡ found.0 = omega arith in
-        let is = same_Some (record { index = k; ep = found.0; endpoint = found.1; line = line }) p g in
-        (subst (λ (q : PlannedLine). IsAt es q.ep q.endpoint) is (ap (slice_get es) (sym same) ∙ at), sym (ap (λ (q : PlannedLine). q.line) is))
-
-placed_each : (es : List EndpointConfig) (k : ℕ) (lines : List PlanLine) → AllByRecursion IsPlanLine lines → AllByRecursion (IsPlaced es) (placed_from es k lines)
-unfolding placed_from
-placed_each es k [] all = tt
-placed_each es k (line ∷ lines) all = go (planned_at es k line) (λ p h. planned_is es k line p h) (placed_each es (k + 1) lines all.1)
-  where
-    ranged : (p : PlannedLine) (t : Bool) → is_out_of_range p.endpoint p.line ≡ t → IsAt es p.ep p.endpoint → p.line ≡ line → AllByRecursion (IsPlaced es) (placed_from es (k + 1) lines)
-        → AllByRecursion (IsPlaced es) (let ps : List PlannedLine = if t then [] else p ∷ placed_from es (k + 1) lines in ps)
-    ranged p true e at is rest = tt
-    ranged p false e at is rest = (record { at = at; ranges = subst IsPlanLine (sym is) all.0; inside = e }, rest)
-
-    go : (o : Option PlannedLine) → ((p : PlannedLine) → o ≡ Some p → IsAt es p.ep p.endpoint × (p.line ≡ line)) → AllByRecursion (IsPlaced es) (placed_from es (k + 1) lines)
-        → AllByRecursion (IsPlaced es) (placed_on o (placed_from es (k + 1) lines))
-    go None h rest = tt
-    go (Some p) h rest = let r = h p refl in ranged p (is_out_of_range p.endpoint p.line) refl r.0 r.1 rest
-
-pub placed_lines : (es : List EndpointConfig) (lines : List PlanLine) (placed : List PlannedLine) → All IsPlanLine lines → placed ≡ placed_from es 0 lines → AllByRecursion (IsPlaced es) placed
-placed_lines es lines placed all is =
-    subst (λ (ps : List PlannedLine). AllByRecursion (IsPlaced es) ps) (sym is) (placed_each es 0 lines (all_index IsPlanLine lines (λ k d below. all k d below)))
 
 -- ---- all tests
 

@@ -1,33 +1,24 @@
 -- What a stable sort by slots leaves.
-use Rattle.std.proofs.Common.{◌≡◌, ℕ, suc, ◌+◌, false, not, ◌==◌, List, [], ◌∷◌, filter, get_or, ap, sym, ◌∙◌, subst, arith}
-use Rattle.std.specs.List.Sorted.{IsSortedBy, IsStableBy, ties}
+use Rattle.std.proofs.Common.{◌≡◌, not, ◌==◌, List, filter, ap, sym, ◌∙◌}
+use Rattle.std.specs.List.Sorted.{IsStableBy, ties}
 use Rattle.std.specs.Cmp.{IsStrictWeakOrder, both_ways}
 use Rattle.std.specs.Ordering.{is_lt}
 use Rattle.std.specs.declared.cmp.Ordering.{Ordering}
 use Rattle.std.proofs.lemmas.Bool.{and_parts, and_from, not-true}
 use Rattle.std.proofs.lemmas.Cmp.{tied_itself}
-use Rattle.std.proofs.lemmas.List.Sorted.{ranks_by, sorted_far}
+use Rattle.std.proofs.lemmas.List.Sorted.{ranks_by}
 use Rattle.fh_time.specs.declared.values.Slot.{Slot}
 use Rattle.unit_model.specs.Claims.{same_slot}
 use Rattle.plan_model.specs.declared.lines.PlannedLine.{PlannedLine}
 use Rattle.plan_model.proofs.ListLemmas.{filter_same}
-use Rattle.plan_check.specs.Order.{slot_cmp, comes_first, ArePlannedInOrder}
-use Rattle.plan_check.specs.Slots.{of_home}
-use Rattle.plan_check.proofs.RunLemmas.{slot_total, tie_is}
-use Rattle.plan_parts.proofs.ListLemmas.{all_index, filter_and}
+use Rattle.schedule_laws.specs.SlotOrder.{slot_cmp, comes_first}
+use Rattle.schedule_laws.specs.SlotTests.{of_home}
+use Rattle.schedule_laws.proofs.SlotRunLemmas.{slot_total, tie_is}
+use Rattle.schedule_laws.proofs.FilterLemmas.{filter_and}
 use Rattle.unit_model.proofs.ClaimLemmas.{same_slot_is as slot_is, slot_self as slot_own}
 
 pub first_ranks : IsStrictWeakOrder comes_first
 first_ranks = ranks_by slot_total (λ (p : PlannedLine). p.line.slot)
-
-pub sorted_order : (xs : List PlannedLine) → IsSortedBy comes_first xs → ArePlannedInOrder xs
-sorted_order [] h = tt
-sorted_order (p ∷ ps) h = (
-  all_index (λ q. comes_first q p ≡ false) ps (λ k d below. sorted_far comes_first first_ranks (p ∷ ps) h 0 (suc k) d (omega arith) (omega (arith, below))),
-  sorted_order ps (λ k d low high.
-      let e : suc k + 1 ≡ suc (k + 1) = omega arith in
-      subst (λ (n : ℕ). comes_first (get_or (p ∷ ps) n d) (get_or ps k d) ≡ false) e (h (suc k) d (omega arith) (omega (arith, high)))),
-)
 
 -- ---- of one slot
 
