@@ -121,6 +121,12 @@ inside a h = go (a.num_prb == 0) refl
 pub not_yet : (s y : ℕ) → s ≤ y → is_from s (y - s) y ≡ false
 not_yet s y low = from_above s (y - s) y (omega arith)
 
+pub none_yet : (s z : ℕ) → is_from s (s - s) z ≡ false
+none_yet s z = elim (cases_lt z s) [
+  | inl below ↦ from_below s (s - s) z below
+  | inr past ↦ from_above s (s - s) z (omega (arith, past))
+]
+
 now : (s y : ℕ) → s ≤ y → is_from s (y + 1 - s) y ≡ true
 now s y low = from_in s (y + 1 - s) y low (omega arith)
 

@@ -90,7 +90,7 @@ put_kept r i p q ring within read slot prbs =
     (prbs ∙ ap (λ (x : PlaceValue). x.prbs) there ∙ ring.widths i within)
     (λ s is. ring.homes i s within (ap (λ (x : PlaceValue). x.slot) (sym there) ∙ sym slot ∙ is))
 
-pub read_prbs : (r : RingValue) (i : ℕ) (p : PlaceValue) → IsRing r → i < length r.places → p ≡ get_or r.places i p → p.prbs ≡ r.endpoint.prbs
+read_prbs : (r : RingValue) (i : ℕ) (p : PlaceValue) → IsRing r → i < length r.places → p ≡ get_or r.places i p → p.prbs ≡ r.endpoint.prbs
 read_prbs r i p ring within read = ap (λ (x : PlaceValue). x.prbs) (get_or_read r.places i p within read blank) ∙ ring.widths i within
 
 some_own : (s t : Slot) → Some s ≡ Some t → s ≡ t
@@ -107,6 +107,10 @@ put_opened r i p q slot ring within read is i_is opened =
     (subst (λ (x : Slot). IsSlot r.endpoint.numerology x) s_is is, subst (λ (x : Slot). place_index r x ≡ i) s_is (sym i_is)))
 
 -- what was read is the slot's place
+pub read_width : (r s : RingValue) (i : ℕ) (p : PlaceValue) → IsRing r → r ≡ s → i < length s.places → p ≡ get_or r.places i p → p.prbs ≡ s.endpoint.prbs
+read_width r s i p ring same within read =
+    read_prbs r i p ring (subst (λ (x : RingValue). i < length x.places) (sym same) within) read ∙ ap (λ (x : RingValue). x.endpoint.prbs) same
+
 pub read_is : (r s : RingValue) (i : ℕ) (p : PlaceValue) (slot : Slot) → IsRing r → r ≡ s → i ≡ place_index s slot → p ≡ get_or r.places i p → p ≡ place_of s slot
 read_is r s i p slot ring same i_is read =
     let i_there : i ≡ place_index r slot = i_is ∙ ap (λ (x : RingValue). place_index x slot) (sym same) in

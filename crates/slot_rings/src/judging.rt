@@ -1,5 +1,5 @@
 // Allocations against the claims of their slot.
-ghost use Rattle.std.specs.Prelude.{◌≡◌, ◌≢◌, ℕ, ◌+◌, ◌*◌, ◌^◌, ◌<◌, ◌≤◌, ◌&&◌, false, get_or, vec_capacity, vec_len, if◌then◌else◌, Some};
+ghost use Rattle.std.specs.Prelude.{◌≡◌, ◌≢◌, ℕ, ◌+◌, ◌*◌, ◌^◌, ◌<◌, ◌≤◌, ◌&&◌, false, get_or, vec_capacity, vec_len, true, if◌then◌else◌, Some};
 ghost use Rattle.fh_time.specs.Carrier.{is_outside};
 ghost use Rattle.unit_model.specs.Claims.{first_prb, prb_count, cell_of, in_mask, is_from, is_claimed, is_overlapped, claim_of};
 ghost use Rattle.unit_model.specs.Commands.{is_uplink};
@@ -214,6 +214,38 @@ fn claim_more(claims: &mut Vec<CellClaims>, from: usize, count: usize, a: &Alloc
     }
 }
 
+/// Claims the cells from number `from` on, which are blank if they are fresh.
+fn claim_run(claims: &mut Vec<CellClaims>, from: usize, count: usize, fresh: bool, a: &Allocation)
+    requires fresh { fresh ≡ true → (k : ℕ) → from ≤ k → k < from + count → get_or claims.old.items k no_claims ≡ no_claims }
+    requires room { from + count ≤ vec_capacity claims.old }
+    requires small { from + count < 2 ^ 32 }
+    requires free { (k : ℕ) → from ≤ k → k < from + count
+        → is_overlapped a.now.section a.now.mask (claim_in (get_or claims.old.items k no_claims)) ≡ false }
+    ensures each { (k re : ℕ) → re < 12 → claim_in (get_or claims.new.items k no_claims) re
+        ≡ (if is_from from count k && in_mask a.now.mask re then Some (claim_of a.now) else claim_in (get_or claims.old.items k no_claims) re) }
+    ensures others { (k : ℕ) → is_from from count k ≡ false → get_or claims.new.items k no_claims ≡ get_or claims.old.items k no_claims }
+    ensures reported { (k : ℕ) → is_reported claims.new.items k ≡ is_reported claims.old.items k }
+    ensures capacity { vec_capacity claims.old ≤ vec_capacity claims.new }
+{
+    if fresh {
+        claim_fresh(claims, from, count, a);
+    } else {
+        claim_more(claims, from, count, a);
+    }
+}
+
+/// The number of the first cell that an allocation covers in a symbol.
+fn first_cell(symbol: usize, a: &Allocation) -> usize
+    requires symbol { symbol < SLOT_SYMBOLS }
+    requires inside { is_outside a.now.endpoint.prbs a.now.start_prb a.now.num_prb ≡ false }
+    ensures value { result ≡ symbol * a.now.endpoint.prbs + first_prb a.now }
+    ensures within { result + prb_count a.now ≤ SLOT_SYMBOLS * a.now.endpoint.prbs }
+    ensures small { result + prb_count a.now < 2 ^ 32 }
+    ensures fits { first_prb a.now + prb_count a.now < 2 ^ 16 }
+{
+    symbol * a.endpoint.prbs as usize + first_prb(a)
+}
+
 /// Claims the cells of a symbol that an allocation covers.
 fn claim_row(claims: &mut Vec<CellClaims>, spans: &mut Spans, symbol: usize, a: &Allocation)
     requires symbol { symbol < SLOT_SYMBOLS }
@@ -229,16 +261,11 @@ fn claim_row(claims: &mut Vec<CellClaims>, spans: &mut Spans, symbol: usize, a: 
     ensures reported { (k : ℕ) → is_reported claims.new.items k ≡ is_reported claims.old.items k }
     ensures capacity { vec_capacity claims.old ≤ vec_capacity claims.new }
 {
+    let from = first_cell(symbol, a);
     let prbs = a.prbs();
-    let from = symbol * a.endpoint.prbs as usize + prbs.first as usize;
-    let count = prbs.count as usize;
     let fresh = is_unwritten(spans, symbol, prbs);
     widen(spans, symbol, prbs);
-    if fresh {
-        claim_fresh(claims, from, count, a);
-    } else {
-        claim_more(claims, from, count, a);
-    }
+    claim_run(claims, from, prbs.count as usize, fresh, a);
 }
 
 /// Claims all that an allocation names, where nothing is claimed against it.

@@ -1,5 +1,5 @@
 // The memory of one slot.
-ghost use Rattle.std.specs.Prelude.{◌≡◌, ◌≢◌, ℕ, ◌+◌, ◌*◌, ◌<◌, ◌≤◌, ◌||◌, true, false, List, [], length, get_or, reverse, if◌then◌else◌, IfOk, None, Some, vec_capacity, vec_len};
+ghost use Rattle.std.specs.Prelude.{◌≡◌, ◌≢◌, ℕ, ◌+◌, ◌*◌, ◌<◌, ◌≤◌, ◌||◌, true, false, List, length, get_or, reverse, if◌then◌else◌, IfOk, None, Some, vec_capacity, vec_len};
 ghost use Rattle.fh_time.specs.Carrier.{is_outside};
 ghost use Rattle.bfp_codec.specs.Layout.{HasWidth};
 ghost use Rattle.unit_model.specs.Claims.{is_from, same_slot};
@@ -104,16 +104,6 @@ fn keep(uplink: &mut Vec<Allocation>, a: &Allocation)
     }
 }
 
-/// Room for the claims on so many cells, for those of the downlink and of the uplink.
-fn claim_lists(alloc: Global, cells: usize) -> Result<(Vec<CellClaims>, Vec<CellClaims>), NoMemory>
-    ensures down { IfOk result (λ p. (p.0.items ≡ []) × (cells ≤ vec_capacity p.0)) }
-    ensures up { IfOk result (λ p. (p.1.items ≡ []) × (cells ≤ vec_capacity p.1)) }
-{
-    let down = Vec::with_capacity(alloc, cells)?;
-    let up = Vec::with_capacity(alloc, cells)?;
-    Ok((down, up))
-}
-
 /// Whether a cell is in use.
 fn is_used(claims: &Vec<CellClaims>, k: usize) -> bool
     requires { k < vec_len claims.now }
@@ -165,7 +155,8 @@ impl Place {
         ensures { IfOk result (λ p. p ≡ empty_place None prbs) }
     {
         let room = SLOT_SYMBOLS * prbs as usize;
-        let (down, up) = claim_lists(alloc, room)?;
+        let down = Vec::with_capacity(alloc, room)?;
+        let up = Vec::with_capacity(alloc, room)?;
         let blocks = Blocks::make(alloc, room as u16)?;
         let uplink = Vec::with_capacity(alloc, SLOT_SECTIONS)?;
         Ok(Place {

@@ -1,6 +1,7 @@
-use Rattle.std.proofs.Common.{◌+◌, ◌*◌, ◌∙◌, arith}
-use Rattle.unit_model.specs.Claims.{first_prb, prb_count}
-use Rattle.slot_rings.proofs.JudgeLemmas.{inside, row_free, row_claimed}
+use Rattle.std.proofs.Common.{◌≡◌, ℕ, ◌+◌, ◌-◌, ◌*◌, ◌∙◌, ◌&&◌, refl, subst, arith, get_or, if◌then◌else◌, Some}
+use Rattle.unit_model.specs.Claims.{first_prb, prb_count, in_mask, is_from, claim_of}
+use Rattle.slot_rings.specs.Places.{claim_in, no_claims}
+use Rattle.slot_rings.proofs.JudgeLemmas.{inside, none_yet, row_free, row_claimed}
 use Rattle.slot_rings.proofs.judging.claim_cells.Goals as goal
 
 pub claim_row-requires-clause-free : goal.claim_row-requires-clause-free
@@ -17,3 +18,25 @@ loop-symbol-preserved c = record {
       row_claimed c.args.a.now.symbol c.loop-symbol.symbol z c.args.a.now.endpoint.prbs (first_prb c.args.a.now) (prb_count c.args.a.now) n _ _ _ _ _
       c.loop-symbol.auto.symbol (inside c.args.a.now c.requires.inside) below (c.claim_row.ensures.each (z * c.args.a.now.endpoint.prbs + n) re under) (c.loop-symbol.invariant.each z n re below under);
 }
+
+pub loop-symbol-init : goal.loop-symbol-init
+loop-symbol-init c = record {
+  capacity = omega arith;
+  blank = c.requires.blank;
+  reported = λ k. refl;
+  each = λ z n re below under. rw (none_yet c.args.a.now.symbol z) refl;
+}
+
+pub returns : goal.returns
+returns c =
+    let l = c.loop-symbol in
+    let a = c.args.a.now in
+    let all : l.symbol - a.symbol ≡ a.num_symbol = omega (arith, c.loop-symbol-test.false, l.auto.symbol-end) in
+    record {
+      blank = l.invariant.blank;
+      each = λ z n re below under. subst (λ (m : ℕ). claim_in (get_or l.claims.items (z * a.endpoint.prbs + n) no_claims) re
+          ≡ (if (is_from a.symbol m z && is_from (first_prb a) (prb_count a) n) && in_mask a.mask re then Some (claim_of a)
+          else claim_in (get_or c.args.claims.now.items (z * a.endpoint.prbs + n) no_claims) re)) all (l.invariant.each z n re below under);
+      reported = l.invariant.reported;
+      capacity = l.invariant.capacity;
+    }

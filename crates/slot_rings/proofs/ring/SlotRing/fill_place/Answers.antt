@@ -1,11 +1,21 @@
-use Rattle.std.proofs.Common.{◌<◌, refl, ap, sym, subst, length}
-use Rattle.slot_rings.specs.Places.{PlaceValue}
+use Rattle.std.proofs.Common.{◌≡◌, ℕ, ◌<◌, ◌∙◌, refl, ap, arith, sym, subst, length}
+use Rattle.slot_rings.specs.Places.{PlaceValue, cell_number}
 use Rattle.slot_rings.specs.Rings.{RingValue}
-use Rattle.slot_rings.proofs.RingLemmas.{put_kept}
+use Rattle.slot_rings.proofs.RingLemmas.{put_kept, read_width}
 use Rattle.slot_rings.proofs.PendingLemmas.{flagged_put, filled_quiet}
 use Rattle.slot_rings.proofs.CountLemmas.{sections_kept}
 use Rattle.slot_rings.proofs.StartLemmas.{starts_kept}
 use Rattle.slot_rings.proofs.ring.SlotRing.fill_place.Goals as goal
+
+width : (c : goal.After-index_mut) → c.index_mut.result.now.prbs ≡ c.args.self.now.endpoint.prbs
+width c = read_width (record { endpoint = c.self.inside.endpoint; places = c.self.inside.places.items }) c.args.self.now c.index-index.result c.index_mut.result.now
+    c.self.invariant.0 c.self.view_is c.index-index.ensures.within c.index_mut.ensures.value
+
+pub fill-requires-clause-prb : goal.fill-requires-clause-prb
+fill-requires-clause-prb c = let w = width c in omega (arith, w, c.requires.prb)
+
+pub fill-requires-clause-number : goal.fill-requires-clause-number
+fill-requires-clause-number c = c.number-number.ensures.value ∙ ap (λ (n : ℕ). cell_number n c.args.symbol c.args.prb) (sym (width c))
 
 pub invariant_of-self : goal.invariant_of-self
 invariant_of-self c =

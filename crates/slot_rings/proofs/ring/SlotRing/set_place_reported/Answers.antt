@@ -6,15 +6,13 @@ use Rattle.slot_rings.specs.Rings.{RingValue}
 use Rattle.slot_rings.proofs.ReportedLemmas.{still_reported}
 use Rattle.slot_rings.proofs.PendingLemmas.{all_quiet, flagged_told, reported_quiet}
 use Rattle.slot_rings.proofs.CountLemmas.{sections_kept}
-use Rattle.slot_rings.proofs.RingLemmas.{put_kept, read_prbs}
+use Rattle.slot_rings.proofs.RingLemmas.{put_kept, read_width}
 use Rattle.slot_rings.proofs.StartLemmas.{starts_kept}
 use Rattle.slot_rings.proofs.ring.SlotRing.set_place_reported.Goals as goal
 
 width : (c : goal.After-index_mut) → c.index_mut.result.now.prbs ≡ c.args.self.now.endpoint.prbs
-width c =
-    let r : RingValue = record { endpoint = c.self.inside.endpoint; places = c.self.inside.places.items } in
-    let within : c.index-index.result < length r.places = subst (λ (x : RingValue). c.index-index.result < length x.places) (sym c.self.view_is) c.index-index.ensures.within in
-    read_prbs r c.index-index.result c.index_mut.result.now c.self.invariant.0 within c.index_mut.ensures.value ∙ ap (λ (x : RingValue). x.endpoint.prbs) c.self.view_is
+width c = read_width (record { endpoint = c.self.inside.endpoint; places = c.self.inside.places.items }) c.args.self.now c.index-index.result c.index_mut.result.now
+    c.self.invariant.0 c.self.view_is c.index-index.ensures.within c.index_mut.ensures.value
 
 pub set_used_reported-requires-clause-from : goal.set_used_reported-requires-clause-from
 set_used_reported-requires-clause-from c = c.number-number.ensures.value ∙ ap (λ (n : ℕ). cell_number n c.args.symbol 0) (sym (width c))
