@@ -1,6 +1,4 @@
 -- The lemmas, from the bottom up.
-pub mod SweepLemmas
-pub mod SymbolLemmas
 pub mod ListedLemmas
 pub mod PartLemmas
 pub mod CutLemmas

@@ -23,8 +23,7 @@ use Rattle.plan_model.specs.Lines.{line_allocation}
 use Rattle.plan_model.specs.Streams.{Part, part_in, has_part}
 use Rattle.plan_model.specs.declared.lines.PlannedLine.{PlannedLine}
 use Rattle.plan_model.proofs.ListLemmas.{in_either}
-use Rattle.plan_parts.specs.Parts.{part_symbols, timed, has_stream, is_sent, line_parts, listed}
-use Rattle.plan_parts.specs.Sweeping.{is_at}
+use Rattle.plan_parts.specs.Parts.{is_at, part_symbols, timed, has_stream, is_sent, line_parts, listed}
 use Rattle.plan_parts.specs.declared.parts.TimedPart.{TimedPart}
 
 -- the tests of the slot, as one

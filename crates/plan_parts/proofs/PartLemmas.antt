@@ -32,16 +32,16 @@ use Rattle.plan_model.specs.declared.streams.Stream.TheVariants.{DownCommands, U
 use Rattle.plan_model.proofs.ListLemmas.{of_filter, in_filter, all_in, all_from, all_map, filter_all, filter_mapped, filter_has}
 use Rattle.plan_model.proofs.TickLemmas.{nat_same, int_same}
 use Rattle.schedule_laws.specs.PlacedLines.{ArePlaced, HasEndpoint}
-use Rattle.plan_parts.specs.Parts.{is_up_data, part_symbols, timed, listed, prb_cmp, part_cmp, part_first, IsTimed}
+use Rattle.plan_parts.specs.Parts.{is_at, symbol_of, is_up_data, part_symbols, timed, listed, prb_cmp, part_cmp, part_first, IsTimed}
 use Rattle.schedule_laws.specs.Ordered.{AreOrderedBy}
-use Rattle.plan_parts.specs.Sweeping.{clock_of, is_at, parts_of_endpoint, IsPart, Precedes}
+use Rattle.schedule_laws.specs.Sweeping.{clock_of, parts_of_endpoint, IsPart, Precedes}
 use Rattle.plan_parts.specs.declared.parts.TimedPart.{TimedPart}
 use Rattle.schedule_laws.proofs.FilterLemmas.{filter_and, related_filter, related_map}
 use Rattle.schedule_laws.proofs.InsideLemmas.{inside_is, size_small}
 use Rattle.plan_parts.proofs.ListedLemmas.{Named, named_is, listed_at, listed_few, few_symbols}
 use Rattle.schedule_laws.proofs.OrderedLemmas.{ordered_same, in_order_ordered, in_order_keeps}
 use Rattle.std.proofs.lemmas.Map.Lookups.{exact_signed, exact_unsigned}
-use Rattle.plan_parts.proofs.SymbolLemmas.{filter_alike, AtSymbol, at_parts, start_at, sweeps_find_all}
+use Rattle.schedule_laws.proofs.SweepingLemmas.{filter_alike, AtSymbol, at_parts, start_at, sweeps_find_all}
 use Rattle.fh_time.specs.declared.frames.TheConstants.{FRAME}
 use Rattle.window_config.specs.declared.plan.TheConstants.{LAST_FRAME}
 use Rattle.fh_time.specs.declared.symbols.TheConstants.{SUBFRAME}
@@ -96,7 +96,7 @@ nat_step a b r h same later = step (a < b) (a ≡ b) (b < a) (nat_cmp a b) r (ra
 int_step : {G : Type 0} (a b : ℤ) (r : Ordering) → is_lt (ordering_then (int_cmp a b) r) ≡ false → (b ≡ a → is_lt r ≡ false → G) → (b <ℤ a → G) → G
 int_step a b r h same later = step (a <ℤ b) (a ≡ b) (b <ℤ a) (int_cmp a b) r (int_ranked a b _ refl) h (λ e. same (sym e)) later
 
-precedes : (x y : TimedPart) → part_first y x ≡ false → Precedes x y
+precedes : (x y : TimedPart) → part_first y x ≡ false → Precedes (symbol_of x) (symbol_of y)
 precedes x y h =
     int_step y.start.0 x.start.0 _ h (λ e h. inr (
       e,
@@ -113,7 +113,7 @@ precedes x y h =
 -- ---- what is known of each part
 
 pub record Fact (stream : Stream) (e : EndpointConfig) (y : TimedPart) : Type 0 where
-  pub part : IsPart (clock_of e) first_clock tick_count y
+  pub part : IsPart (clock_of e) first_clock tick_count (symbol_of y)
   pub plain : is_up_data stream ≡ false → (y.start_prb ≡ 0) × (y.num_prb ≡ 0) × (y.section ≡ 0)
 
 in_time : (frame start : ℤ) (offset : ℕ) → pos 1 ≤ℤ frame → frame ≤ℤ pos LAST_FRAME → offset < 92160000000 → start ≡ frame *ℤ FRAME +ℤ pos offset
@@ -148,7 +148,7 @@ fact_is stream ep ps e placed ends x n = subst (Fact stream e) (sym n.is) (recor
         (placed.ranges n.line n.there).frame_low (placed.ranges n.line n.there).frame_high
         (symbol_short n.line.endpoint.numerology n.line.line.slot n.symbol (offsets_short n.line.endpoint.numerology) slot_ok symbol_ok) refl
 
-    part : IsPart (clock_of e) first_clock tick_count (timed stream (part_in n.symbol n.line))
+    part : IsPart (clock_of e) first_clock tick_count (symbol_of (timed stream (part_in n.symbol n.line)))
     part = record {
       starts = ap at same;
       low = near.0;
@@ -177,7 +177,7 @@ at_symbol e f b l y x = record {
   line = 0;
 }
 
-from_parts : (f : ℤ) (b l y : ℕ) (z : TimedPart) → AtSymbol f b l y z → is_at f b l y z ≡ true
+from_parts : (f : ℤ) (b l y : ℕ) (z : TimedPart) → AtSymbol f b l y (symbol_of z) → is_at f b l y z ≡ true
 from_parts f b l y z a =
     and_from (int_eq z.frame f) _ ((Decides-int_eq z.frame f).1 a.frame)
     (and_from (z.subframe == b) _ (eq-eqb z.subframe b a.subframe) (and_from (z.slot == l) _ (eq-eqb z.slot l a.slot) (eq-eqb z.symbol y a.symbol)))
@@ -209,9 +209,9 @@ tie_parts stream e f b l y x z fact = both_ways _ _
     and_from (ties prb_first x z) _ (equal_tied prb_total x z s.4)
     (from_parts f b l y z (record { frame = sym s.0; subframe = sym s.1; slot = sym s.2; symbol = sym s.3 })))
     (λ h. let w = and_parts (ties prb_first x z) (is_at f b l y z) h in
-    let a = at_parts f b l y z w.1 in
+    let a = at_parts f b l y (symbol_of z) w.1 in
     equal_tied part_total (at_symbol e f b l y x) z
-    (one_symbol (at_symbol e f b l y x) z (sym (start_at (clock_of e) first_clock tick_count f b l y z fact.part a)) (cc) (cc) (cc) (cc) ∙ tied_equal prb_total x z w.0))
+    (one_symbol (at_symbol e f b l y x) z (sym (start_at (clock_of e) first_clock tick_count f b l y (symbol_of z) fact.part a)) (sym a.frame) (sym a.subframe) (sym a.slot) (sym a.symbol) ∙ tied_equal prb_total x z w.0))
 
 -- ---- the order of the radio unit
 
@@ -279,14 +279,14 @@ module _ (stream : Stream) (e : EndpointConfig) (ep : ℕ) (lines : List Planned
 
   symbol_ordered : (f : ℤ) (b l y : ℕ) → AreOrderedBy prb_first (filter (is_at f b l y) ys)
   symbol_ordered f b l y =
-      related_map (λ z w. part_first w z ≡ false) (λ z w. prb_first w z ≡ false) (λ z. Fact stream e z × AtSymbol f b l y z)
+      related_map (λ z w. part_first w z ≡ false) (λ z w. prb_first w z ≡ false) (λ z. Fact stream e z × AtSymbol f b l y (symbol_of z))
       (λ z w a c h. sym (ap (λ (o : Ordering). is_lt o) (one_symbol w z (starts w c ∙ sym (starts z a)) (cc) (cc) (cc) (cc))) ∙ h)
       (filter (is_at f b l y) ys)
-      (filter_has (Fact stream e) (λ z. Fact stream e z × AtSymbol f b l y z) (is_at f b l y) (λ z fact h. (fact, at_parts f b l y z h)) ys y_facts)
+      (filter_has (Fact stream e) (λ z. Fact stream e z × AtSymbol f b l y (symbol_of z)) (is_at f b l y) (λ z fact h. (fact, at_parts f b l y (symbol_of z) h)) ys y_facts)
       (related_filter (λ z w. part_first w z ≡ false) (is_at f b l y) ys order)
     where
-      starts : (z : TimedPart) → Fact stream e z × AtSymbol f b l y z → z.start.0 ≡ air_of e.numerology (slot_at f b l) y
-      starts z w = start_at (clock_of e) first_clock tick_count f b l y z w.0.part w.1
+      starts : (z : TimedPart) → Fact stream e z × AtSymbol f b l y (symbol_of z) → z.start.0 ≡ air_of e.numerology (slot_at f b l) y
+      starts z w = start_at (clock_of e) first_clock tick_count f b l y (symbol_of z) w.0.part w.1
 
 abbrev zero_part : TimedPart
 zero_part = record { start = record { 0 = pos 0 }; frame = pos 0; subframe = 0; slot = 0; symbol = 0; start_prb = 0; num_prb = 0; section = 0; size = 0; line = 0 }
@@ -359,10 +359,10 @@ pub parts_are : (stream : Stream) (e : EndpointConfig) (ep : ℕ) (lines : List 
     → AreOrderedBy part_first ys → ArePlaced lines → HasEndpoint lines ep e → ys ≡ map (timed stream) (parts_in lines stream ep e)
 unfolding parts_in swept of_frame of_subframe of_slot
 parts_are stream e ep lines ys stable order placed ends =
-    sym (sweeps_find_all (clock_of e) ys first_clock tick_count
-    (related_map (λ x y. part_first y x ≡ false) Precedes (Fact stream e) (λ x y u v h. precedes x y h) ys (y_facts stream e ep lines ys stable order placed ends) order)
-    (all_map (Fact stream e) (IsPart (clock_of e) first_clock tick_count) (λ y fact. fact.part) ys (y_facts stream e ep lines ys stable order placed ends)))
-    ∙ map_ticks (timed stream) first_clock tick_count _ (parts_of_endpoint (clock_of e) ys) (λ s.
+    sym (sweeps_find_all symbol_of (clock_of e) ys first_clock tick_count
+    (related_map (λ x y. part_first y x ≡ false) (λ x y. Precedes (symbol_of x) (symbol_of y)) (Fact stream e) (λ x y u v h. precedes x y h) ys (y_facts stream e ep lines ys stable order placed ends) order)
+    (all_map (Fact stream e) (λ y. IsPart (clock_of e) first_clock tick_count (symbol_of y)) (λ y fact. fact.part) ys (y_facts stream e ep lines ys stable order placed ends)))
+    ∙ map_ticks (timed stream) first_clock tick_count _ (parts_of_endpoint symbol_of (clock_of e) ys) (λ s.
     map_each (timed stream) 0 6 _ _ (λ k.
     map_each (timed stream) 0 10 _ _ (λ b.
     map_each (timed stream) 0 (slots_of e.numerology) _ _ (λ l.

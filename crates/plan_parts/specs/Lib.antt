@@ -1,4 +1,3 @@
-pub mod Sweeping
 pub mod Parts
 pub mod Keys
 pub mod OpenMessages

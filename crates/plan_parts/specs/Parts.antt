@@ -1,5 +1,5 @@
 -- The parts of an endpoint's messages, as they are listed and in their order (this project's means).
-use Rattle.std.specs.Prelude.{ℕ, pos, neg_ℤ, ◌^◌, ◌≤◌, ◌≤ℤ◌, Bool, true, false, not, ◌&&◌, ◌==◌, if◌then◌else◌, List, [], ◌∷◌, ◌++◌}
+use Rattle.std.specs.Prelude.{ℕ, ℤ, pos, neg_ℤ, ◌^◌, ◌≤◌, ◌≤ℤ◌, Bool, true, false, not, ◌&&◌, ◌==◌, if◌then◌else◌, List, [], ◌∷◌, ◌++◌}
 use Rattle.std.specs.Ordering.{nat_cmp, int_cmp, on, then_cmp, is_lt}
 use Rattle.std.specs.declared.cmp.Ordering.{Ordering}
 use Rattle.unit_model.specs.Commands.{is_uplink}
@@ -11,6 +11,7 @@ use Rattle.plan_model.specs.Streams.{Part, part_in, section_size}
 use Rattle.plan_model.specs.declared.lines.PlannedLine.{PlannedLine}
 use Rattle.plan_model.specs.declared.streams.Stream.{Stream}
 use Rattle.plan_model.specs.declared.streams.Stream.TheVariants.{DownCommands, UpCommands, DownData, UpData}
+use Rattle.schedule_laws.specs.Sweeping.{PartSymbol, is_symbol}
 use Rattle.plan_parts.specs.declared.parts.TimedPart.{TimedPart}
 
 -- only uplink data is ordered by more than lines
@@ -80,3 +81,11 @@ part_cmp = then_cmp (on (λ p. p.start.0) int_cmp) (then_cmp (on (λ p. p.frame)
 
 abbrev pub part_first : TimedPart → TimedPart → Bool
 part_first p q = is_lt (part_cmp p q)
+
+-- ---- their symbols
+
+abbrev pub symbol_of : TimedPart → PartSymbol
+symbol_of p = record { start = p.start.0; frame = p.frame; subframe = p.subframe; slot = p.slot; symbol = p.symbol }
+
+abbrev pub is_at : ℤ → ℕ → ℕ → ℕ → TimedPart → Bool
+is_at frame subframe slot symbol p = is_symbol frame subframe slot symbol (symbol_of p)

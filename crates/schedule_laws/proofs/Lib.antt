@@ -33,3 +33,4 @@ pub mod PlanTestLemmas
 pub mod PlannedLemmas
 pub mod TabledLemmas
 pub mod TouchLemmas
+pub mod SweepingLemmas

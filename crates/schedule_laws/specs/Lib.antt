@@ -13,3 +13,4 @@ pub mod SlotOrder
 pub mod DenseWays
 pub mod Touched
 pub mod TabledPlans
+pub mod Sweeping

@@ -7,7 +7,6 @@ use Rattle.fh_time.specs.Numbering.{slots_of, symbols_of}
 use Rattle.window_config.specs.declared.endpoints.EndpointConfig.{EndpointConfig}
 use Rattle.unit_model.specs.Lists.{each, each_tick, AreRelated}
 use Rattle.unit_model.specs.Sweeps.{first_swept, slot_at}
-use Rattle.plan_parts.specs.declared.parts.TimedPart.{TimedPart}
 
 -- no key falls along the list
 abbrev pub IsRising : {A : Type 0} → (A → ℕ) → List A → Type 0
@@ -49,34 +48,43 @@ clock_of e = record {
   first = first_swept;
 }
 
-abbrev pub is_at : ℤ → ℕ → ℕ → ℕ → TimedPart → Bool
-is_at frame subframe slot symbol p = int_eq p.frame frame && ((p.subframe == subframe) && ((p.slot == slot) && (p.symbol == symbol)))
+-- the symbol of a part, and when it starts
+pub record PartSymbol : Type 0 where
+  pub start : ℤ
+  pub frame : ℤ
+  pub subframe : ℕ
+  pub slot : ℕ
+  pub symbol : ℕ
 
-abbrev pub parts_of_symbol : Clock → List TimedPart → ℤ → ℤ → ℕ → ℕ → ℕ → List TimedPart
-parts_of_symbol c ps s frame subframe slot symbol = if int_eq (c.air frame subframe slot symbol) s then filter (is_at frame subframe slot symbol) ps else []
+abbrev pub is_symbol : ℤ → ℕ → ℕ → ℕ → PartSymbol → Bool
+is_symbol frame subframe slot symbol p = int_eq p.frame frame && ((p.subframe == subframe) && ((p.slot == slot) && (p.symbol == symbol)))
+
+abbrev pub parts_of_symbol : {P : Type 0} → (P → PartSymbol) → Clock → List P → ℤ → ℤ → ℕ → ℕ → ℕ → List P
+parts_of_symbol of_part c ps s frame subframe slot symbol = if int_eq (c.air frame subframe slot symbol) s then filter (λ p. is_symbol frame subframe slot symbol (of_part p)) ps else []
 
 -- the symbols that start at a tick, frame by frame, in the order of subframes, slots and symbols
-abbrev pub parts_of_endpoint : Clock → List TimedPart → ℤ → List TimedPart
-parts_of_endpoint c ps s = each 0 6 (λ k. each 0 10 (λ b. each 0 c.slots (λ l. each 0 c.symbols (parts_of_symbol c ps s (c.first s +ℤ pos k) b l))))
+abbrev pub parts_of_endpoint : {P : Type 0} → (P → PartSymbol) → Clock → List P → ℤ → List P
+parts_of_endpoint of_part c ps s = each 0 6 (λ k. each 0 10 (λ b. each 0 c.slots (λ l. each 0 c.symbols (parts_of_symbol of_part c ps s (c.first s +ℤ pos k) b l))))
 
--- the part is of a symbol of its endpoint, which starts then
-pub record IsPart (c : Clock) (from : ℤ) (count : ℕ) (p : TimedPart) : Type 0 where
-  pub starts : p.start.0 ≡ c.air p.frame p.subframe p.slot p.symbol
-  pub low : c.first p.start.0 ≤ℤ p.frame
-  pub high : p.frame <ℤ (c.first p.start.0 +ℤ pos 6)
+-- it is a symbol of its endpoint, which starts then
+pub record IsPart (c : Clock) (from : ℤ) (count : ℕ) (p : PartSymbol) : Type 0 where
+  pub starts : p.start ≡ c.air p.frame p.subframe p.slot p.symbol
+  pub low : c.first p.start ≤ℤ p.frame
+  pub high : p.frame <ℤ (c.first p.start +ℤ pos 6)
   pub subframe : p.subframe < 10
   pub slot : p.slot < c.slots
   pub symbol : p.symbol < c.symbols
-  pub begun : from ≤ℤ p.start.0
-  pub ended : p.start.0 <ℤ (from +ℤ pos count)
+  pub begun : from ≤ℤ p.start
+  pub ended : p.start <ℤ (from +ℤ pos count)
 
 -- one does not come after the other: by start, frame, subframe, slot and symbol
-abbrev pub Precedes : TimedPart → TimedPart → Type 0
-Precedes p q = (p.start.0 <ℤ q.start.0) ⊎ ((p.start.0 ≡ q.start.0) × ((p.frame <ℤ q.frame) ⊎ ((p.frame ≡ q.frame)
+abbrev pub Precedes : PartSymbol → PartSymbol → Type 0
+Precedes p q = (p.start <ℤ q.start) ⊎ ((p.start ≡ q.start) × ((p.frame <ℤ q.frame) ⊎ ((p.frame ≡ q.frame)
     × ((p.subframe < q.subframe) ⊎ ((p.subframe ≡ q.subframe) × ((p.slot < q.slot) ⊎ ((p.slot ≡ q.slot) × (p.symbol ≤ q.symbol))))))))
 
-abbrev pub AreOrdered : List TimedPart → Type 0
-AreOrdered = AreRelated Precedes
+abbrev pub AreOrdered : {P : Type 0} → (P → PartSymbol) → List P → Type 0
+AreOrdered of_part = AreRelated (λ p q. Precedes (of_part p) (of_part q))
 
-abbrev pub SweepsFindAll : Type 0
-SweepsFindAll = (c : Clock) (ps : List TimedPart) (from : ℤ) (count : ℕ) → AreOrdered ps → AllByRecursion (IsPart c from count) ps → each_tick from count (parts_of_endpoint c ps) ≡ ps
+abbrev pub SweepsFindAll : {P : Type 0} → (P → PartSymbol) → Type 0
+SweepsFindAll {P} of_part = (c : Clock) (ps : List P) (from : ℤ) (count : ℕ) → AreOrdered of_part ps → AllByRecursion (λ p. IsPart c from count (of_part p)) ps
+    → each_tick from count (parts_of_endpoint of_part c ps) ≡ ps
