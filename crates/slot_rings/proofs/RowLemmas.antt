@@ -1,5 +1,5 @@
 -- What is known of the claims of a symbol.
-use Rattle.std.proofs.Common.{◌≡◌, ℕ, zero, suc, ◌+◌, ◌-◌, ◌*◌, ◌<◌, ◌≤◌, inl, inr, Bool, true, false, not, ◌&&◌, ◌||◌, ◌==◌, nat_le, nat_lt, min, max, if◌then◌else◌, is_some, List, [], ◌∷◌, length, get_or, set, get_or-set_same, get_or-set_other, refl, ap, sym, ◌∙◌, subst, arith, Option, Some, None}
+use Rattle.std.proofs.Common.{◌≡◌, ℕ, zero, suc, ◌+◌, ◌-◌, ◌*◌, ◌<◌, ◌≤◌, inl, inr, Bool, true, false, not, ◌&&◌, ◌||◌, ◌==◌, nat_le, nat_lt, min, max, if◌then◌else◌, is_some, List, [], ◌∷◌, length, get_or, replicate, set, get_or-set_same, get_or-set_other, refl, ap, sym, ◌∙◌, subst, arith, Option, Some, None}
 use Rattle.std.proofs.lemmas.Bool.{and_from, and_parts, cases_Bool, cases_eq, cases_lt, le-leb, leb-true, lt-ltb, ltb-false, ltb-true}
 use Rattle.unit_model.specs.Claims.{claim_of, first_prb, in_mask, is_claimed, is_from, is_other, is_overlapped, is_under, prb_count}
 use Rattle.unit_model.specs.Lists.{every, some}
@@ -194,6 +194,27 @@ rows_grown prbs old new rows after a are grown others each = record {
     | inl inside ↦ row_grown prbs old new s a (row_at rows s) (row_at after s) (are.each s) (grown s inside) (λ n re low below. rw inside at (each s n re low below))
     | inr out ↦ subst (λ (r : Row). IsRow prbs new s r) (sym (others s out))
         (row_kept prbs old new s (row_at rows s) (are.each s) (λ n re low below. rw out at (each s n re low below)))
+  ];
+}
+
+-- ---- rows of which nothing is claimed
+
+row_empty : (n s : ℕ) → get_or (replicate n empty_row) s empty_row ≡ empty_row
+row_empty zero s = refl
+row_empty (suc n) zero = refl
+row_empty (suc n) (suc s) = row_empty n s
+
+pub rows_none : (prbs : ℕ) (claims : List CellClaims) → ((k : ℕ) → get_or claims k no_claims ≡ no_claims) → AreRows prbs claims (replicate SLOT_SYMBOLS empty_row)
+rows_none prbs claims none = record {
+  each = λ s. elim (cases_Bool (nat_lt s SLOT_SYMBOLS)) [
+    | inr past ↦ rw past tt
+    | inl within ↦
+        let at : row_at (replicate SLOT_SYMBOLS empty_row) s ≡ empty_row = rw within (row_empty SLOT_SYMBOLS s) in
+        subst (IsRow prbs claims s) (sym at) (record {
+          each = λ n re low below.
+              let out = from_above 0 0 n (omega arith) in
+              rw out (ap (λ (m : CellClaims). claim_id (claim_in m re)) (none (cell_number prbs s n)));
+        })
   ];
 }
 
