@@ -15,7 +15,7 @@ use Rattle.plan_model.specs.declared.streams.Stream.TheVariants.{DownCommands, U
 use Rattle.replay_laws.specs.Passing.{AreLandings}
 use Rattle.schedule_laws.proofs.SentLemmas.{IsSentStream, message_part, sent_is}
 use Rattle.schedule_laws.proofs.TimeLemmas.{wait_most}
-use Rattle.frame_order.proofs.BoundLemmas.{most_before, part_time}
+use Rattle.schedule_laws.proofs.SentTimeLemmas.{most_before, part_time}
 use Rattle.unit_model.proofs.SweepLaws.{gap_is}
 use Rattle.unit_model.specs.Meetings.{Arrival}
 use Rattle.unit_model.specs.Proper.{IsAt, IsTime}

@@ -11,7 +11,7 @@ use Rattle.plan_model.proofs.TickLemmas.{int_cases, int_below, same_not, next_ti
 use Rattle.frame_order.specs.Turns.{is_turn, times}
 use Rattle.frame_order.specs.declared.turns.Turn.{Turn}
 use Rattle.frame_order.specs.Runs.{turn_of}
-use Rattle.frame_order.proofs.KeptLemmas.{at_time}
+use Rattle.schedule_laws.specs.SentOrder.{at_time}
 use Rattle.frame_order.proofs.Left.{times-append}
 
 ticks_none : (from : ℤ) (count : ℕ) → each_tick from count (at_time []) ≡ []

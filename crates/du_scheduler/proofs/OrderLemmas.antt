@@ -9,9 +9,11 @@ use Rattle.plan_model.specs.Sent.{frames_from, sent}
 use Rattle.frame_order.specs.Turns.{times}
 use Rattle.frame_order.specs.declared.turns.Turn.{Turn}
 use Rattle.frame_order.specs.Runs.{SentIsInOrder}
-use Rattle.frame_order.proofs.BoundLemmas.{all_in_time}
+use Rattle.schedule_laws.proofs.SentTimeLemmas.{all_in_time}
 use Rattle.du_scheduler.proofs.CountLemmas.{ticks_count}
-use Rattle.frame_order.proofs.KeptLemmas.{frames_kept, rising_of, ticks_kept, at_time}
+use Rattle.schedule_laws.proofs.SentOrderLemmas.{frames_kept}
+use Rattle.frame_order.proofs.KeptLemmas.{rising_of, ticks_kept}
+use Rattle.schedule_laws.specs.SentOrder.{at_time}
 use Rattle.frame_order.proofs.RunLemmas.{runs_are}
 use Rattle.unit_model.specs.Lists.{each_tick}
 

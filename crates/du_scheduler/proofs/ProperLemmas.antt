@@ -29,7 +29,7 @@ use Rattle.schedule_laws.proofs.OrderLemmas.{all_short}
 use Rattle.schedule_laws.proofs.PackLemmas.{message_from}
 use Rattle.schedule_laws.proofs.SentLemmas.{IsSentStream, message_part, part_is}
 use Rattle.frame_order.specs.Runs.{MessagesAreRuns, endpoint_runs, latest, run_of, runs_from, stream_runs}
-use Rattle.frame_order.proofs.BoundLemmas.{most_before, part_time}
+use Rattle.schedule_laws.proofs.SentTimeLemmas.{most_before, part_time}
 use Rattle.window_config.proofs.TickLemmas.{in_ticks}
 use Rattle.unit_model.specs.Terms.{piece_count, MESSAGE_BYTES}
 use Rattle.window_config.specs.declared.config.TheConstants.{LEAST_FRAGMENT}

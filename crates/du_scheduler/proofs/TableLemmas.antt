@@ -15,7 +15,8 @@ use Rattle.plan_model.specs.Streams.{Part}
 use Rattle.plan_model.specs.declared.lines.PlannedLine.{PlannedLine}
 use Rattle.plan_model.specs.declared.streams.Stream.{Stream}
 use Rattle.plan_model.specs.declared.streams.Stream.TheVariants.{DownCommands, UpCommands, DownData, UpData}
-use Rattle.frame_order.specs.Turns.{IsRun, stream_place}
+use Rattle.frame_order.specs.Turns.{IsRun}
+use Rattle.schedule_laws.specs.SentOrder.{stream_place}
 use Rattle.frame_order.specs.declared.turns.Run.{Run}
 use Rattle.frame_order.specs.declared.turns.Turn.{Turn}
 use Rattle.schedule_laws.proofs.SentLemmas.{IsSentStream, sent_is}

@@ -6,7 +6,7 @@ use Rattle.plan_model.specs.Streams.{Part, parts_in}
 use Rattle.plan_model.specs.declared.lines.PlannedLine.{PlannedLine}
 use Rattle.plan_model.specs.declared.streams.Stream.{Stream}
 use Rattle.plan_parts.specs.declared.parts.TimedPart.{TimedPart}
-use Rattle.plan_parts.specs.Runs.{stream_begins}
+use Rattle.schedule_laws.specs.MessageParts.{stream_begins}
 use Rattle.du_scheduler.specs.declared.kept.PlacedLine.{PlacedLine}
 use Rattle.du_scheduler.specs.declared.kept.StreamParts.{StreamParts}
 

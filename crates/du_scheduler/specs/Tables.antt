@@ -9,7 +9,7 @@ use Rattle.plan_model.specs.declared.lines.PlannedLine.{PlannedLine}
 use Rattle.plan_model.specs.declared.streams.Stream.{Stream}
 use Rattle.plan_model.specs.declared.streams.Stream.TheVariants.{DownCommands, UpCommands, DownData}
 use Rattle.frame_order.specs.declared.turns.Turn.{Turn}
-use Rattle.frame_order.specs.Turns.{stream_place}
+use Rattle.schedule_laws.specs.SentOrder.{stream_place}
 use Rattle.frame_order.specs.Runs.{turn_of}
 use Rattle.du_scheduler.specs.Kept.{IsStreamParts}
 use Rattle.du_scheduler.specs.declared.kept.StreamParts.{StreamParts}

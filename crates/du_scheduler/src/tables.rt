@@ -6,7 +6,7 @@ ghost use Rattle.plan_model.specs.Packs.{parts_of};
 ghost use Rattle.plan_model.specs.Sent.{SentFrame, sent};
 ghost use Rattle.plan_model.specs.declared.lines.PlannedLine.{PlannedLine as SpecLine};
 ghost use Rattle.frame_order.specs.Queues.{IsQueue, StandsFor, gap_of};
-ghost use Rattle.frame_order.specs.Turns.{stream_place};
+ghost use Rattle.schedule_laws.specs.SentOrder.{stream_place};
 ghost use Rattle.fragment_laws.specs.Apart.{IsIn};
 ghost use Rattle.frame_order.specs.Runs.{gap_ticks, turn_of};
 ghost use Rattle.du_scheduler.specs.Kept.{placed_line};

@@ -2,5 +2,4 @@ pub mod TurnOrder
 pub mod Left
 pub mod KeptLemmas
 pub mod RunLemmas
-pub mod BoundLemmas
 pub mod FillLemmas

@@ -9,7 +9,8 @@ use Rattle.std.proofs.lemmas.Bool.Decides.{nat_tests}
 use Rattle.std.proofs.lemmas.Int.{ints}
 use Rattle.frame_order.specs.declared.turns.Turn.{Turn}
 use Rattle.frame_order.specs.declared.turns.Run.{Run}
-use Rattle.frame_order.specs.Turns.{FramesLeaveInTime, stream_place, turn_cmp, IsUpTo, is_turn, leaves, turn_at}
+use Rattle.frame_order.specs.Turns.{FramesLeaveInTime, turn_cmp, IsUpTo, is_turn, leaves, turn_at}
+use Rattle.schedule_laws.specs.SentOrder.{stream_place}
 use Rattle.frame_order.specs.Queues.{run_cmp}
 use denote.Enum.Bare.{tag_one}
 use Rattle.frame_order.specs.TurnLaws.{place_is, turn_total}

@@ -8,7 +8,8 @@ use denote.Enum.Declared.{tag_of}
 use Rattle.plan_model.specs.contracts.streams.Stream.{the_type}
 use Rattle.plan_model.specs.declared.streams.Stream.{Stream}
 use Rattle.plan_model.specs.declared.streams.Stream.TheVariants.{DownCommands, UpCommands, DownData, UpData}
-use Rattle.frame_order.specs.Turns.{stream_place, turn_cmp}
+use Rattle.schedule_laws.specs.SentOrder.{stream_place}
+use Rattle.frame_order.specs.Turns.{turn_cmp}
 use Rattle.frame_order.specs.declared.turns.Turn.{Turn}
 
 pub turn_total : IsTotalOrder turn_cmp

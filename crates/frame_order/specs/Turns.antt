@@ -6,15 +6,9 @@ use Rattle.std.specs.Ordering.{nat_cmp, int_cmp, on, then_cmp, is_gt, is_eq}
 use Rattle.std.specs.declared.cmp.Ordering.{Ordering}
 use Rattle.plan_model.specs.declared.streams.Stream.{Stream}
 use Rattle.plan_model.specs.declared.streams.Stream.TheVariants.{DownCommands, UpCommands, DownData, UpData}
+use Rattle.schedule_laws.specs.SentOrder.{stream_place}
 use Rattle.frame_order.specs.declared.turns.Turn.{Turn}
 use Rattle.frame_order.specs.declared.turns.Run.{Run}
-
--- the place of a stream among those of its endpoint
-abbrev pub stream_place : Stream → ℕ
-stream_place DownCommands = 0
-stream_place UpCommands = 1
-stream_place DownData = 2
-stream_place UpData = 3
 
 -- its messages are C-plane commands
 abbrev pub is_command : Stream → Bool

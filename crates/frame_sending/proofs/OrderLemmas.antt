@@ -17,7 +17,7 @@ use Rattle.schedule_laws.proofs.ListLemmas.{of_tick}
 use Rattle.schedule_laws.proofs.LeastLemmas.{leaving, sent_rising}
 use Rattle.schedule_laws.proofs.OrderLemmas.{IsRising, rising_behind}
 use Rattle.frame_order.specs.Runs.{turn_of}
-use Rattle.frame_order.proofs.BoundLemmas.{IsInTime, all_in_time}
+use Rattle.schedule_laws.proofs.SentTimeLemmas.{IsInTime, all_in_time}
 use Rattle.unit_model.specs.Radiated.{first_clock}
 use Rattle.unit_model.specs.Times.{end_of_time}
 use Rattle.unit_model.proofs.SweepLaws.{gap_is}

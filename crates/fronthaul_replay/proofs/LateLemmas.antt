@@ -45,7 +45,7 @@ use Rattle.replay_laws.proofs.CameLemmas.{calm_adds_nothing, none_yet}
 use Rattle.replay_laws.specs.Moments.{arrivals_before, end_of_time, landing_at}
 use Rattle.schedule_laws.proofs.ListLemmas.{in_all, of_map, of_tick}
 use Rattle.schedule_laws.proofs.SentLemmas.{IsSentStream, message_part, sent_is}
-use Rattle.frame_order.proofs.BoundLemmas.{most_before, part_time}
+use Rattle.schedule_laws.proofs.SentTimeLemmas.{most_before, part_time}
 use Rattle.unit_model.specs.Meetings.{Arrival}
 use Rattle.unit_model.specs.Proper.{IsAt}
 use Rattle.unit_model.specs.Radiated.{first_clock}

@@ -19,7 +19,7 @@ use Rattle.plan_model.proofs.ListLemmas.{all_of, in_right, of_filter}
 use Rattle.plan_model.specs.Lines.{planned}
 use Rattle.plan_model.specs.Sent.{SentFrame, frames_from, sent}
 use Rattle.schedule_laws.proofs.ListLemmas.{in_all, in_map, of_tick}
-use Rattle.frame_order.proofs.BoundLemmas.{IsInTime, all_in_time}
+use Rattle.schedule_laws.proofs.SentTimeLemmas.{IsInTime, all_in_time}
 use Rattle.frame_order.specs.Runs.{turn_of}
 use Rattle.document_traffic.proofs.ShortLemmas.{are_short}
 use Rattle.document_traffic.specs.Landing.{leaving_to}

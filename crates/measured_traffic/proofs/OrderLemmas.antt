@@ -15,7 +15,8 @@ use Rattle.plan_model.specs.Sent.{SentFrame, frames_from, sent}
 use Rattle.plan_model.specs.declared.lines.PlannedLine.{PlannedLine}
 use Rattle.schedule_laws.proofs.ListLemmas.{in_all, of_map}
 use Rattle.schedule_laws.proofs.OrderLemmas.{IsRising}
-use Rattle.frame_order.proofs.KeptLemmas.{at_time, time_is}
+use Rattle.schedule_laws.specs.SentOrder.{at_time}
+use Rattle.schedule_laws.proofs.SentOrderLemmas.{time_is}
 use Rattle.unit_model.specs.Radiated.{first_clock}
 use Rattle.uplink_model.proofs.SentLemmas.{leaving_leave_then}
 use Rattle.uplink_model.specs.Sent.{in_sent_order, leaving_at}

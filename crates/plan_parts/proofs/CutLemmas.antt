@@ -16,7 +16,8 @@ use Rattle.frame_order.specs.declared.turns.Run.{Run}
 use Rattle.frame_order.specs.Runs.{run_of}
 use Rattle.plan_parts.specs.OpenMessages.{grown}
 use Rattle.plan_parts.specs.Parts.{timed}
-use Rattle.plan_parts.specs.Runs.{PartsMakeRuns, limits_of, first_sections, stream_begins}
+use Rattle.plan_parts.specs.Runs.{PartsMakeRuns, limits_of}
+use Rattle.schedule_laws.specs.MessageParts.{first_sections, stream_begins}
 use Rattle.plan_parts.specs.Walks.{begins, begins_from, complete, complete_from, frames_needed, run_from, run_next_to, runs_from}
 use Rattle.plan_parts.specs.declared.limits.Limits.{Limits}
 use Rattle.plan_parts.specs.declared.open_messages.OpenMessage.{OpenMessage}

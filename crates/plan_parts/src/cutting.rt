@@ -8,7 +8,8 @@ ghost use Rattle.plan_model.specs.declared.lines.PlannedLine.{PlannedLine as Spe
 ghost use Rattle.plan_model.specs.declared.streams.Stream.{Stream as SpecStream};
 ghost use Rattle.frame_order.specs.Runs.{stream_runs};
 ghost use Rattle.plan_parts.specs.Parts.{IsTimed, timed};
-ghost use Rattle.plan_parts.specs.Runs.{limits_of, stream_begins};
+ghost use Rattle.plan_parts.specs.Runs.{limits_of};
+ghost use Rattle.schedule_laws.specs.MessageParts.{stream_begins};
 ghost use Rattle.plan_parts.specs.Ranges.{IsLimits, IsOpenMessage};
 ghost use Rattle.plan_parts.specs.Walks.{begins, run_from, walked};
 

@@ -34,3 +34,6 @@ pub mod PlannedLemmas
 pub mod TabledLemmas
 pub mod TouchLemmas
 pub mod SweepingLemmas
+pub mod SentOrderLemmas
+pub mod SentTimeLemmas
+pub mod MessagePartLemmas

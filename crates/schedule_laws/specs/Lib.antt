@@ -14,3 +14,5 @@ pub mod DenseWays
 pub mod Touched
 pub mod TabledPlans
 pub mod Sweeping
+pub mod SentOrder
+pub mod MessageParts

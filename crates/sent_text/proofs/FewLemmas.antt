@@ -35,7 +35,7 @@ use Rattle.schedule_laws.proofs.TabledLemmas.{has_endpoint, placed, short}
 use Rattle.frame_order.specs.Turns.{IsRun, rest_of, turns}
 use Rattle.frame_order.specs.declared.turns.Run.{Run}
 use Rattle.frame_order.specs.Runs.{endpoint_runs, gap_ticks, rests_of, run_of, runs_from, runs_of, stream_runs, turn_of}
-use Rattle.frame_order.proofs.KeptLemmas.{at_time}
+use Rattle.schedule_laws.specs.SentOrder.{at_time}
 use Rattle.du_scheduler.proofs.ProperLemmas.{messages_are_runs}
 use Rattle.frame_order.proofs.RunLemmas.{runs_are}
 

@@ -29,7 +29,7 @@ use Rattle.plan_model.proofs.ListLemmas.{in_either}
 use Rattle.schedule_laws.proofs.LineLemmas.{good, part_line, start_in_time}
 use Rattle.schedule_laws.proofs.SentLemmas.{IsSentStream, message_part, part_is}
 use Rattle.schedule_laws.proofs.TimeLemmas.{in_time, wait_most}
-use Rattle.frame_order.proofs.KeptLemmas.{of_message, of_messages}
+use Rattle.schedule_laws.proofs.SentOrderLemmas.{of_message, of_messages}
 use Rattle.fh_time.specs.declared.frames.TheConstants.{FRAME}
 use Rattle.window_config.proofs.TickLemmas.{in_ticks}
 
