@@ -25,6 +25,10 @@ pub none_of : {X : Type 0} (o : Option X) → is_some o ≡ false → o ≡ None
 none_of None e = refl
 none_of (Some x) e = cc
 
+-- (a lemma of its own, as `cc` computes what its goal names: at a goal about a parse, the parse of any words, in 4 GB of memory)
+not_some : {X : Type 0} (x : X) → None ≡ Some x → ⊥
+not_some x e = cc
+
 -- ---- words that are no command
 
 pub many_texts : (texts : List (Bor Text)) → 6 ≤ length texts → None ≡ command_of (map (λ w. w.now) texts)
@@ -71,7 +75,7 @@ moved : (a b x y : Text) (c : Command) → a ≡ x → b ≡ y → command_with_
 moved a b x y c first second e = ap₂ command_with_one (sym first) (sym second) ∙ e
 
 pub spells : (ws : List Text) (c : Command) → command_of ws ≡ Some c → Spells ws c
-spells [] c e = cc
+spells [] c e = absurd (not_some c e)
 spells (a ∷ []) c e = spells_plain (a ∷ []) c (plain_word a (bare_plain a c e), tt) (omega arith) e
 spells (a ∷ b ∷ []) c e =
     two_words a b c e
@@ -88,7 +92,7 @@ spells (a ∷ b ∷ d ∷ f ∷ []) c e =
 spells (a ∷ b ∷ d ∷ f ∷ g ∷ []) c e =
     let p = four_plain a b d f g c e in
     spells_plain (a ∷ b ∷ d ∷ f ∷ g ∷ []) c (plain_word a p.0, (plain_word b p.1, (plain_word d p.2, (plain_word f p.3, (plain_word g p.4, tt))))) (omega arith) e
-spells (a ∷ b ∷ d ∷ f ∷ g ∷ h ∷ ws) c e = cc
+spells (a ∷ b ∷ d ∷ f ∷ g ∷ h ∷ ws) c e = absurd (not_some c e)
 
 -- ---- what the calls give
 
