@@ -5,7 +5,7 @@ use Rattle.std.proofs.lemmas.List.FromFn.{length-map-range_with_len, get_or-map-
 use Rattle.bfp_codec.specs.declared.samples.Iq.{Iq}
 use Rattle.bfp_codec.specs.declared.samples.Wide.{Wide}
 use Rattle.bfp_codec.specs.Samples.{no_iq, iq_of}
-use Rattle.fh_time.specs.declared.values.Slot.{Slot}
+use Rattle.fh_base.specs.declared.values.Slot.{Slot}
 use Rattle.air_source.specs.declared.places.RePlace.{RePlace}
 use Rattle.air_source.specs.Answers.{InRange, IsBlock, AnswersBy, place_at, widened, block_of}
 

@@ -3,7 +3,7 @@ use Rattle.std.proofs.Common.{◌≡◌, ℕ, ◌<◌, length, get_or, arith}
 use Rattle.std.proofs.lemmas.List.FromFn.{length-map-range_with_len, get_or-map-range_with_len}
 use Rattle.air_source.specs.Answers.{place_at}
 use Rattle.bfp_codec.specs.declared.samples.Wide.{Wide}
-use Rattle.fh_time.specs.declared.values.Slot.{Slot}
+use Rattle.fh_base.specs.declared.values.Slot.{Slot}
 use Rattle.air_source.specs.Tones.{tone_of, tone_block}
 use Rattle.air_source.specs.declared.tones.Tone.{Tone}
 

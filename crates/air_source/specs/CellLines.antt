@@ -5,7 +5,7 @@ use Rattle.std.specs.Fmt.{signed_decimal}
 use Rattle.air_source.specs.declared.events.AirCell.{AirCell}
 use Rattle.bfp_codec.specs.Samples.{no_wide}
 use Rattle.bfp_codec.specs.declared.samples.Wide.{Wide}
-use Rattle.fh_time.specs.declared.values.Slot.{Slot}
+use Rattle.fh_base.specs.declared.values.Slot.{Slot}
 use Rattle.fh_base.specs.Words.{spaced_text, spaced_signed_text, hex4_text, hex3_text}
 use Rattle.air_source.specs.Units.{way_text}
 

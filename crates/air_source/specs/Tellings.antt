@@ -1,7 +1,7 @@
 -- The events that the tests tell.
 use Rattle.std.specs.Prelude.{ℕ, ◌+◌, ◌*◌, Bool, not, if◌then◌else◌, List, [], ◌∷◌, Some, map, pos, ◌-ℤ◌}
 use Rattle.bfp_codec.specs.declared.samples.Wide.{Wide}
-use Rattle.fh_time.specs.declared.values.Slot.{Slot}
+use Rattle.fh_base.specs.declared.values.Slot.{Slot}
 use Rattle.air_source.specs.Answers.{widened, block_of}
 use Rattle.air_source.specs.declared.places.RePlace.{RePlace}
 use Rattle.air_source.specs.declared.events.Side.TheVariants.{Ru}

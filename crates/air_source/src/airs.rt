@@ -8,8 +8,7 @@ ghost use Rattle.air_source.specs.declared.events.Event.TheVariants.{Cell, Delay
 
 use crate::{AirCell, Side};
 use fault_counters::Counter;
-use fh_base::NoMemory;
-use fh_time::Ticks;
+use fh_base::{NoMemory, Ticks};
 use thiserror::Error;
 
 /// Why an air did not hear an event.

@@ -7,7 +7,7 @@ ghost use Rattle.air_source.specs.Units.{way_text};
 use crate::symbols::{CellSymbol, symbol_of};
 use crate::{AirCell, Line, Side};
 use bfp_codec::Wide;
-use fh_time::Slot;
+use fh_base::Slot;
 
 fn way(side: Side) -> &'static [u8]
     ensures text { result.now ≡ way_text side }

@@ -1,8 +1,7 @@
 // What an air hears.
 use bfp_codec::Wide;
 use fault_counters::Counter;
-use fh_base::Bytes;
-use fh_time::{Slot, Ticks};
+use fh_base::{Bytes, Slot, Ticks};
 
 /// A unit of the fronthaul: the radio unit (O-RU) or the distributed unit (O-DU).
 #[derive(Clone, Copy, Debug, PartialEq, Eq)]

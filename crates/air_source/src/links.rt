@@ -2,8 +2,7 @@
 ghost use Rattle.std.specs.Prelude.{◌≡◌, List, [], ◌∷◌, ◌++◌, OnOk, OnErr};
 ghost use Rattle.air_source.specs.declared.links.LinkFrame.{LinkFrame};
 
-use fh_base::{Bytes, NoMemory};
-use fh_time::Ticks;
+use fh_base::{Bytes, NoMemory, Ticks};
 
 /// A frame that was sent, one eCPRI PDU.
 #[derive(Drop)]

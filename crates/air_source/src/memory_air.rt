@@ -9,8 +9,7 @@ ghost use Rattle.air_source.specs.declared.events.Event.TheVariants.{Cell, Delay
 
 use crate::{Air, AirCell, AirFault, Event, Side};
 use fault_counters::Counter;
-use fh_base::{Bytes, List};
-use fh_time::Ticks;
+use fh_base::{Bytes, List, Ticks};
 use std::alloc::Global;
 
 /// An air that keeps its events, and fails at the calls that it is told.

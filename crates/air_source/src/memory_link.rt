@@ -2,8 +2,7 @@
 ghost use Rattle.std.specs.Prelude.{◌≡◌, []};
 
 use crate::{Link, LinkFrame};
-use fh_base::{Bytes, List, NoMemory};
-use fh_time::Ticks;
+use fh_base::{Bytes, List, NoMemory, Ticks};
 use std::alloc::Global;
 
 /// A link that keeps the frames that were sent.

@@ -1,5 +1,5 @@
 // Where samples stand.
-use fh_time::Slot;
+use fh_base::Slot;
 
 /// A resource element of a carrier (3GPP TS 38.211, 4.4).
 ///

@@ -9,7 +9,7 @@ use crate::symbols::{CellSymbol, holds, symbol_of};
 use crate::unit_lines::{put_count, put_delay};
 use crate::{AirCell, Line, Side};
 use fault_counters::Counter;
-use fh_time::Ticks;
+use fh_base::Ticks;
 use std::marker::Model;
 
 /// A line of a report, which each call writes in place of the last one. What the lines of all cells of a symbol begin with is

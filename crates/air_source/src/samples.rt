@@ -4,12 +4,12 @@ ghost use Rattle.air_source.specs.Answers.{InRange, IsGrid, IsBlock, AnswersBy, 
 ghost use Rattle.air_source.specs.Kept.{IsKept, closure_of};
 ghost use Rattle.air_source.specs.declared.places.RePlace.{RePlace};
 ghost use Rattle.bfp_codec.specs.declared.samples.Wide.{Wide};
-ghost use Rattle.fh_time.specs.declared.symbols.TheConstants.{SLOT_SYMBOLS};
-ghost use Rattle.fh_time.specs.declared.carrier.TheConstants.{CARRIER_PRBS};
+ghost use Rattle.fh_base.specs.declared.symbols.TheConstants.{SLOT_SYMBOLS};
+ghost use Rattle.fh_base.specs.declared.carrier.TheConstants.{CARRIER_PRBS};
 
 use crate::RePlace;
 use bfp_codec::{Iq, Wide};
-use fh_time::Slot;
+use fh_base::Slot;
 
 /// The samples that a closure answers, kept beside what is known of it: `keep` gives the fact and
 /// `block` needs it, so no range is tested.

@@ -10,7 +10,7 @@ use crate::tone_numbers::base;
 use crate::tone_turns::{rest_of, stepped, steps_by, wave_of};
 use crate::{RePlace, Tone};
 use bfp_codec::Wide;
-use fh_time::Slot;
+use fh_base::Slot;
 use std::marker::Model;
 
 /// A tone beside the remainders of its steps from element 0 of a PRB to the others, so that the samples

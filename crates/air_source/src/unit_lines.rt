@@ -4,7 +4,7 @@ ghost use Rattle.air_source.specs.UnitLines.{side_text, delay_text, count_text};
 
 use crate::{Line, Side};
 use fault_counters::Counter;
-use fh_time::Ticks;
+use fh_base::Ticks;
 
 fn side_name(side: Side) -> &'static [u8]
     ensures text { result.now ≡ side_text side }

@@ -1,9 +1,16 @@
 //! Tests of bytes, lists and tables, by the public calls of `bfp_codec`, `fh_base`, `eaxc_map`, `fault_counters` and
 //! `window_config`, which are proved without them.
+//!
+//! Tests of messages and of the bytes of sent frames, by the public calls of `uplane_sections`, `uplane_messages`, `delay_measure`
+//! and `frame_bytes`, which are proved without them.
 #![tactic(auto)]
 
 #[cfg(test)]
 mod counters;
+#[cfg(test)]
+mod data;
+#[cfg(test)]
+mod delays;
 #[cfg(test)]
 mod endpoints;
 #[cfg(test)]
@@ -14,5 +21,9 @@ mod lines;
 mod lists;
 #[cfg(test)]
 mod owed;
+#[cfg(test)]
+mod sent;
+#[cfg(test)]
+mod walks;
 #[cfg(test)]
 mod windows;

@@ -4,7 +4,7 @@ ghost use Rattle.window_config.specs.Limits.{IsWithinLimits};
 
 use bfp_codec::{Format, Method};
 use eaxc_map::Widths;
-use fh_time::{Numerology, Slot, Ticks, of_ns};
+use fh_base::{Numerology, Slot, Ticks, of_ns};
 use std::test::Fail;
 use window_config::{
     Class, Config, Delays, EndpointConfig, EndpointList, Failing, ListFull, Range, Reach, Relation,

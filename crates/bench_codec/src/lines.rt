@@ -7,8 +7,7 @@ ghost use Rattle.air_source.specs.Tones.{tone_of};
 use crate::words::Ending;
 use air_source::{AirCell, RePlace, Samples, Side, Tone, ToneSteps, put_cell};
 use bfp_codec::Wide;
-use fh_base::Line;
-use fh_time::{FRAME, Slot, Ticks};
+use fh_base::{FRAME, Line, Slot, Ticks};
 use std::io;
 
 const SLOT: Slot = Slot {

@@ -6,7 +6,7 @@ ghost use Rattle.window_config.specs.Plans.{IsPlanLine};
 
 use bfp_codec::{Format, Method};
 use eaxc_map::Widths;
-use fh_time::{Numerology, Slot};
+use fh_base::{Numerology, Slot};
 use window_config::{Config, Delays, EndpointConfig, EndpointList, PlanKind, PlanLine};
 
 /// An endpoint of so many PRBs, with mantissas of 9 bits.

@@ -4,8 +4,8 @@ mod lines;
 ghost use Rattle.std.specs.Prelude.{◌≤◌};
 
 use crate::words::Ending;
+use du_scheduler::{PlanRefusal, tested};
 use lines::{Kind, config, lines};
-use plan_check::{PlanRefusal, tested};
 use std::alloc::Global;
 use std::io;
 

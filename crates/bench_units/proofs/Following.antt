@@ -9,7 +9,7 @@ use Rattle.shared_cell.specs.Places.{place_of, is_same, is_at}
 use Rattle.shared_cell.specs.Combined.{Stands, AgreeIn, MayAdd, combined}
 use Rattle.shared_cell.proofs.Same.{same_is}
 use Rattle.bench_units.specs.Cells.{cell_of, first_cells, units_of}
-use Rattle.fh_time.proofs.Orders.{pos_same}
+use Rattle.fh_base.proofs.Orders.{pos_same}
 
 -- a place is that of one cell
 pub one_place : (i k : ℕ) → IsTrue (is_same (place_of (cell_of i)) (place_of (cell_of k))) → i ≡ k

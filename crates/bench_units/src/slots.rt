@@ -4,9 +4,8 @@ ghost use Rattle.unit_model.specs.Proper.{IsTime};
 ghost use Rattle.window_config.specs.Configs.{IsConfig};
 
 use air_source::Side;
-use fh_base::{INPUT_LIMIT, List, NoMemory, Source, read_all};
+use fh_base::{INPUT_LIMIT, List, NoMemory, Source, Ticks, of_ns, read_all};
 use fh_document::{Document, Injection, read};
-use fh_time::{Ticks, of_ns};
 use std::alloc::Global;
 
 /// A slot of 30 kHz, in nanoseconds.

@@ -1,7 +1,7 @@
 // An air that counts the cells.
 use air_source::{Air, AirCell, AirFault, Side};
 use fault_counters::Counter;
-use fh_time::Ticks;
+use fh_base::Ticks;
 use std::io;
 
 /// How many cells an air heard, how many of them without samples, and the sum of a sample of each.

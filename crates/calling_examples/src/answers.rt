@@ -14,7 +14,7 @@ use air_source::Side;
 use bfp_codec::{Format, Iq, Method, Wide};
 use delay_measure::{Edge, Kind, Meter};
 use ecpri_fragments::{Assembly, SeqField, Taken};
-use fh_time::{Shape, Ticks};
+use fh_base::{Shape, Ticks};
 use hex::FromHexError;
 use pcap_frames::Whose;
 use std::alloc::{AllocError, Global};

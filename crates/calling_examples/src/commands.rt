@@ -4,7 +4,7 @@ ghost use Rattle.std.specs.Result.{result_err};
 ghost use Rattle.cplane_sections.specs.Tests.{checked};
 
 use cplane_sections::{CRefusal, check, sections};
-use fh_time::Shape;
+use fh_base::Shape;
 
 /// How many sections a C-plane message has: as many as its header says, and always at least one. An error exactly where
 /// a test fails: the first of them and its place.

@@ -8,7 +8,7 @@ ghost use Rattle.uplane_sections.specs.Messages.{Block, told};
 
 use bfp_codec::{Format, Wide};
 use ecpri_fragments::Lease;
-use fh_time::Shape;
+use fh_base::Shape;
 use uplane_messages::{DataWalk, tested};
 use uplane_sections::{UFeed, URefusal};
 

@@ -7,7 +7,7 @@ ghost use Rattle.delay_measure.specs.Payload.{action_type, compensation_value, m
 ghost use Rattle.delay_measure.specs.Stamps.{delay_between};
 
 use delay_measure::{Edge, Meter, MeterStep, read_delay};
-use fh_time::Ticks;
+use fh_base::Ticks;
 
 /// The action type of a Response.
 const RESPONSE: u8 = 2;

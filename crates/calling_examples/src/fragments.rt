@@ -7,7 +7,7 @@ ghost use Rattle.ecpri_fragments.specs.Sequence.{seq_field_of};
 ghost use Rattle.ecpri_fragments.specs.Verdicts.{message, standing_before, verdict_on};
 
 use ecpri_fragments::{Assembly, Taken, read_seq};
-use fh_time::Ticks;
+use fh_base::Ticks;
 
 /// Takes a fragment of an endpoint, with the two bytes of its sequence field. Where it completes its message, in how
 /// many fragments the message was received; None exactly where it completes none.

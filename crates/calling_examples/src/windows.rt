@@ -5,7 +5,7 @@ ghost use Rattle.window_config.specs.Classes.{IsOnTime, class_of};
 ghost use Rattle.window_config.specs.Limits.{IsWithinLimits};
 ghost use Rattle.window_config.specs.Relations.{PassesCheck};
 
-use fh_time::Ticks;
+use fh_base::Ticks;
 use window_config::{Class, Delays, Failing, check, class, data_window};
 
 /// The class at the RU of a downlink U-plane message whose fragments were received from `first` to `last`, for a

@@ -3,7 +3,7 @@ ghost use Rattle.std.specs.Prelude.{◌≡◌};
 ghost use Rattle.capture_records.specs.Records.{way_byte, head_bytes};
 
 use air_source::Side;
-use fh_time::Ticks;
+use fh_base::Ticks;
 
 /// The byte of a way.
 fn way(side: Side) -> u8

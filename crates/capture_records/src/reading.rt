@@ -6,7 +6,7 @@ ghost use Rattle.capture_records.specs.Records.{arrived_of};
 use crate::layout::HEAD;
 use crate::values::Record;
 use air_source::Side;
-use fh_time::Ticks;
+use fh_base::Ticks;
 
 /// The unit that the first byte of a record names.
 fn side_of(bytes: &[u8]) -> Side

@@ -1,6 +1,6 @@
 // What a record of a capture tells.
 use air_source::Side;
-use fh_time::Ticks;
+use fh_base::Ticks;
 
 /// A record of a capture: a frame that arrived.
 #[derive(Clone, Copy, Debug, PartialEq, Eq)]

@@ -1,7 +1,7 @@
 -- What is shown of a capture (this project's profile): the messages of each frame by the layouts of eCPRI 2.0 and O-RAN.WG4.CUS.
 use Rattle.std.specs.Prelude.{ℕ, ◌+◌, ◌==◌, ◌&&◌, nat_lt, nat_le, if◌then◌else◌, Bool, List, [], ◌∷◌, ◌++◌, length, take, map, Option, Some, None, Result, Ok, Err}
 use Rattle.std.specs.List.{flat_map}
-use Rattle.fh_time.specs.declared.values.Shape.{Shape}
+use Rattle.fh_base.specs.declared.values.Shape.{Shape}
 use Rattle.ecpri_frames.specs.declared.refusals.PduRefusal.{PduRefusal}
 use Rattle.ecpri_frames.specs.Messages.{Message, pdu}
 use Rattle.ecpri_frames.specs.Gathering.{whole_messages}

@@ -22,8 +22,7 @@ use capture_records::{Record, records};
 use cplane_sections::{CHead, check, sections};
 use delay_measure::read_delay;
 use ecpri_frames::{IQ_DATA, ONE_WAY_DELAY, PduRefusal, REAL_TIME_CONTROL, WholeMessage, messages};
-use fh_base::{Sink, SinkFault};
-use fh_time::Shape;
+use fh_base::{Shape, Sink, SinkFault};
 
 /// The most symbols of a slot and slots of a subframe that a command may name.
 const WIDEST: Shape = Shape {

@@ -1,14 +1,13 @@
 -- The numbers of a command are within their limits.
-use Rattle.std.proofs.Common.{◌≡◌, ℕ, ◌+◌, ◌≤◌, ◌<◌, ◌^◌, List, [], ◌∷◌, codes, refl, true, false, Bool, ◌&&◌, length, nat_le, nat_lt, subst, arith}
-use Rattle.std.specs.Prelude.{Some, None, Option, if◌then◌else◌}
+use Rattle.std.proofs.Common.{◌≡◌, ℕ, ◌+◌, ◌≤◌, ◌<◌, ◌^◌, List, [], ◌∷◌, codes, refl, true, false, ◌&&◌, nat_le, subst, arith}
+use Rattle.std.specs.Prelude.{Some, None, Option}
 use Rattle.std.specs.Str.{bytes_eq}
-use Rattle.std.specs.Str.Parse.{digits_value}
 use Rattle.std.proofs.lemmas.Bool.Decides.{nat_tests}
-use Rattle.fh_base.specs.Numbers.{is_decimal, number_in}
 use Rattle.command_words.specs.Words.{bare_command, command_of, command_with_four, command_with_one, command_with_three, command_with_two, count_in, frame_in, whose_in, least_in, plain_in, seed_in, slots_in, start_in, step_in, subframe_in, subframes_in, with_both, with_frames, with_grid}
 use Rattle.command_words.specs.declared.commands.Command.{Command}
 use Rattle.command_words.specs.declared.commands.Command.TheVariants.{Replay, Summary, Capture, Show, Explain, Sent, Windows, Fit, Generate, Trial, Shared, Idle, DrawGrid, DrawWindows, Pcap, PcapCapture}
 use Rattle.command_words.proofs.Plain.{either}
+use Rattle.fh_base.proofs.CommonLemmas.{number_within}
 
 -- a seed of 32 bits, and from 1 to 400 slots
 abbrev pub AreNumbers : ℕ → ℕ → Type 0
@@ -23,21 +22,6 @@ HasLimits command = Unit {0}
 
 at_least : (m n : ℕ) → nat_le m n ≡ true → m ≤ n
 at_least m n e = grind (arith, nat_tests)
-
-number_within : (most low high n : ℕ) (w : List ℕ) → number_in most low high w ≡ Some n → (low ≤ n) × (n ≤ high)
-number_within most low high n w e =
-    go (nat_lt 0 (length w)) (nat_le (length w) most) (is_decimal w) (nat_le low (digits_value 10 w)) (nat_le (digits_value 10 w) high) refl refl e
-  where
-    go : (a b d l h : Bool) → nat_le low (digits_value 10 w) ≡ l → nat_le (digits_value 10 w) high ≡ h
-        → (if a && (b && (d && (l && h))) then Some (digits_value 10 w) else None) ≡ Some n → (low ≤ n) × (n ≤ high)
-    go true true true true true is_low is_high e =
-        let same : digits_value 10 w ≡ n = cc e in
-        subst (λ (k : ℕ). (low ≤ k) × (k ≤ high)) same (at_least low (digits_value 10 w) is_low, at_least (digits_value 10 w) high is_high)
-    go true true true true false is_low is_high e = cc
-    go true true true false h is_low is_high e = cc
-    go true true false l h is_low is_high e = cc
-    go true false d l h is_low is_high e = cc
-    go false b d l h is_low is_high e = cc
 
 numbers_are : (first second : List ℕ) (seed slots : ℕ) → seed_in first ≡ Some seed → slots_in second ≡ Some slots → AreNumbers seed slots
 numbers_are first second seed slots a b =

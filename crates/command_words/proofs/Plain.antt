@@ -18,8 +18,8 @@ use Rattle.command_words.specs.declared.commands.Command.{Command}
 use Rattle.command_words.specs.declared.commands.Command.TheVariants.{Replay, Summary, Capture, Show, Explain, Sent, Windows, Fit, Generate, Trial, Shared, Pcap, PcapCapture}
 use Rattle.pcap_frames.specs.declared.values.Whose.{Whose}
 use Rattle.command_words.proofs.Walks.{IsPlainWord, plain_word_is}
-use Rattle.fh_time.specs.declared.nanoseconds.TheConstants.{LAST_TIME}
-use Rattle.fh_time.proofs.Orders.{is_false as not_true, both as both_true}
+use Rattle.fh_base.specs.declared.nanoseconds.TheConstants.{LAST_TIME}
+use Rattle.fh_base.proofs.Orders.{is_false as not_true, both as both_true}
 
 -- of ASCII, and begun by no hyphen
 abbrev pub is_plain : List ℕ → Bool

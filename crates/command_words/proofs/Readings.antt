@@ -21,10 +21,6 @@ pub some_of : {X : Type 0} (o : Option X) → is_some o ≡ true → (x : X) × 
 some_of None e = cc
 some_of (Some x) e = (x, refl)
 
-pub none_of : {X : Type 0} (o : Option X) → is_some o ≡ false → o ≡ None
-none_of None e = refl
-none_of (Some x) e = cc
-
 -- (a lemma of its own, as `cc` computes what its goal names: at a goal about a parse, the parse of any words, in 4 GB of memory)
 not_some : {X : Type 0} (x : X) → None ≡ Some x → ⊥
 not_some x e = cc

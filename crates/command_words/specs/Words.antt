@@ -10,7 +10,7 @@ use Rattle.command_words.specs.declared.commands.Command.{Command}
 use Rattle.command_words.specs.declared.commands.Command.TheVariants.{Replay, Summary, Capture, Show, Explain, Sent, Windows, Fit, Generate, Trial, Shared, Idle, DrawGrid, DrawWindows, Pcap, PcapCapture}
 use Rattle.pcap_frames.specs.declared.values.Whose.{Whose}
 use Rattle.pcap_frames.specs.declared.values.Whose.TheVariants.{All, Port}
-use Rattle.fh_time.specs.declared.nanoseconds.TheConstants.{LAST_TIME}
+use Rattle.fh_base.specs.declared.nanoseconds.TheConstants.{LAST_TIME}
 
 -- the command that one word is
 abbrev pub bare_command : List ℕ → Option Command

@@ -2,13 +2,12 @@
 ghost use Rattle.std.specs.Prelude.{◌≡◌, ◌≤◌, None, Some, IfSome, map, option_map};
 ghost use Rattle.command_words.specs.Words.{IsProper, address_in, bare_command, command_of, command_with_four, command_with_one, command_with_three, command_with_two, frame_in, least_in, seed_in, slots_in, start_in, way_in, whose_in};
 ghost use Rattle.command_words.specs.Parsed.{spelled, spelled_plainly, spelled_with};
-ghost use Rattle.fh_time.specs.declared.nanoseconds.TheConstants.{LAST_TIME};
+ghost use Rattle.fh_base.specs.declared.nanoseconds.TheConstants.{LAST_TIME};
 
 use crate::commands::Command;
 use crate::numbers::plain_in;
 use air_source::Side;
-use fh_base::number_in;
-use fh_time::LAST_TIME;
+use fh_base::{LAST_TIME, number_in};
 use hex::decode_to_slice;
 use pcap_frames::Whose;
 

@@ -6,7 +6,7 @@ use Rattle.std.proofs.lemmas.Int.{ints}
 use Rattle.std.proofs.lemmas.List.Elements.{All-cons, All-nil}
 use Rattle.bfp_codec.specs.Field.{field, signed, flag}
 use Rattle.bfp_codec.proofs.Field.{field_fits}
-use Rattle.fh_time.specs.declared.values.Shape.{Shape}
+use Rattle.fh_base.specs.declared.values.Shape.{Shape}
 use Rattle.cplane_sections.specs.declared.values.CHead.{CHead}
 use Rattle.cplane_sections.specs.Header.{head_of, kind_of, size_of_head}
 use Rattle.cplane_sections.specs.Section.{section_of, offset_of, beam_of, size_of_section}

@@ -9,7 +9,7 @@ use Rattle.cplane_sections.specs.Header.{body_of, kind_of}
 use Rattle.cplane_sections.specs.Words.{body_words, BodyFits}
 use Rattle.cplane_sections.specs.Message.{HeadFits}
 use Rattle.cplane_sections.specs.Writes.{WritesHead}
-use Rattle.fh_time.proofs.Orders.{bit_test, bit_small}
+use Rattle.fh_base.proofs.Orders.{bit_test, bit_small}
 
 pub record ReadsBody (count : ℕ) (body : CBody) (bytes : List ℕ) : Type 0 where
   pub count_is : field bytes 32 8 ≡ count

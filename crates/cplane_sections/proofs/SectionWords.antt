@@ -9,7 +9,7 @@ use Rattle.cplane_sections.specs.declared.values.CSection.{CSection}
 use Rattle.cplane_sections.specs.Section.{offset_of}
 use Rattle.cplane_sections.specs.Message.{SectionFits}
 use Rattle.cplane_sections.specs.Writes.{WritesSection}
-use Rattle.fh_time.proofs.Orders.{bit_test, bit_small}
+use Rattle.fh_base.proofs.Orders.{bit_test, bit_small}
 
 beam_fits : (kind beam : ℕ) → beam < 2 ^ 15 → cond (eqb kind 0) 0 beam < 2 ^ 15
 beam_fits kind beam h = grind (arith, nat_tests)

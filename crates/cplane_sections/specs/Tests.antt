@@ -1,6 +1,6 @@
 -- The tests of a C-plane message, in their order: the first that fails gives the reason and the place.
 use Rattle.std.specs.Prelude.{◌≡◌, ℕ, zero, suc, ◌+◌, ◌-◌, ◌<◌, ◌^◌, Bool, List, length, drop, Result, Ok, Err, nat_lt, nat_le, is_ok, ◌==◌, ◌||◌, not, if◌then◌else◌}
-use Rattle.fh_time.specs.declared.values.Shape.{Shape}
+use Rattle.fh_base.specs.declared.values.Shape.{Shape}
 use Rattle.cplane_sections.specs.declared.values.CHead.{CHead}
 use Rattle.cplane_sections.specs.declared.values.CRefusal.{CRefusal}
 use Rattle.cplane_sections.specs.declared.values.CWhy.{CWhy}

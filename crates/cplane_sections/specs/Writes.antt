@@ -1,6 +1,6 @@
 -- Written C-plane messages: each reserved bit is 0.
 use Rattle.std.specs.Prelude.{◌≡◌, ℕ, pos, ◌+◌, ◌≤◌, List, [], ◌∷◌, length, drop, Ok, ◌==◌, if◌then◌else◌}
-use Rattle.fh_time.specs.declared.values.Shape.{Shape}
+use Rattle.fh_base.specs.declared.values.Shape.{Shape}
 use Rattle.cplane_sections.specs.declared.values.CHead.{CHead}
 use Rattle.cplane_sections.specs.declared.values.CSection.{CSection}
 use Rattle.cplane_sections.specs.Header.{payloadVersion, sectionType, idle_reserved, normal_reserved, size_of_head, head_of, kind_of}

@@ -7,7 +7,7 @@ ghost use Rattle.cplane_sections.specs.Message.{sections_in, Admits, MessageFits
 use crate::read_header::{head_at, head_size};
 use crate::read_section::{section_size, word_at};
 use crate::values::{CHead, CRefusal, CWhy};
-use fh_time::Shape;
+use fh_base::Shape;
 
 /// The maintained symbol number of the section at a place, where it was `before`, by the first test that fails.
 #[tactic(auto, using(std::proofs::lemmas::Grind::common_steps, bfp_codec::proofs::Field::field_of_word))]

@@ -4,7 +4,7 @@ ghost use Rattle.cplane_sections.specs.Header.{sectionType, size_of_head, body_o
 ghost use Rattle.cplane_sections.specs.Tests.{head_checked};
 
 use crate::values::{CBody, CHead, CRefusal, CWhy};
-use fh_time::Shape;
+use fh_base::Shape;
 
 /// The header of the message, by the first test that fails.
 #[tactic(auto, using(std::proofs::lemmas::Grind::common_steps, bfp_codec::proofs::Field::fields))]

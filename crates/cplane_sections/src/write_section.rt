@@ -1,7 +1,7 @@
 // One section, written.
 ghost use Rattle.std.specs.Prelude.{◌≡◌, ℕ, ◌+◌, ◌-◌, ◌*◌, ◌≤◌, ◌<◌, ◌^◌, ◌⊎◌, List, [], ◌∷◌, ◌++◌, length, take, slice_index, if◌then◌else◌, ◌==◌};
 ghost use Rattle.bfp_codec.specs.Field.{field, flag};
-ghost use Rattle.fh_time.specs.declared.values.Shape.{Shape};
+ghost use Rattle.fh_base.specs.declared.values.Shape.{Shape};
 ghost use Rattle.cplane_sections.specs.declared.values.CSection.{CSection};
 ghost use Rattle.cplane_sections.specs.Header.{kind_of};
 ghost use Rattle.cplane_sections.specs.Section.{size_of_section};

@@ -7,7 +7,7 @@ use crate::hexadecimal::text_of;
 use crate::section_texts::{head_text, section_text};
 use crate::words::byte;
 use cplane_sections::{CHead, CSection, check, put_head, put_section, sections};
-use fh_time::Shape;
+use fh_base::Shape;
 use std::alloc::{AllocError, Global};
 use std::str::SplitWhitespace;
 

@@ -5,7 +5,7 @@ ghost use Rattle.ecpri_fragments.specs.Assemblies.{endpoints_of};
 use crate::hexadecimal::{octet, text_of};
 use crate::words::{byte, long, over};
 use ecpri_fragments::{Assembly, Lease, SeqField, Taken, put_seq, read_seq};
-use fh_time::Ticks;
+use fh_base::Ticks;
 use std::alloc::{AllocError, Global};
 use std::str::SplitWhitespace;
 

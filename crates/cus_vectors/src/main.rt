@@ -16,7 +16,7 @@ mod times;
 mod words;
 
 use answers::answer;
-use fh_time::Ticks;
+use fh_base::Ticks;
 use fragments::Fragments;
 use std::io;
 use std::io::{BufRead, BufReader};

@@ -1,6 +1,6 @@
 // Numerologies: their words, and what the crates say of them.
 use crate::words::over;
-use fh_time::{Numerology, code, least_slot, offsets, shape, span};
+use fh_base::{Numerology, code, least_slot, offsets, shape, span};
 use std::alloc::{AllocError, Global};
 use std::str::SplitWhitespace;
 

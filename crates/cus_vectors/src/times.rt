@@ -3,7 +3,7 @@ ghost use Rattle.std.specs.Prelude.{◌≤◌};
 
 use crate::numerologies::numerology;
 use crate::words::{byte, long, number, over};
-use fh_time::{Numerology, Slot, Ticks, air, prb_span, resolve, shape, slot_after};
+use fh_base::{Numerology, Slot, Ticks, air, prb_span, resolve, shape, slot_after};
 use std::str::SplitWhitespace;
 
 /// A slot that an entry names.

@@ -6,7 +6,7 @@ use Rattle.delay_measure.specs.declared.stamps.Stamp.{Stamp}
 use Rattle.delay_measure.specs.Stamps.{sending_ns, receiving_ns, delay_between, stamped}
 use Rattle.delay_laws.specs.Delays.{IsNear, IsWholeTime, IsWholeCompensation}
 use Rattle.delay_measure.specs.declared.stamps.TheConstants.{MOST_COMPENSATION}
-use Rattle.fh_time.specs.declared.nanoseconds.TheConstants.{NANOSECOND}
+use Rattle.fh_base.specs.declared.nanoseconds.TheConstants.{NANOSECOND}
 
 pub value_stamped : (id action : ℕ) (stamp : Stamp) → value_of (stamped id action stamp) ≡ stamp.nanoseconds
 value_stamped id action stamp = omega arith

@@ -18,7 +18,7 @@ use Rattle.delay_laws.specs.Ends.{EndsBy, step_of}
 use Rattle.delay_laws.specs.Laws.{AllEnds}
 use Rattle.delay_laws.proofs.Keeping.{IsKept, Keeps, all_kept}
 use Rattle.delay_laws.proofs.Sending.{sent_later}
-use Rattle.fh_time.proofs.Orders.{at_most as through, lasts}
+use Rattle.fh_base.proofs.Orders.{at_most as through, lasts}
 
 -- the latest time at which a message of this step is sent
 abbrev pub limit : ℤ → ℤ → ℕ → ℤ

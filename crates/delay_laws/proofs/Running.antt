@@ -25,7 +25,7 @@ use Rattle.delay_laws.proofs.Lists.{no_requests, none_in}
 use Rattle.delay_laws.proofs.Answering.{answer_is, arrived, no_delay, still_requested}
 use Rattle.delay_laws.proofs.Asking.{of_remote, of_remote_two, still_asking, taken}
 use Rattle.delay_laws.proofs.Phases.{Asked, IsOfCopy, IsNotWaiting, IsPart, IsRemote, IsReply, KnowsPeer, Phase, Requested}
-use Rattle.fh_time.specs.declared.nanoseconds.TheConstants.{NANOSECOND}
+use Rattle.fh_base.specs.declared.nanoseconds.TheConstants.{NANOSECOND}
 
 -- ---- a delay between the stamps of the request and of a copy
 

@@ -18,7 +18,7 @@ use Rattle.delay_laws.proofs.Keeping.{Keeps, all_kept}
 use Rattle.delay_laws.proofs.Lists.{the_first}
 use Rattle.delay_laws.proofs.Carried.{tick_delays}
 use Rattle.air_source.specs.Units.{other}
-use Rattle.fh_time.specs.declared.nanoseconds.TheConstants.{NANOSECOND}
+use Rattle.fh_base.specs.declared.nanoseconds.TheConstants.{NANOSECOND}
 
 whole_sum : (a b : ℤ) → IsWholeTime a → IsWholeTime b → IsWholeTime (a +ℤ b)
 whole_sum a b wa wb =

@@ -3,7 +3,7 @@ use Rattle.std.specs.Prelude.{◌≡◌, ℕ, ℤ, pos, ◌*ℤ◌, ◌+ℤ◌, 
 use Rattle.delay_measure.specs.Stamps.{sending_ns, receiving_ns, delay_between}
 use Rattle.delay_measure.specs.declared.edge.Compensation.{Compensation}
 use Rattle.delay_laws.specs.Nodes.{Node, Timed, requests}
-use Rattle.fh_time.specs.declared.nanoseconds.TheConstants.{NANOSECOND}
+use Rattle.fh_base.specs.declared.nanoseconds.TheConstants.{NANOSECOND}
 
 -- a delay, in units of 2^-16 ns, is the time between two others, in ticks of 1/1536 ns, but for less than a nanosecond
 pub record IsNear (from to delay : ℤ) : Type 0 where

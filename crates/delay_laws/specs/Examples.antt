@@ -13,7 +13,7 @@ use Rattle.delay_laws.specs.Nodes.{Heard, Timed, delay_then, measured, node_of}
 use Rattle.delay_laws.specs.Runs.{IsRun}
 use Rattle.delay_laws.specs.Ticks.{Flight, IsPure, Setting, state}
 use Rattle.air_source.specs.Units.{same_side}
-use Rattle.fh_time.specs.declared.nanoseconds.TheConstants.{NANOSECOND}
+use Rattle.fh_base.specs.declared.nanoseconds.TheConstants.{NANOSECOND}
 
 -- so many nanoseconds, in ticks
 abbrev pub ns : ℕ → ℤ

@@ -5,7 +5,7 @@ use Rattle.delay_laws.specs.Delays.{HasDelay, IsWholeCompensation}
 use Rattle.delay_laws.specs.Nodes.{measured, node_of, timed}
 use Rattle.delay_laws.specs.Ticks.{Flight, Setting, State}
 use Rattle.air_source.specs.Units.{other}
-use Rattle.fh_time.specs.declared.nanoseconds.TheConstants.{NANOSECOND}
+use Rattle.fh_base.specs.declared.nanoseconds.TheConstants.{NANOSECOND}
 
 -- The delay of an id is that of the one request, which a unit sent in a frame: it is measured from the time at which this was sent to
 -- that at which a copy of it came to the other unit, which is the copy's time on the way later.

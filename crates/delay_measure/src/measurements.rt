@@ -6,7 +6,7 @@ use crate::message::DelayMessage;
 use crate::stamps::{stamp_received, stamp_sent};
 use crate::states::Exchange;
 use crate::steps::{Begun, Kind, MeterStep};
-use fh_time::Ticks;
+use fh_base::Ticks;
 
 /// The delay measurements of a unit: an exchange for each of the 256 measurement ids. Each call is given the unit's
 /// compensation.

@@ -5,7 +5,7 @@ use crate::edge::{Compensation, Edge};
 use crate::measurements::Measurements;
 use crate::message::DelayMessage;
 use crate::steps::{Begun, Kind, MeterStep};
-use fh_time::Ticks;
+use fh_base::Ticks;
 
 /// The delay measurements of a unit: an exchange for each of the 256 measurement ids, and the closure that answers the
 /// compensation at each edge of the unit, in units of 2^-16 ns.

@@ -5,7 +5,7 @@ ghost use Rattle.delay_measure.specs.Kept.{IsInRange};
 
 use crate::edge::Compensation;
 use crate::message::DelayMessage;
-use fh_time::Ticks;
+use fh_base::Ticks;
 
 /// The greatest compensation, 1 ms, in units of 2^-16 ns.
 pub const MOST_COMPENSATION: u64 = 65_536_000_000;

@@ -10,7 +10,6 @@ use Rattle.air_source.specs.declared.events.Side.TheVariants.{Ru}
 use Rattle.air_source.specs.declared.links.LinkFrame.{LinkFrame}
 use Rattle.fh_document.specs.Proper.{IsDocument}
 use Rattle.fh_document.specs.declared.document.Document.{Document}
-use Rattle.fragment_laws.specs.Apart.{IsIn}
 use Rattle.unit_laws.proofs.SendingLemmas.{jobs_are_proper}
 use Rattle.plan_model.specs.Departures.{departures_of}
 use Rattle.plan_model.specs.Packs.{Message, alone, with_part}
@@ -18,12 +17,10 @@ use Rattle.plan_model.specs.Valid.{IsValid}
 use Rattle.plan_model.specs.declared.streams.Stream.TheVariants.{UpData}
 use Rattle.replay_laws.proofs.CameLemmas.{arrivals_in_time}
 use Rattle.replay_laws.specs.Moments.{all_arrivals}
-use Rattle.schedule_laws.proofs.ListLemmas.{in_all, in_map, of_each, of_map}
-use Rattle.schedule_laws.proofs.OrderLemmas.{below_get}
-use Rattle.schedule_laws.proofs.TimeLemmas.{wait_most}
+use Rattle.plan_model.proofs.TimeLemmas.{wait_most}
 use Rattle.unit_laws.proofs.EndLemmas.{no_jobs_later}
 use Rattle.unit_laws.proofs.SentLemmas.{jobs_append}
-use Rattle.unit_model.proofs.SweepLaws.{gap_is, sweep_quiet as sweep-nothing}
+use Rattle.unit_model.proofs.SweepLaws.{sweep_quiet as sweep-nothing}
 use Rattle.unit_model.specs.Meetings.{Arrival}
 use Rattle.unit_model.specs.Proper.{IsAt, IsTime}
 use Rattle.unit_model.specs.ProperJobs.{IsProperJob}
@@ -42,7 +39,6 @@ use Rattle.uplink_model.specs.SentLaws.{AreInTimes, AreOf}
 use Rattle.window_config.specs.Windows.{ticks_of_ns}
 use Rattle.window_config.specs.declared.config.Config.{Config}
 use Rattle.window_config.specs.declared.endpoints.EndpointConfig.{EndpointConfig}
-use Rattle.plan_model.proofs.ListLemmas.{in_either, all_of, the_one}
 use Rattle.document_traffic.specs.Landing.{antenna_for, handed_for, jobs_for, landings_of, leaving_answer, leaving_up}
 use Rattle.document_traffic.specs.Laws.{AnswersAllLeave}
 use Rattle.document_traffic.specs.Sending.{Leaving, leaving_down, leaving_of, sent_for}
@@ -53,6 +49,11 @@ use Rattle.document_traffic.proofs.WithinLemmas.{each_lands}
 use Rattle.window_config.specs.declared.delays.TheConstants.{MOST_DELAY}
 use Rattle.window_config.proofs.TickLemmas.{in_ticks}
 use Rattle.unit_laws.proofs.UnitLemmas.{small_is}
+use Rattle.fh_base.specs.Members.{IsIn}
+use Rattle.fh_base.proofs.MemberLemmas.{in_either, all_of, the_one}
+use Rattle.fh_base.proofs.MadeLists.{in_all, in_map, of_each, of_map}
+use Rattle.fh_base.proofs.EachLemmas.{gap_is}
+use Rattle.fh_base.proofs.RisingLemmas.{below_get}
 
 -- ---- frames that are handed over for messages
 

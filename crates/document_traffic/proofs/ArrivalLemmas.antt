@@ -5,21 +5,21 @@ use Rattle.std.specs.Ordering.{int_eq}
 use Rattle.std.proofs.lemmas.Bool.{cases_eq}
 use Rattle.std.proofs.lemmas.Bool.Decides.{Decides-int_eq}
 use Rattle.std.proofs.lemmas.Int.{ints}
-use Rattle.fragment_laws.specs.Apart.{IsIn}
 use Rattle.replay_laws.proofs.CameLemmas.{arrivals_in_time}
 use Rattle.replay_laws.specs.Moments.{all_arrivals, arrivals_in, landing_at}
 use Rattle.replay_laws.proofs.EndLemmas.{lands_by_end}
 use Rattle.replay_laws.specs.Passing.{AreLandings}
-use Rattle.schedule_laws.proofs.ListLemmas.{in_all, in_onto, onto_left, onto_right}
 use Rattle.schedule_laws.specs.Premise.{AreInOrder}
-use Rattle.unit_model.proofs.SweepLaws.{gap_is}
 use Rattle.unit_model.specs.Meetings.{Arrival}
 use Rattle.unit_model.specs.Radiated.{first_clock}
 use Rattle.unit_model.specs.Standing.{AreInTime}
 use Rattle.unit_model.specs.Times.{end_of_time}
 use Rattle.unit_laws.proofs.HistoryTicks.{clock_begins}
-use Rattle.plan_model.proofs.ListLemmas.{in_filter, of_filter}
-use Rattle.fh_time.proofs.Orders.{at_most}
+use Rattle.fh_base.proofs.Orders.{at_most}
+use Rattle.fh_base.specs.Members.{IsIn}
+use Rattle.fh_base.proofs.MemberLemmas.{in_filter, of_filter}
+use Rattle.fh_base.proofs.MadeLists.{in_all, in_onto, onto_left, onto_right}
+use Rattle.fh_base.proofs.EachLemmas.{gap_is}
 
 -- ---- what arrives
 

@@ -6,16 +6,16 @@ use Rattle.std.proofs.lemmas.Int.{ints}
 use Rattle.air_source.specs.declared.events.Side.{Side}
 use Rattle.fh_document.specs.declared.document.Document.{Document}
 use Rattle.fh_document.specs.declared.document.Injection.{Injection}
-use Rattle.fragment_laws.specs.Apart.{IsIn}
-use Rattle.schedule_laws.proofs.ListLemmas.{in_all, in_map, of_map}
 use Rattle.unit_model.specs.Meetings.{Arrival}
 use Rattle.window_config.specs.Windows.{ticks_of_ns}
 use Rattle.window_config.specs.declared.delays.Range.{Range}
-use Rattle.plan_model.proofs.ListLemmas.{in_either, in_left}
 use Rattle.document_traffic.specs.Landing.{copies_among, copy_at, injected_at, injected_to, is_to, landing_with}
 use Rattle.document_traffic.specs.Sending.{Delayed, Leaving, delayed_behind, none_sent}
 use Rattle.document_traffic.specs.Undisturbed.{IsCarried}
 use Rattle.document_traffic.proofs.CopyLemmas.{delayed_is, in_copies, in_delayed, of_copies}
+use Rattle.fh_base.specs.Members.{IsIn}
+use Rattle.fh_base.proofs.MemberLemmas.{in_either, in_left}
+use Rattle.fh_base.proofs.MadeLists.{in_all, in_map, of_map}
 
 -- a copy of a frame, so long after it left
 pub record IsCopyOf (bounds : Range) (f : Leaving) (a : Arrival) : Type 0 where

@@ -2,12 +2,12 @@
 use Rattle.std.proofs.Common.{◌≡◌, ℕ, inl, inr, List, [], ◌∷◌, refl, sym, subst}
 use Rattle.air_source.specs.declared.events.Side.{Side}
 use Rattle.fh_document.specs.declared.document.Document.{Document}
-use Rattle.fragment_laws.specs.Apart.{IsIn}
-use Rattle.frame_deliveries.specs.Copies.{copies_of}
+use Rattle.frame_ways.specs.Copies.{copies_of}
 use Rattle.unit_model.specs.Meetings.{Arrival}
-use Rattle.plan_model.proofs.ListLemmas.{in_either, in_left, in_right}
 use Rattle.document_traffic.specs.Landing.{copies_among, copies_in}
 use Rattle.document_traffic.specs.Sending.{Delayed, Leaving, SentCounts, count_of, counted, delayed, delayed_behind}
+use Rattle.fh_base.specs.Members.{IsIn}
+use Rattle.fh_base.proofs.MemberLemmas.{in_either, in_left, in_right}
 
 -- ---- each frame, with its copies
 

@@ -6,10 +6,11 @@ use Rattle.std.proofs.lemmas.List.Elements.{All-cons, All-nil, All-weaker}
 use Rattle.ecpri_fragments.specs.Generations.{Fragment, Generation, begun, generations_of, held_in, is_of, is_within, joined, with_fragment}
 use Rattle.fragment_laws.proofs.ApartLemmas.{apart_before, seen_is}
 use Rattle.fragment_laws.proofs.FlowLemmas.{copy, delivered_apart, number_is}
-use Rattle.fragment_laws.specs.Apart.{AreApart, IsIn, Numbers, number_of, of_message}
+use Rattle.fragment_laws.specs.Apart.{AreApart, Numbers, number_of, of_message}
 use Rattle.fragment_laws.specs.Flow.{Bounds, Flow, IsCopyOf, IsDelivered, IsSound, numbers_of, sent_at}
 use Rattle.document_traffic.specs.Generations.{EachHoldsOneMessage, HoldsOneMessage}
-use Rattle.fh_time.proofs.Orders.{and_false as not_both}
+use Rattle.fh_base.proofs.Orders.{and_false as not_both}
+use Rattle.fh_base.specs.Members.{IsIn}
 
 -- ---- what came of a message
 

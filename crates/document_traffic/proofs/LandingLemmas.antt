@@ -5,7 +5,6 @@ use Rattle.air_source.specs.declared.events.Side.{Side}
 use Rattle.air_source.specs.declared.events.Side.TheVariants.{Ru, Du}
 use Rattle.fh_document.specs.Proper.{IsDocument}
 use Rattle.fh_document.specs.declared.document.Document.{Document}
-use Rattle.fragment_laws.specs.Apart.{IsIn}
 use Rattle.plan_model.specs.Valid.{IsValid}
 use Rattle.unit_model.specs.Times.{last_landing}
 use Rattle.document_traffic.specs.Landing.{landing_with, leaving_to}
@@ -14,6 +13,7 @@ use Rattle.document_traffic.specs.Sending.{Leaving}
 use Rattle.document_traffic.proofs.AnswerLemmas.{down_leaves, last_answered, up_leaves}
 use Rattle.document_traffic.proofs.TimeLemmas.{IsBy, last_sent, longest, replayed_by}
 use Rattle.document_traffic.proofs.WithinLemmas.{each_lands}
+use Rattle.fh_base.specs.Members.{IsIn}
 
 -- the last frame that is sent to a unit leaves by then
 abbrev pub last_leaving : Side → ℤ

@@ -7,17 +7,17 @@ use Rattle.air_source.specs.declared.events.Side.{Side}
 use Rattle.air_source.specs.declared.events.Side.TheVariants.{Ru, Du}
 use Rattle.air_source.specs.declared.links.LinkFrame.{LinkFrame}
 use Rattle.fh_document.specs.declared.document.Document.{Document}
-use Rattle.schedule_laws.proofs.ListLemmas.{in_all, of_map}
-use Rattle.schedule_laws.proofs.OrderLemmas.{IsRising, ticks_rising}
 use Rattle.schedule_laws.proofs.LeastLemmas.{sent_rising}
 use Rattle.unit_model.specs.Radiated.{first_clock}
 use Rattle.unit_model.specs.Times.{end_of_time}
 use Rattle.uplink_model.proofs.SentLemmas.{leaving_leave_then}
 use Rattle.uplink_model.specs.Sent.{in_sent_order, leaving_at}
-use Rattle.plan_model.proofs.ListLemmas.{all_of}
 use Rattle.document_traffic.specs.Landing.{handed_for, leaving_answer, leaving_to}
 use Rattle.document_traffic.specs.Laws.{LeavingAreInOrder}
 use Rattle.document_traffic.specs.Sending.{Leaving, leaving_of, lines_of, sent_for}
+use Rattle.fh_base.proofs.MemberLemmas.{all_of}
+use Rattle.fh_base.proofs.MadeLists.{in_all, of_map}
+use Rattle.fh_base.proofs.RisingLemmas.{IsRising, ticks_rising}
 
 -- ---- what leaves for either unit
 

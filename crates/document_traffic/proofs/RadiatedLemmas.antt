@@ -10,9 +10,8 @@ use Rattle.bfp_codec.proofs.Laws.{can_pack}
 use Rattle.bfp_codec.specs.Shrunk.{CanPack}
 use Rattle.fh_document.specs.Proper.{IsDocument}
 use Rattle.fh_document.specs.declared.document.Document.{Document}
-use Rattle.fh_time.specs.Air.{air_of}
-use Rattle.fh_time.specs.declared.values.Slot.{Slot}
-use Rattle.fragment_laws.specs.Apart.{IsIn}
+use Rattle.fh_base.specs.Air.{air_of}
+use Rattle.fh_base.specs.declared.values.Slot.{Slot}
 use Rattle.plan_model.specs.Lines.{line_allocation}
 use Rattle.plan_model.specs.Sent.{SentFrame}
 use Rattle.plan_model.specs.Valid.{IsValid}
@@ -21,18 +20,17 @@ use Rattle.replay_laws.specs.Moments.{all_arrivals}
 use Rattle.replay_laws.proofs.OnceLemmas.{cells_are_reported}
 use Rattle.schedule_laws.proofs.BlockLemmas.{decoded_once}
 use Rattle.schedule_laws.proofs.CommandLemmas.{commanded_once}
-use Rattle.schedule_laws.proofs.LineLemmas.{good, start_in_time}
-use Rattle.schedule_laws.proofs.ListLemmas.{at_in, in_all, in_map, of_map}
+use Rattle.plan_model.proofs.LineLemmas.{good, start_in_time}
 use Rattle.schedule_laws.proofs.WholeLemmas.{delivered, sounds}
 use Rattle.schedule_laws.specs.Flows.{bounds_of}
 use Rattle.schedule_laws.specs.Premise.{AllArrive}
 use Rattle.schedule_laws.specs.Singles.{event_of}
 use Rattle.sent_frames.specs.Sources.{id_at}
-use Rattle.sent_laws.proofs.RadiatedLemmas.{arrive, sent_once, sent_radiates}
-use Rattle.sent_laws.proofs.SentRead.{messages_say}
-use Rattle.sent_laws.specs.Frames.{texts_of}
-use Rattle.sent_laws.specs.Radiated.{CopiesArrive, IsSentCopy}
-use Rattle.sent_laws.specs.Sent.{IsSendable}
+use Rattle.uplink_laws.proofs.RadiatedLemmas.{arrive, sent_once, sent_radiates}
+use Rattle.uplink_laws.proofs.SentRead.{messages_say}
+use Rattle.uplink_laws.specs.Frames.{texts_of}
+use Rattle.uplink_laws.specs.Radiated.{CopiesArrive, IsSentCopy}
+use Rattle.uplink_laws.specs.Sent.{IsSendable}
 use Rattle.unit_model.specs.Claims.{cell_at, cell_of, covers, in_mask, names}
 use Rattle.unit_model.specs.Meetings.{Arrival}
 use Rattle.unit_model.specs.Proper.{IsAt}
@@ -51,6 +49,8 @@ use Rattle.document_traffic.proofs.LandingLemmas.{are_replayed}
 use Rattle.document_traffic.proofs.LineLemmas.{lines_fit}
 use Rattle.document_traffic.proofs.ToneLemmas.{tone_fits}
 use Rattle.unit_model.proofs.ClaimLemmas.{from_within, covers_is}
+use Rattle.fh_base.specs.Members.{IsIn}
+use Rattle.fh_base.proofs.MadeLists.{at_in, in_all, in_map, of_map}
 
 by_the_end : (s : ℤ) → s ≤ℤ pos 1536100000000000 → s ≤ℤ end_of_time
 by_the_end s h = omega (arith, ints, h)

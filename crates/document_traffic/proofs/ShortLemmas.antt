@@ -7,7 +7,6 @@ use Rattle.cplane_sections.specs.declared.values.CSection.{CSection}
 use Rattle.ecpri_fragments.specs.declared.sequence.SeqField.{SeqField}
 use Rattle.fh_document.specs.Proper.{IsDocument}
 use Rattle.fh_document.specs.declared.document.Document.{Document}
-use Rattle.fragment_laws.specs.Apart.{IsIn}
 use Rattle.frame_bytes.proofs.CutBytes.{length_cut}
 use Rattle.frame_bytes.proofs.Fields.{length-in_bytes}
 use Rattle.frame_bytes.specs.Commands.{command_frame, command_of, whole_seq}
@@ -19,26 +18,27 @@ use Rattle.plan_model.specs.Sent.{SentFrame}
 use Rattle.plan_model.specs.Valid.{IsValid}
 use Rattle.plan_model.specs.declared.streams.Stream.{Stream}
 use Rattle.plan_model.specs.declared.streams.Stream.TheVariants.{DownCommands, UpCommands, DownData, UpData}
-use Rattle.schedule_laws.proofs.ListLemmas.{of_map}
 use Rattle.sent_frames.specs.Commands.{command_head, command_section}
 use Rattle.sent_frames.specs.Frames.{bytes_in, fragment_field}
 use Rattle.sent_frames.specs.Messages.{Source, message_bytes}
-use Rattle.sent_laws.proofs.Fragments.{piece_short}
-use Rattle.sent_laws.proofs.SentRead.{command_short}
+use Rattle.uplink_laws.proofs.Fragments.{piece_short}
+use Rattle.uplink_laws.proofs.SentRead.{command_short}
 use Rattle.unit_model.specs.declared.jobs.UplinkJob.{UplinkJob}
 use Rattle.uplink_model.specs.Frames.{Antenna, uplink_frame_of, uplink_fragment_field as answer_field, uplink_message_bytes as answer_bytes}
 use Rattle.uplink_model.specs.Messages.{job_fields}
 use Rattle.window_config.specs.declared.config.Config.{Config}
 use Rattle.window_config.specs.declared.endpoints.EndpointConfig.{EndpointConfig}
-use Rattle.plan_model.proofs.ListLemmas.{all_of}
 use Rattle.document_traffic.specs.Landing.{antenna_for, leaving_up}
 use Rattle.document_traffic.specs.Laws.{LeavingAreShort}
 use Rattle.document_traffic.specs.Sending.{Leaving, leaving_down, leaving_of, sent_for, source_for}
 use Rattle.document_traffic.proofs.AnswerLemmas.{handed_frame, sent_is_handed}
 use Rattle.window_config.specs.declared.config.TheConstants.{MOST_FRAGMENT}
+use Rattle.fh_base.specs.Members.{IsIn}
+use Rattle.fh_base.proofs.MemberLemmas.{all_of}
+use Rattle.fh_base.proofs.MadeLists.{of_map}
 
 -- a frame has eight bytes of headers before its application bytes
-length_frame : (kind id : ℕ) (seq : SeqField) (application : List ℕ) → length (transport_frame kind id seq application) ≡ 8 + length application
+pub length_frame : (kind id : ℕ) (seq : SeqField) (application : List ℕ) → length (transport_frame kind id seq application) ≡ 8 + length application
 length_frame kind id seq application =
     length-append (in_bytes (transport_fields kind id seq (4 + length application))) application
     ∙ ap (λ n. n + length application) (length-in_bytes 8 (transport_fields kind id seq (4 + length application)) refl)

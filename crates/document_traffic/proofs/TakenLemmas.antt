@@ -9,12 +9,10 @@ use Rattle.air_source.specs.declared.links.LinkFrame.{LinkFrame}
 use Rattle.bfp_codec.proofs.Laws.{can_pack}
 use Rattle.fh_document.specs.Proper.{IsDocument}
 use Rattle.fh_document.specs.declared.document.Document.{Document}
-use Rattle.fh_time.specs.Air.{air_of}
-use Rattle.fragment_laws.specs.Apart.{IsIn}
+use Rattle.fh_base.specs.Air.{air_of}
 use Rattle.plan_model.specs.Valid.{IsValid}
 use Rattle.replay_laws.specs.Moments.{all_arrivals}
 use Rattle.replay_laws.proofs.OnceLemmas.{cells_are_reported}
-use Rattle.schedule_laws.proofs.ListLemmas.{at_in, in_all}
 use Rattle.unit_model.specs.Meetings.{Arrival}
 use Rattle.unit_model.specs.Standing.{same_cell}
 use Rattle.unit_model.specs.Times.{end_of_time}
@@ -42,6 +40,8 @@ use Rattle.document_traffic.proofs.LandingLemmas.{are_replayed}
 use Rattle.document_traffic.proofs.RadiatedLemmas.{copies, sendable, starts}
 use Rattle.document_traffic.proofs.ToneLemmas.{tone_fits}
 use Rattle.window_config.specs.declared.delays.TheConstants.{MOST_DELAY}
+use Rattle.fh_base.specs.Members.{IsIn}
+use Rattle.fh_base.proofs.MadeLists.{at_in, in_all}
 
 -- a cell is reported 2 ms after its symbol's start at most
 told_in_time : (s most : ℤ) → s ≤ℤ pos 1536100000000000 → most ≤ℤ pos MOST_DELAY → (s +ℤ ticks_of_ns most) ≤ℤ end_of_time

@@ -2,7 +2,6 @@
 use Rattle.std.proofs.Common.{◌≡◌, ℕ, ℤ, pos, neg_ℤ, ◌+◌, ◌*◌, ◌≤◌, ◌+ℤ◌, ◌*ℤ◌, ◌≤ℤ◌, min, inl, List, refl, sym, subst, arith}
 use Rattle.std.specs.Prelude.{All}
 use Rattle.std.proofs.lemmas.Int.{ints}
-use Rattle.fragment_laws.specs.Apart.{IsIn}
 use Rattle.plan_model.specs.Departures.{departures_of, sending_from, sending_window, sent_at, start_of_part, width_of}
 use Rattle.plan_model.specs.Lines.{planned}
 use Rattle.plan_model.specs.Packs.{Numbered}
@@ -13,10 +12,9 @@ use Rattle.plan_model.specs.declared.lines.PlannedLine.{PlannedLine}
 use Rattle.plan_model.specs.declared.streams.Stream.{Stream}
 use Rattle.plan_model.specs.declared.streams.Stream.TheVariants.{DownCommands, UpCommands, DownData, UpData}
 use Rattle.replay_laws.specs.Passing.{AreLandings}
-use Rattle.schedule_laws.proofs.SentLemmas.{IsSentStream, message_part, sent_is}
-use Rattle.schedule_laws.proofs.TimeLemmas.{wait_most}
+use Rattle.plan_model.proofs.SentLemmas.{IsSentStream, message_part, sent_is}
+use Rattle.plan_model.proofs.TimeLemmas.{wait_most}
 use Rattle.schedule_laws.proofs.SentTimeLemmas.{most_before, part_time}
-use Rattle.unit_model.proofs.SweepLaws.{gap_is}
 use Rattle.unit_model.specs.Meetings.{Arrival}
 use Rattle.unit_model.specs.Proper.{IsAt, IsTime}
 use Rattle.unit_model.specs.Radiated.{first_clock}
@@ -28,11 +26,13 @@ use Rattle.window_config.specs.declared.config.Config.{Config}
 use Rattle.window_config.specs.declared.delays.Delays.{Delays}
 use Rattle.window_config.specs.declared.endpoints.EndpointConfig.{EndpointConfig}
 use Rattle.window_config.specs.declared.plan.PlanLine.{PlanLine}
-use Rattle.plan_model.proofs.ListLemmas.{all_of}
-use Rattle.fh_time.specs.declared.frames.TheConstants.{FRAME}
-use Rattle.fh_time.specs.declared.nanoseconds.TheConstants.{LAST_TIME, NANOSECOND}
+use Rattle.fh_base.specs.declared.frames.TheConstants.{FRAME}
+use Rattle.fh_base.specs.declared.nanoseconds.TheConstants.{LAST_TIME, NANOSECOND}
 use Rattle.fh_document.specs.declared.config_lines.TheConstants.{MOST_TRANSIT}
 use Rattle.window_config.proofs.TickLemmas.{in_ticks}
+use Rattle.fh_base.specs.Members.{IsIn}
+use Rattle.fh_base.proofs.MemberLemmas.{all_of}
+use Rattle.fh_base.proofs.EachLemmas.{gap_is}
 
 -- ---- times of a replay
 

@@ -10,7 +10,7 @@ use Rattle.bfp_codec.specs.Exponent.{Within}
 use Rattle.bfp_codec.specs.Samples.{component, no_iq}
 use Rattle.bfp_codec.specs.declared.samples.Iq.{Iq}
 use Rattle.fh_document.specs.Proper.{IsTone}
-use Rattle.fh_time.specs.declared.values.Slot.{Slot}
+use Rattle.fh_base.specs.declared.values.Slot.{Slot}
 use Rattle.air_source.specs.Tones.{number_of, tone_of, wave}
 use Rattle.air_source.specs.declared.tones.Tone.{Tone}
 

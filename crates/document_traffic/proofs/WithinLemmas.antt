@@ -5,17 +5,17 @@ use Rattle.air_source.specs.declared.events.Side.{Side}
 use Rattle.fh_document.specs.DeliverLines.{least_of}
 use Rattle.fh_document.specs.Proper.{IsDocument, IsFrom, IsInjection}
 use Rattle.fh_document.specs.declared.document.Document.{Document}
-use Rattle.fragment_laws.specs.Apart.{IsIn}
-use Rattle.frame_deliveries.proofs.Within.{copies_within}
-use Rattle.frame_deliveries.specs.Copies.{copies_of}
-use Rattle.schedule_laws.proofs.ListLemmas.{in_all, of_map}
+use Rattle.frame_ways.proofs.Within.{copies_within}
+use Rattle.frame_ways.specs.Copies.{copies_of}
 use Rattle.unit_model.specs.Meetings.{Arrival}
-use Rattle.plan_model.proofs.ListLemmas.{in_either, of_filter}
 use Rattle.document_traffic.specs.Landing.{copies_among, copies_in, copy_at, injected_at, injected_to, is_to, landing_with}
 use Rattle.document_traffic.specs.Sending.{Delayed, Leaving, delayed_behind, none_sent}
 use Rattle.document_traffic.proofs.CopyLemmas.{delayed_is, of_copies}
 use Rattle.document_traffic.proofs.TimeLemmas.{IsBy, copy_lands, injected_lands, longest}
 use Rattle.fh_document.specs.declared.config_lines.TheConstants.{MOST_TRANSIT}
+use Rattle.fh_base.specs.Members.{IsIn}
+use Rattle.fh_base.proofs.MemberLemmas.{in_either, of_filter}
+use Rattle.fh_base.proofs.MadeLists.{in_all, of_map}
 
 module _ (d : Document) (is : IsDocument d) (side : Side) (fs : List Leaving) (last : ℤ) (late : pos 1536000000000000 ≤ℤ last) (leaves : (f : Leaving) → IsIn f fs → IsBy last f.at) where
   pub copy_of_each : (x : Delayed) (a : Arrival) → IsIn x (delayed_behind d side none_sent fs) → IsIn a (copies_in x) → IsBy (last +ℤ longest) a.at

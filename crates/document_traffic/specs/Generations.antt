@@ -1,8 +1,9 @@
 -- What the generations of fragments hold at a unit (eCPRI 2.0, sequence id of message type 0; generations are this project's profile).
 use Rattle.std.specs.Prelude.{◌≡◌, ℕ, ◌<◌, List, All}
 use Rattle.ecpri_fragments.specs.Generations.{Fragment, Generation, generations_of}
-use Rattle.fragment_laws.specs.Apart.{IsIn, of_message}
+use Rattle.fragment_laws.specs.Apart.{of_message}
 use Rattle.fragment_laws.specs.Flow.{Bounds, Flow, IsCopyOf, numbers_of}
+use Rattle.fh_base.specs.Members.{IsIn}
 
 -- A generation of an endpoint's fragments holds fragments of one message only, which was sent, and every copy of them that came: they are
 -- what came of this message, each copy as often as it came, the newest first.

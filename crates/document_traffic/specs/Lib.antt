@@ -3,3 +3,16 @@ pub mod Landing
 pub mod Generations
 pub mod Undisturbed
 pub mod Laws
+pub mod Settings
+pub mod DelayLaws
+pub mod Plain
+pub mod Measured
+pub mod Doings
+pub mod Sides
+pub mod Replayed
+pub mod MeasuredLaws
+pub mod Turns
+pub mod Once
+pub mod Delays
+pub mod Exchanged
+pub mod Ends

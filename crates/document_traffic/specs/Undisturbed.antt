@@ -6,7 +6,6 @@ use Rattle.air_source.specs.declared.events.Side.{Side}
 use Rattle.air_source.specs.declared.events.Side.TheVariants.{Ru, Du}
 use Rattle.ecpri_fragments.specs.Generations.{Fragment}
 use Rattle.fh_document.specs.declared.document.Document.{Document}
-use Rattle.fragment_laws.specs.Apart.{IsIn}
 use Rattle.fragment_laws.specs.Flow.{Flow}
 use Rattle.plan_model.specs.Lines.{line_allocation, is_up_line}
 use Rattle.plan_model.specs.declared.lines.PlannedLine.{PlannedLine}
@@ -19,7 +18,7 @@ use Rattle.schedule_laws.specs.Commands.{AreCommandedOnce}
 use Rattle.schedule_laws.specs.Data.{AreDecodedOnce, Blocks}
 use Rattle.schedule_laws.specs.Flows.{bounds_of, flow_of}
 use Rattle.schedule_laws.specs.Singles.{event_of}
-use Rattle.sent_laws.specs.Frames.{blocks_of, texts_of}
+use Rattle.uplink_laws.specs.Frames.{blocks_of, texts_of}
 use Rattle.unit_model.specs.Claims.{cell_of, names}
 use Rattle.unit_model.specs.Meetings.{fragments}
 use Rattle.unit_model.specs.Reports.{met}
@@ -36,6 +35,7 @@ use Rattle.uplink_laws.specs.Singles.{uplink_event_of as taken_event_of}
 use Rattle.document_traffic.specs.Generations.{EachHoldsOneMessage}
 use Rattle.document_traffic.specs.Landing.{all_delayed, antenna_for}
 use Rattle.document_traffic.specs.Sending.{Delayed, lines_of, source_for}
+use Rattle.fh_base.specs.Members.{IsIn}
 
 -- ---- the premise
 

@@ -4,9 +4,32 @@
 //!
 //! A law is stated in `specs/` and proved as a lemma in `proofs/`. The functions here do nothing: the contract of each is a law that
 //! pages promise.
+//!
+//! Delay measurement of a document: what [`delay_laws`] says of what a document that was read begins, and of the frames that it delays
+//! (eCPRI 2.0, section 3.2.4.6).
+//!
+//! There are no functions: a law is stated in `specs/` and proved as a lemma in `proofs/`.
+//!
+//! Documents of which one reads in the text that nothing disturbs their schedule.
+//!
+//! Each law is the contract of a function that does nothing, stated in `specs/`.
+//!
+//! What lands at the units in a document's replay with the frames of delay measurement, by definition (`specs/Measured.antt`), and what
+//! holds of it (eCPRI 2.0, section 3.2.4.6).
+//!
+//! A law is stated in `specs/` and proved as a lemma in `proofs/`. The functions here do nothing: the contract of each is a law that
+//! pages promise.
 #![tactic(auto)]
 
+mod measured_traffic;
+mod plain_documents;
+
 ghost use Rattle.document_traffic.specs.Laws.{PlannedScheduleRadiatesOnce, PlannedUplinkIsTakenInOnce};
+
+pub use measured_traffic::{
+    delays_are_told, documents_are_over, landings_are_replayed, measurement_rests,
+};
+pub use plain_documents::{generated_are_undisturbed, plain_are_undisturbed};
 
 /// Where the windows pass the check, nothing is injected and each frame that is sent to the radio unit has a copy, each within T12: each
 /// scheduled downlink element radiates once, with its source's samples as compression leaves them, and each generation at the radio unit

@@ -8,10 +8,10 @@ use Rattle.std.proofs.lemmas.Int.{ints, by_lt_z}
 use Rattle.std.proofs.lemmas.List.Elements.{All-nil, All-append, All-cons}
 use Rattle.std.proofs.lemmas.List.Folds.{list_any-append}
 use Rattle.std.specs.Int.Signed.{≤ℤ_refl}
-use Rattle.fh_time.specs.Air.{air_of, span_of}
-use Rattle.fh_time.specs.Kinds.{kind_start}
-use Rattle.fh_time.specs.declared.values.Slot.{Slot}
-use Rattle.fh_time.proofs.Order.{symbol_in_span, symbols_in_order}
+use Rattle.fh_base.specs.Air.{air_of, span_of}
+use Rattle.fh_base.specs.Kinds.{kind_start}
+use Rattle.fh_base.specs.declared.values.Slot.{Slot}
+use Rattle.fh_base.proofs.Order.{symbol_in_span, symbols_in_order}
 use Rattle.air_source.specs.declared.events.AirCell.{AirCell}
 use Rattle.air_source.specs.declared.events.Side.TheVariants.{Du}
 use Rattle.window_config.specs.Rings.{IsLive}
@@ -20,7 +20,7 @@ use Rattle.window_config.specs.declared.config.Config.{Config}
 use Rattle.window_config.specs.declared.endpoints.EndpointConfig.{EndpointConfig}
 use Rattle.unit_model.specs.Claims.{claim_at, same_slot, same_way}
 use Rattle.unit_model.specs.Counts.{cells_counted}
-use Rattle.unit_model.specs.Lists.{each}
+use Rattle.fh_base.specs.Lists.{each}
 use Rattle.unit_model.specs.Order.{comes_before}
 use Rattle.unit_model.specs.Proper.{IsAt, IsSlot}
 use Rattle.unit_model.specs.Radiated.{Known, air_cell, first_clock, used_mask, wait_of}
@@ -31,8 +31,7 @@ use Rattle.unit_model.specs.Sweeps.{OfSymbol}
 use Rattle.unit_model.specs.declared.allocations.Allocation.{Allocation}
 use Rattle.unit_model.specs.declared.cells.Cell.{Cell}
 use Rattle.unit_model.specs.declared.symbol_start.SymbolStart.{SymbolStart}
-use Rattle.unit_model.proofs.SweepLaws.{each_more, each_split}
-use Rattle.unit_laws.specs.Swept.{IsSwept}
+use Rattle.unit_model.specs.Swept.{IsSwept}
 use Rattle.unit_laws.proofs.DueLemmas.{due_begins, due_in_pieces, due_left, heard_differ, unheard}
 use Rattle.unit_laws.proofs.FarLemmas.{endpoints_equal}
 use Rattle.unit_cells.specs.Cells.{cells_block}
@@ -43,7 +42,7 @@ use Rattle.unit_laws.proofs.FirstLemmas.{first_is_first}
 use Rattle.unit_laws.proofs.HistoryTicks.{last_before}
 use Rattle.unit_laws.proofs.UnitLemmas.{same_ids, not_both}
 use Rattle.unit_laws.proofs.HistoryLists.{one_of_two}
-use Rattle.schedule_laws.proofs.TimeLemmas.{by_then}
+use Rattle.plan_model.proofs.TimeLemmas.{by_then}
 use Rattle.unit_memory.specs.Memory.{Holds}
 use Rattle.unit_memory.specs.declared.memory.UnitMemory.{UnitMemory}
 use Rattle.unit_memory.proofs.HoldLemmas.{holds_later}
@@ -56,9 +55,10 @@ use Rattle.du_intake.specs.Units.{IntakeKeeps, intake_due_of}
 use Rattle.du_intake.proofs.DueLemmas.{begun_late, by_cells, cells_left, each_nothing, next_swept, nothing_if, one_cell, own_not_behind, quiet, used_cell, wait_bounds}
 use Rattle.du_intake.proofs.UnitLemmas.{all_told}
 use Rattle.unit_model.proofs.ClaimLemmas.{same_slot_is as slots_equal, slot_self as slot_own}
-use Rattle.fh_time.proofs.Orders.{not_none, not_zero, at_most}
+use Rattle.fh_base.proofs.Orders.{not_none, not_zero, at_most}
 use Rattle.air_source.specs.Units.{is_down}
-use Rattle.fh_time.specs.declared.symbols.TheConstants.{SUBFRAME}
+use Rattle.fh_base.specs.declared.symbols.TheConstants.{SUBFRAME}
+use Rattle.fh_base.proofs.EachLemmas.{each_more, each_split}
 
 -- ---- tests
 

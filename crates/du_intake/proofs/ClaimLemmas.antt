@@ -1,13 +1,13 @@
 -- What the kept lines claim is what the plan claims.
 use Rattle.std.proofs.Common.{◌≡◌, ℕ, inl, inr, Bool, true, false, ◌&&◌, ◌==◌, if◌then◌else◌, List, [], ◌∷◌, ◌++◌, map, Option, Some, None, refl, sym}
 use Rattle.std.proofs.lemmas.Option.{same_Some}
-use Rattle.fragment_laws.specs.Apart.{IsIn}
 use Rattle.unit_model.specs.Claims.{claim_at, claim_of, first_prb, in_mask, is_from, names, prb_count, same_slot, same_way}
 use Rattle.unit_model.specs.declared.allocations.Allocation.{Allocation}
 use Rattle.unit_model.specs.declared.cells.Cell.{Cell}
 use Rattle.unit_model.specs.declared.cells.Claim.{Claim}
 use Rattle.du_intake.specs.Lines.{claim_in_slot, is_home, line_of, lines_at, names_in}
 use Rattle.du_intake.specs.declared.lines.UplinkLine.{UplinkLine}
+use Rattle.fh_base.specs.Members.{IsIn}
 
 -- ---- of a plan
 

@@ -4,7 +4,7 @@ use Rattle.std.specs.Prelude.{if◌then◌else◌, slice_get, IfSome}
 use Rattle.std.proofs.lemmas.Bool.{eqb-true}
 use Rattle.std.proofs.lemmas.Option.{MatchOption-at_some}
 use Rattle.std.specs.Int.Signed.{clash_ℤ}
-use Rattle.fh_time.specs.Air.{air_of}
+use Rattle.fh_base.specs.Air.{air_of}
 use Rattle.air_source.specs.declared.events.AirCell.{AirCell}
 use Rattle.air_source.specs.declared.events.Event.{Event}
 use Rattle.air_source.specs.declared.events.Event.TheVariants.{Cell as Reported}
@@ -41,7 +41,7 @@ use Rattle.du_intake.proofs.StepLemmas.{keeps_symbol}
 use Rattle.du_intake.proofs.UnitLemmas.{stands}
 use Rattle.du_intake.proofs.UsedLemmas.{named_left}
 use Rattle.unit_laws.proofs.ReportLemmas.{used_same}
-use Rattle.fh_time.proofs.Orders.{not_zero}
+use Rattle.fh_base.proofs.Orders.{not_zero}
 
 -- at the next symbol
 abbrev pub over_unit : Intake → Intake

@@ -6,17 +6,17 @@ use Rattle.std.proofs.lemmas.Bool.{cases_Bool, eqb-true, le-ltb, or_left}
 use Rattle.std.proofs.lemmas.Bool.Decides.{nat_tests}
 use Rattle.std.proofs.lemmas.Int.{ints}
 use Rattle.std.proofs.lemmas.Option.{MatchOption-at_some}
-use Rattle.fh_time.specs.Air.{air_of}
-use Rattle.fh_time.specs.Kinds.{kind_start}
-use Rattle.fh_time.specs.declared.values.Slot.{Slot}
-use Rattle.fh_time.specs.declared.values.Ticks.{Ticks}
-use Rattle.fh_time.proofs.Kept.{offsets_short}
+use Rattle.fh_base.specs.Air.{air_of}
+use Rattle.fh_base.specs.Kinds.{kind_start}
+use Rattle.fh_base.specs.declared.values.Slot.{Slot}
+use Rattle.fh_base.specs.declared.values.Ticks.{Ticks}
+use Rattle.fh_base.proofs.Kept.{offsets_short}
 use Rattle.air_source.specs.declared.events.AirCell.{AirCell}
 use Rattle.air_source.specs.declared.events.Side.TheVariants.{Du}
 use Rattle.window_config.specs.declared.config.Config.{Config}
 use Rattle.window_config.specs.declared.endpoints.EndpointConfig.{EndpointConfig}
 use Rattle.unit_model.specs.Claims.{claim_at, is_from}
-use Rattle.unit_model.specs.Lists.{each}
+use Rattle.fh_base.specs.Lists.{each}
 use Rattle.unit_model.specs.Order.{comes_before}
 use Rattle.unit_model.specs.Radiated.{Known, air_cell, cell_report, first_clock, report_of, symbol_report, used_mask, wait_of}
 use Rattle.unit_model.specs.Reports.{du_known}
@@ -28,12 +28,12 @@ use Rattle.unit_model.specs.declared.cells.Block.{Block}
 use Rattle.unit_model.specs.declared.cells.Cell.{Cell}
 use Rattle.unit_model.specs.declared.cells.Claim.{Claim}
 use Rattle.unit_model.specs.declared.symbol_start.SymbolStart.{SymbolStart}
-use Rattle.unit_laws.specs.Swept.{IsSwept}
+use Rattle.unit_model.specs.Swept.{IsSwept}
 use Rattle.unit_laws.proofs.DueLemmas.{unheard}
 use Rattle.unit_laws.proofs.FrameLemmas.{symbol_short, symbols_are_swept}
 use Rattle.window_config.specs.Windows.{ticks_of_ns}
 use Rattle.unit_laws.proofs.LookupLemmas.{reported_by_lookup}
-use Rattle.unit_laws.proofs.SweepLemmas.{each_related, none_kept}
+use Rattle.unit_model.proofs.SweepLemmas.{each_related, none_kept}
 use Rattle.unit_laws.specs.First.{IsSweptIn, told_of}
 use Rattle.unit_laws.proofs.FirstLemmas.{first_is_first, nothing_is_nothing}
 use Rattle.unit_laws.proofs.HistoryLists.{kept_one, filter_kept, both_nothing, one_unless}
@@ -48,12 +48,12 @@ use Rattle.du_intake.specs.declared.plan.UplinkPlan.{UplinkPlan}
 use Rattle.du_intake.specs.declared.symbols.PlannedSymbol.{PlannedSymbol}
 use Rattle.du_intake.proofs.NextLemmas.{start_is as kept_start}
 use Rattle.du_intake.proofs.UsedLemmas.{used_named}
-use Rattle.fh_time.specs.declared.frames.TheConstants.{FRAME}
+use Rattle.fh_base.specs.declared.frames.TheConstants.{FRAME}
 use Rattle.window_config.specs.declared.delays.TheConstants.{MOST_DELAY}
 use Rattle.window_config.specs.declared.plan.TheConstants.{LAST_FRAME}
-use Rattle.fh_time.proofs.Orders.{not_none, not_zero, at_most}
+use Rattle.fh_base.proofs.Orders.{not_none, not_zero, at_most}
 use Rattle.unit_model.proofs.ClaimLemmas.{start_before}
-use Rattle.fh_time.specs.declared.symbols.TheConstants.{SUBFRAME}
+use Rattle.fh_base.specs.declared.symbols.TheConstants.{SUBFRAME}
 
 -- ---- what is told of one cell
 

@@ -1,25 +1,25 @@
 -- The order of the slots of endpoints.
-use Rattle.std.proofs.Common.{◌≡◌, ℕ, ℤ, ◌<◌, ◌≤◌, inl, inr, Bool, true, false, not, ◌&&◌, ◌||◌, ◌==◌, cond, nat_lt, int_lt, List, Some, refl, ap, sym, ◌∙◌, subst, arith}
+use Rattle.std.proofs.Common.{◌≡◌, ℕ, ◌<◌, ◌≤◌, inl, inr, Bool, true, false, not, ◌&&◌, ◌||◌, ◌==◌, cond, nat_lt, List, Some, refl, ap, sym, ◌∙◌, subst, arith}
 use Rattle.std.specs.Prelude.{slice_get}
 use Rattle.std.specs.List.Sorted.{IsSortedBy, IsStableBy, ties}
 use Rattle.std.specs.Cmp.{IsStrictWeakOrder, both_ways, IsTotalOrder}
-use Rattle.std.specs.Ordering.{int_cmp, int_eq, is_lt, nat_cmp, on, ordering_then, then_cmp}
+use Rattle.std.specs.Ordering.{int_cmp, is_lt, nat_cmp, on, then_cmp}
 use Rattle.std.specs.declared.cmp.Ordering.{Ordering}
 use Rattle.std.specs.declared.cmp.Ordering.TheVariants.{Less, Equal, Greater}
 use Rattle.std.proofs.lemmas.Bool.{and_from, and_parts, cases_Bool, eq-eqb, eqb-true, or_parts, not-true}
 use Rattle.std.proofs.lemmas.Bool.Decides.{nat_tests}
 use Rattle.std.proofs.lemmas.Cmp.{int_cmp_total, nat_cmp_total, on_total, then_total}
-use Rattle.std.proofs.lemmas.Int.{ints}
 use Rattle.std.proofs.lemmas.List.Sorted.{ranks_by}
-use Rattle.fh_time.specs.declared.values.Slot.{Slot}
+use Rattle.fh_base.specs.declared.values.Slot.{Slot}
 use Rattle.unit_model.specs.Claims.{same_slot}
 use Rattle.unit_model.specs.Order.{slot_before}
 use Rattle.unit_laws.proofs.BeforeLemmas.{slot_cases}
-use Rattle.plan_model.proofs.ListLemmas.{filter_same}
 use Rattle.du_intake.specs.Lines.{AreLinesInOrder, home_before, is_home, lines_at, same_home}
 use Rattle.du_intake.specs.declared.lines.UplinkLine.{UplinkLine}
 use Rattle.du_intake.proofs.ListLemmas.{pairs_at, sorted_pairs, some_same}
 use Rattle.unit_model.proofs.ClaimLemmas.{same_slot_is as slots_equal, slot_self as slot_own}
+use Rattle.fh_base.proofs.MemberLemmas.{filter_same}
+use Rattle.fh_base.proofs.CommonLemmas.{int_lex, nat_lex}
 
 -- ---- one slot
 
@@ -36,14 +36,6 @@ home_cmp =
     then_cmp (on (λ l. l.ep) nat_cmp)
     (then_cmp (on (λ l. l.slot.frame) int_cmp) (then_cmp (on (λ l. l.slot.subframe) nat_cmp) (on (λ l. l.slot.slot) nat_cmp)))
 
-nat_lex : (x y : ℕ) (o : Ordering) (r : Bool) → is_lt o ≡ r → is_lt (ordering_then (nat_cmp x y) o) ≡ (nat_lt x y || ((x == y) && r))
-nat_lex x y o r h = go (nat_lt x y) (x == y)
-  where
-    go : (l e : Bool) → is_lt (ordering_then (cond l Less (cond e Equal Greater)) o) ≡ (l || (e && r))
-    go true e = refl
-    go false true = h
-    go false false = refl
-
 nat_last : (x y : ℕ) → is_lt (nat_cmp x y) ≡ nat_lt x y
 nat_last x y = go (nat_lt x y) (x == y)
   where
@@ -51,20 +43,6 @@ nat_last x y = go (nat_lt x y) (x == y)
     go true e = refl
     go false true = refl
     go false false = refl
-
-int_lex : (x y : ℤ) (o : Ordering) (r : Bool) → is_lt o ≡ r → is_lt (ordering_then (int_cmp x y) o) ≡ (int_lt x y || (int_eq x y && r))
-int_lex x y o r h = go (int_lt x y) (int_lt y x) (int_eq x y) refl refl refl
-  where
-    not_equal : (x y : ℤ) → int_lt y x ≡ true → int_eq x y ≡ false
-    not_equal x y e = grind (arith, ints)
-
-    is_equal : (x y : ℤ) → int_lt x y ≡ false → int_lt y x ≡ false → int_eq x y ≡ true
-    is_equal x y e f = grind (arith, ints)
-
-    go : (l g e : Bool) → int_lt x y ≡ l → int_lt y x ≡ g → int_eq x y ≡ e → is_lt (ordering_then (cond l Less (cond g Greater Equal)) o) ≡ (l || (e && r))
-    go true g e p q s = refl
-    go false true e p q s = let f : e ≡ false = sym s ∙ not_equal x y q in rw f refl
-    go false false e p q s = let f : e ≡ true = sym s ∙ is_equal x y p q in rw f h
 
 pub first_is : (a b : UplinkLine) → is_lt (home_cmp a b) ≡ home_before a b
 first_is a b =

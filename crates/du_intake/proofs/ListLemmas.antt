@@ -6,9 +6,9 @@ use Rattle.std.specs.Cmp.{IsStrictWeakOrder}
 use Rattle.std.proofs.lemmas.List.Kept.{AllPairs-cons, AllPairs-filter}
 use Rattle.std.proofs.lemmas.List.Sorted.{sorted_far}
 use Rattle.std.proofs.lemmas.Option.{get_or_from_slice_get, same_Some, slice_get-get_or, slice_get_within}
-use Rattle.fragment_laws.specs.Apart.{IsIn}
-use Rattle.plan_model.proofs.ListLemmas.{in_either, in_filter, of_filter, get_in, own_tie, kept_first, all_of}
-use Rattle.schedule_laws.proofs.ListLemmas.{at_in}
+use Rattle.fh_base.specs.Members.{IsIn}
+use Rattle.fh_base.proofs.MemberLemmas.{in_either, in_filter, of_filter, get_in, own_tie, kept_first, all_of}
+use Rattle.fh_base.proofs.MadeLists.{at_in}
 
 pub some_same : {X : Type 0} (o : Option X) (x y : X) → o ≡ Some x → o ≡ Some y → x ≡ y
 some_same o x y h k = same_Some x y (sym h ∙ k)

@@ -11,18 +11,15 @@ use Rattle.std.proofs.lemmas.Cmp.{int_cmp_total}
 use Rattle.std.proofs.lemmas.Int.{ints}
 use Rattle.std.proofs.lemmas.List.Sorted.{ranks_by}
 use Rattle.std.proofs.lemmas.Option.{get_or_from_slice_get, slice_get-get_or, slice_get_within}
-use Rattle.fh_time.specs.Air.{air_of}
-use Rattle.fh_time.specs.Numbering.{symbols_of}
-use Rattle.fh_time.specs.declared.values.Slot.{Slot}
-use Rattle.fragment_laws.specs.Apart.{IsIn}
+use Rattle.fh_base.specs.Air.{air_of}
+use Rattle.fh_base.specs.Numbering.{symbols_of}
+use Rattle.fh_base.specs.declared.values.Slot.{Slot}
 use Rattle.window_config.specs.declared.endpoints.EndpointConfig.{EndpointConfig}
 use Rattle.unit_model.specs.Claims.{is_from, same_slot}
-use Rattle.unit_model.specs.Lists.{each}
+use Rattle.fh_base.specs.Lists.{each}
 use Rattle.unit_model.specs.Order.{comes_before, slot_before}
 use Rattle.unit_model.specs.Proper.{IsAt, IsSlot}
 use Rattle.unit_laws.proofs.FarLemmas.{endpoints_equal}
-use Rattle.plan_model.proofs.ListLemmas.{in_either, in_filter, in_left, in_right, any_in}
-use Rattle.schedule_laws.proofs.ListLemmas.{at_in, in_each, of_each}
 use Rattle.du_intake.specs.Lines.{AreLinesInOrder, has_symbol, home_before, is_home, lines_at, same_home}
 use Rattle.du_intake.specs.Listing.{AreAscending, AreInTurn, AreSymbols, ComesFirst, IsListedIn, IsSlotEnd, IsStableByStart, IsSymbolOf, PrecedesSymbol, starts_before, symbol_first}
 use Rattle.du_intake.specs.Symbols.{AreLines, lines_in, planned_start, symbol_if, symbols_in}
@@ -31,6 +28,9 @@ use Rattle.du_intake.specs.declared.symbols.PlannedSymbol.{PlannedSymbol}
 use Rattle.du_intake.proofs.HomeLemmas.{apart, home_cases, home_from, home_is}
 use Rattle.du_intake.proofs.ListLemmas.{pairs_append, pairs_both, sorted_pairs, stable_pairs, stays_in, was_in, pairs_weaker, some_same}
 use Rattle.unit_model.proofs.ClaimLemmas.{slot_self as slot_own}
+use Rattle.fh_base.specs.Members.{IsIn}
+use Rattle.fh_base.proofs.MemberLemmas.{in_either, in_filter, in_left, in_right, any_in}
+use Rattle.fh_base.proofs.MadeLists.{at_in, in_each, of_each}
 
 -- ---- lists
 

@@ -18,7 +18,7 @@ use Rattle.unit_model.specs.declared.symbol_start.SymbolStart.{SymbolStart}
 use Rattle.unit_laws.proofs.DueLemmas.{due_begins}
 use Rattle.unit_memory.specs.declared.memory.UnitMemory.{UnitMemory}
 use Rattle.unit_memory.proofs.HoldLemmas.{holds_later}
-use Rattle.fh_time.specs.declared.values.Ticks.{Ticks}
+use Rattle.fh_base.specs.declared.values.Ticks.{Ticks}
 use Rattle.unit_laws.proofs.HistoryTicks.{last_is_earlier}
 use Rattle.unit_laws.proofs.HistoryLists.{front_empty}
 use Rattle.slot_rings.proofs.SeenLemmas.{if_some}
@@ -34,7 +34,7 @@ use Rattle.du_intake.proofs.DueLemmas.{none_before, none_due, start_bounds, wait
 use Rattle.du_intake.proofs.ListLemmas.{some_same}
 use Rattle.du_intake.proofs.NextLemmas.{symbol_below}
 use Rattle.du_intake.proofs.UnitLemmas.{stands}
-use Rattle.fh_time.proofs.Orders.{at_most}
+use Rattle.fh_base.proofs.Orders.{at_most}
 
 -- ---- the moment of the next cell
 

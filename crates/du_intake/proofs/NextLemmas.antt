@@ -15,9 +15,6 @@ use Rattle.unit_symbols.proofs.OrderLemmas.{not_before_earlier, not_before_itsel
 use Rattle.du_intake.specs.Cursors.{IsNamed, IsNextPlannedSymbol, uplink_cell_in, is_after}
 use Rattle.du_intake.specs.Lines.{claim_in_slot, lines_at}
 use Rattle.du_intake.specs.Rows.{IsRowOf, claim_of_planned, no_claim}
-use Rattle.fragment_laws.specs.Apart.{IsIn}
-use Rattle.plan_model.proofs.ListLemmas.{get_in}
-use Rattle.schedule_laws.proofs.ListLemmas.{at_in}
 use Rattle.du_intake.proofs.RowLemmas.{in_take}
 use Rattle.du_intake.proofs.ListLemmas.{some_same}
 use Rattle.du_intake.specs.Symbols.{AreLines, IsKeptSymbol, IsLine, IsListed, lines_in, start_by, planned_start_in, planned_start, start_with, symbol_at}
@@ -26,7 +23,10 @@ use Rattle.du_intake.specs.declared.claims.PlannedClaim.{PlannedClaim}
 use Rattle.du_intake.specs.declared.plan.UplinkPlan.{UplinkPlan}
 use Rattle.du_intake.specs.declared.symbols.PlannedSymbol.{PlannedSymbol}
 use Rattle.unit_symbols.specs.Searches.{IsNotBefore}
-use Rattle.fh_time.specs.declared.carrier.TheConstants.{CARRIER_PRBS}
+use Rattle.fh_base.specs.declared.carrier.TheConstants.{CARRIER_PRBS}
+use Rattle.fh_base.specs.Members.{IsIn}
+use Rattle.fh_base.proofs.MemberLemmas.{get_in}
+use Rattle.fh_base.proofs.MadeLists.{at_in}
 
 -- ---- a symbol at its place
 

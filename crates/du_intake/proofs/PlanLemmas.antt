@@ -2,17 +2,14 @@
 use Rattle.std.proofs.Common.{◌≡◌, ℕ, zero, suc, ℤ, pos, ◌+◌, ◌-◌, ◌^◌, ◌<◌, ◌≤◌, ◌≤ℤ◌, neg_ℤ, Bool, true, false, not, ◌&&◌, ◌||◌, ◌==◌, List, [], ◌∷◌, filter, map, take, drop, Some, inl, inr, refl, ap, sym, ◌∙◌, subst, arith}
 use Rattle.std.specs.List.{slice_get}
 use Rattle.std.proofs.lemmas.Bool.{and_from, and_parts, cases_Bool, eqb-true, or_right}
-use Rattle.std.proofs.lemmas.Bool.Decides.{nat_tests}
 use Rattle.std.proofs.lemmas.Int.{ints}
-use Rattle.fh_time.specs.Carrier.{count_of, first_of, is_outside}
-use Rattle.fragment_laws.specs.Apart.{IsIn}
 use Rattle.window_config.specs.Configs.{IsConfig}
 use Rattle.window_config.specs.declared.config.Config.{Config}
 use Rattle.window_config.specs.declared.plan.PlanKind.{PlanKind}
 use Rattle.window_config.specs.declared.plan.PlanKind.TheVariants.{Down, Up, Idle}
-use Rattle.fh_time.specs.Air.{air_of}
-use Rattle.fh_time.specs.Numbering.{symbols_of}
-use Rattle.fh_time.specs.declared.values.Slot.{Slot}
+use Rattle.fh_base.specs.Air.{air_of}
+use Rattle.fh_base.specs.Numbering.{symbols_of}
+use Rattle.fh_base.specs.declared.values.Slot.{Slot}
 use Rattle.window_config.specs.declared.endpoints.EndpointConfig.{EndpointConfig}
 use Rattle.unit_model.specs.Claims.{cell_at, cell_of, covers, first_prb, in_mask, is_from, prb_count}
 use Rattle.unit_model.specs.Order.{comes_before}
@@ -27,10 +24,8 @@ use Rattle.plan_model.specs.Validity.{share_bit, share_cell}
 use Rattle.plan_model.specs.declared.lines.PlannedLine.{PlannedLine}
 use Rattle.plan_model.proofs.RangeLemmas.{found}
 use Rattle.plan_model.proofs.ClashLemmas.{both_cover, covers_own}
-use Rattle.plan_model.proofs.ListLemmas.{among, in_filter, of_filter, get_in}
-use Rattle.schedule_laws.proofs.ClashLemmas.{IsClear, own_clash}
-use Rattle.schedule_laws.proofs.LineLemmas.{IsGoodLine, allowed, line_good, line_proper}
-use Rattle.schedule_laws.proofs.ListLemmas.{at_in, in_map, of_map}
+use Rattle.plan_model.proofs.ScheduleClashLemmas.{IsClear, own_clash}
+use Rattle.plan_model.proofs.LineLemmas.{IsGoodLine, allowed, line_good, line_proper}
 use Rattle.du_intake.specs.Cursors.{ArePlanned, IsNamed, IsPlanned}
 use Rattle.du_intake.specs.Lines.{claim_in_slot, has_symbol, is_home, line_of, lines_at}
 use Rattle.du_intake.specs.Listing.{AreInTurn, ComesFirst, IsSymbolOf}
@@ -45,14 +40,11 @@ use Rattle.du_intake.proofs.ListLemmas.{pairs_at, some_same}
 use Rattle.du_intake.proofs.ListingLemmas.{comes_first}
 use Rattle.du_intake.proofs.NextLemmas.{symbol_some}
 use Rattle.window_config.specs.declared.plan.TheConstants.{LAST_FRAME}
-use Rattle.fh_time.proofs.Orders.{nat_own}
-
-within_carrier : (prbs start num : ℕ) → is_outside prbs start num ≡ false → first_of start num + count_of prbs num ≤ prbs
-within_carrier prbs start num h = go (num == 0) refl
-  where
-    go : (b : Bool) → (num == 0) ≡ b → first_of start num + count_of prbs num ≤ prbs
-    go true e = rw e (omega arith)
-    go false e = rw e (grind (arith, nat_tests))
+use Rattle.fh_base.proofs.Orders.{nat_own}
+use Rattle.fh_base.specs.Members.{IsIn}
+use Rattle.fh_base.proofs.MemberLemmas.{among, in_filter, of_filter, get_in}
+use Rattle.fh_base.proofs.MadeLists.{at_in, in_map, of_map}
+use Rattle.fh_base.proofs.CommonLemmas.{within_carrier}
 
 not_idle : (k : PlanKind) → not (is_down_kind k) ≡ true → (is_down_kind k ≡ false) × (is_idle_kind k ≡ false)
 not_idle Down h = cc

@@ -7,8 +7,7 @@ use Rattle.std.proofs.lemmas.Bool.Decides.{nat_tests}
 use Rattle.std.proofs.lemmas.List.{take_more}
 use Rattle.std.proofs.lemmas.Nat.{and_mask, or_lt}
 use Rattle.std.proofs.lemmas.Option.{slice_get-get_or}
-use Rattle.fh_time.proofs.Orders.{not_none}
-use Rattle.fragment_laws.specs.Apart.{IsIn}
+use Rattle.fh_base.proofs.Orders.{not_none}
 use Rattle.unit_model.specs.Claims.{in_mask, is_from}
 use Rattle.air_source.specs.declared.events.AirCell.{AirCell}
 use Rattle.air_source.specs.declared.events.Side.TheVariants.{Du}
@@ -18,7 +17,6 @@ use Rattle.unit_model.specs.declared.cells.Block.{Block}
 use Rattle.unit_model.specs.declared.symbol_start.SymbolStart.{SymbolStart}
 use Rattle.du_intake.specs.Cursors.{uplink_cell_in}
 use Rattle.unit_model.specs.declared.cells.Claim.{Claim}
-use Rattle.plan_model.proofs.ListLemmas.{get_in}
 use Rattle.slot_rings.specs.Places.{claim_in}
 use Rattle.slot_rings.specs.declared.claims.CellClaims.{CellClaims}
 use Rattle.slot_rings.proofs.MaskLemmas.{in_either, in_none, section_own, used_is}
@@ -29,6 +27,8 @@ use Rattle.du_intake.specs.declared.lines.UplinkLine.{UplinkLine}
 use Rattle.du_intake.specs.declared.claims.PlannedClaim.{PlannedClaim}
 use Rattle.du_intake.proofs.ClaimLemmas.{claim_last, claim_none, claim_or, claimed_by, own_claim}
 use Rattle.unit_laws.proofs.ReportLemmas.{used_same}
+use Rattle.fh_base.specs.Members.{IsIn}
+use Rattle.fh_base.proofs.MemberLemmas.{get_in}
 
 -- ---- claims of the same elements
 

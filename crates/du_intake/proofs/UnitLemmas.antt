@@ -36,10 +36,10 @@ use Rattle.du_intake.proofs.DueLemmas.{own_not_behind}
 use Rattle.du_intake.proofs.NextLemmas.{first_symbol}
 use Rattle.du_intake.proofs.UsedLemmas.{named_left, used_named}
 use Rattle.unit_symbols.specs.Searches.{IsNotBefore}
-use Rattle.fh_time.proofs.Orders.{at_most}
+use Rattle.fh_base.proofs.Orders.{at_most}
 use Rattle.unit_laws.proofs.BeginLemmas.{nothing_past}
 use Rattle.unit_model.proofs.SlotLemmas.{first_time}
-use Rattle.fh_time.specs.declared.carrier.TheConstants.{CARRIER_PRBS}
+use Rattle.fh_base.specs.declared.carrier.TheConstants.{CARRIER_PRBS}
 use Rattle.unit_laws.proofs.UnitLemmas.{whole_data}
 
 -- ---- what it answers

@@ -5,7 +5,7 @@ use Rattle.std.specs.List.{slice_get}
 use Rattle.std.proofs.lemmas.Bool.{cases_Bool, and_from, eq-eqb}
 use Rattle.unit_model.specs.Claims.{same_slot, cell_at, claim_at, claim_of, covers, first_prb, in_mask, is_from, names, prb_count}
 use Rattle.std.proofs.lemmas.Bool.Decides.{nat_tests}
-use Rattle.fh_time.specs.declared.values.Slot.{Slot}
+use Rattle.fh_base.specs.declared.values.Slot.{Slot}
 use Rattle.window_config.specs.declared.config.Config.{Config}
 use Rattle.window_config.specs.declared.endpoints.EndpointConfig.{EndpointConfig}
 use Rattle.unit_model.specs.Proper.{IsAt}
@@ -17,7 +17,7 @@ use Rattle.unit_model.specs.declared.cells.Claim.{Claim}
 use Rattle.unit_model.specs.declared.symbol_start.SymbolStart.{SymbolStart}
 use Rattle.unit_laws.proofs.FarLemmas.{endpoints_equal}
 use Rattle.unit_laws.proofs.UnitLemmas.{not_both}
-use Rattle.schedule_laws.proofs.TimeLemmas.{first_less}
+use Rattle.plan_model.proofs.TimeLemmas.{first_less}
 use Rattle.du_intake.specs.Cursors.{ArePlanned, HasStillLeft, IsNamed, uplink_cell_in}
 use Rattle.unit_model.proofs.ClaimLemmas.{none_used as unused, slot_self as slot_own, covers_is}
 

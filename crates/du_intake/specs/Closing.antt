@@ -16,7 +16,7 @@ use Rattle.du_intake.specs.Symbols.{IsListed, lines_in}
 use Rattle.du_intake.specs.Units.{IntakeKeeps, intake_due_of}
 use Rattle.du_intake.specs.declared.symbols.PlannedSymbol.{PlannedSymbol}
 use Rattle.du_intake.specs.declared.unit.Intake.{Intake}
-use Rattle.fh_time.specs.declared.carrier.TheConstants.{CARRIER_PRBS}
+use Rattle.fh_base.specs.declared.carrier.TheConstants.{CARRIER_PRBS}
 
 -- it stands for some history
 pub record IntakeStandsForSome (u : Intake) : Type 0 where

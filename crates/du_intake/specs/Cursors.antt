@@ -1,6 +1,6 @@
 -- The symbols of which uplink cells are planned, in the order in which symbols are told (this project's profile).
 use Rattle.std.specs.Prelude.{pos, ◌≤ℤ◌, ◌≡◌, ℕ, ◌+◌, ◌^◌, ◌≤◌, ◌<◌, Bool, true, false, not, ◌&&◌, ◌||◌, nat_lt, List, slice_get, Option, Some, None, IfSome}
-use Rattle.fh_time.specs.Numbering.{symbols_of}
+use Rattle.fh_base.specs.Numbering.{symbols_of}
 use Rattle.window_config.specs.declared.config.Config.{Config}
 use Rattle.unit_model.specs.Claims.{cell_at, claim_at, first_prb, in_mask, is_from, prb_count}
 use Rattle.unit_model.specs.Radiated.{used_mask}
@@ -12,7 +12,7 @@ use Rattle.unit_model.specs.declared.allocations.Allocation.{Allocation}
 use Rattle.unit_model.specs.declared.symbol_start.SymbolStart.{SymbolStart}
 use Rattle.window_config.specs.declared.plan.TheConstants.{LAST_FRAME}
 use Rattle.unit_symbols.specs.Searches.{IsNotBefore}
-use Rattle.fh_time.specs.declared.carrier.TheConstants.{CARRIER_PRBS}
+use Rattle.fh_base.specs.declared.carrier.TheConstants.{CARRIER_PRBS}
 
 -- the times of an allocation's symbols can be told
 pub record IsTimedAllocation (a : Allocation) : Type 0 where

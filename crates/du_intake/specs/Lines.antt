@@ -1,6 +1,6 @@
 -- The uplink lines that the unit keeps, and what they claim (the fields are those of O-RAN.WG4.CUS, C-plane sections).
 use Rattle.std.specs.Prelude.{◌≡◌, ℕ, Bool, false, ◌&&◌, ◌||◌, ◌==◌, nat_lt, if◌then◌else◌, ◌<◌, List, [], ◌∷◌, filter, slice_get, Option, Some, None}
-use Rattle.fh_time.specs.declared.values.Slot.{Slot}
+use Rattle.fh_base.specs.declared.values.Slot.{Slot}
 use Rattle.unit_model.specs.Claims.{first_prb, in_mask, is_from, prb_count, same_slot}
 use Rattle.unit_model.specs.Order.{slot_before}
 use Rattle.unit_model.specs.declared.allocations.Allocation.{Allocation}

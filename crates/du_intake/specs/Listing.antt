@@ -3,8 +3,7 @@ use Rattle.std.specs.Prelude.{◌≡◌, ℕ, ◌<◌, ◌≤◌, Bool, true, fa
 use Rattle.std.specs.List.{AllPairs, list_any}
 use Rattle.std.specs.List.Sorted.{IsStableBy, ties}
 use Rattle.std.specs.Ordering.{int_cmp, is_lt}
-use Rattle.fh_time.specs.Air.{air_of}
-use Rattle.fragment_laws.specs.Apart.{IsIn}
+use Rattle.fh_base.specs.Air.{air_of}
 use Rattle.window_config.specs.declared.endpoints.EndpointConfig.{EndpointConfig}
 use Rattle.unit_model.specs.Order.{symbol_before}
 use Rattle.unit_model.specs.Proper.{IsAt}
@@ -12,6 +11,7 @@ use Rattle.du_intake.specs.Lines.{has_symbol, lines_at, same_home}
 use Rattle.du_intake.specs.Symbols.{lines_in}
 use Rattle.du_intake.specs.declared.lines.UplinkLine.{UplinkLine}
 use Rattle.du_intake.specs.declared.symbols.PlannedSymbol.{PlannedSymbol}
+use Rattle.fh_base.specs.Members.{IsIn}
 
 -- the lines of the slot of the one at `first` end there
 pub record IsSlotEnd (ls : List UplinkLine) (first end : ℕ) : Type 0 where

@@ -2,13 +2,13 @@
 -- project's profile).
 use Rattle.std.specs.Prelude.{◌≡◌, ℕ, ◌+◌, ◌-◌, ◌<◌, ◌≤◌, ◌^◌, true, false, if◌then◌else◌, List, [], ◌∷◌, length, take, drop, slice_get, Option, Some, None}
 use Rattle.std.specs.List.{list_any}
-use Rattle.fh_time.specs.Air.{air_of}
-use Rattle.fh_time.specs.Numbering.{symbols_of}
-use Rattle.fh_time.specs.declared.values.Slot.{Slot}
+use Rattle.fh_base.specs.Air.{air_of}
+use Rattle.fh_base.specs.Numbering.{symbols_of}
+use Rattle.fh_base.specs.declared.values.Slot.{Slot}
 use Rattle.window_config.specs.declared.config.Config.{Config}
 use Rattle.window_config.specs.declared.endpoints.EndpointConfig.{EndpointConfig}
 use Rattle.unit_model.specs.Claims.{claim_at, is_from}
-use Rattle.unit_model.specs.Lists.{each}
+use Rattle.fh_base.specs.Lists.{each}
 use Rattle.unit_model.specs.Order.{comes_before}
 use Rattle.unit_model.specs.Proper.{IsAt, IsSlot}
 use Rattle.unit_model.specs.declared.allocations.Allocation.{Allocation}
@@ -19,7 +19,7 @@ use Rattle.du_intake.specs.Lines.{claim_by, has_symbol, lines_at}
 use Rattle.du_intake.specs.declared.lines.UplinkLine.{UplinkLine}
 use Rattle.du_intake.specs.declared.plan.UplinkPlan.{UplinkPlan}
 use Rattle.du_intake.specs.declared.symbols.PlannedSymbol.{PlannedSymbol}
-use Rattle.fh_time.specs.declared.carrier.TheConstants.{CARRIER_PRBS}
+use Rattle.fh_base.specs.declared.carrier.TheConstants.{CARRIER_PRBS}
 
 -- ---- a symbol
 

@@ -2,7 +2,7 @@
 -- project's profile).
 use Rattle.std.specs.Prelude.{◌≡◌, ℕ, ℤ, ◌<◌, ◌≤◌, ◌≤ℤ◌, false, true, All, List, [], IfSome}
 use Rattle.std.specs.List.{list_any}
-use Rattle.fh_time.specs.declared.values.Slot.{Slot}
+use Rattle.fh_base.specs.declared.values.Slot.{Slot}
 use Rattle.air_source.specs.declared.events.AirCell.{AirCell}
 use Rattle.air_source.specs.declared.events.Side.TheVariants.{Du}
 use Rattle.window_config.specs.declared.config.Config.{Config}
@@ -26,7 +26,7 @@ use Rattle.du_intake.specs.Symbols.{IsListed, symbol_at}
 use Rattle.du_intake.specs.declared.lines.UplinkLine.{UplinkLine}
 use Rattle.du_intake.specs.declared.plan.Place.{Place}
 use Rattle.du_intake.specs.declared.plan.UplinkPlan.{UplinkPlan}
-use Rattle.fh_time.specs.declared.carrier.TheConstants.{CARRIER_PRBS}
+use Rattle.fh_base.specs.declared.carrier.TheConstants.{CARRIER_PRBS}
 
 -- what is due up to a time, over all that came
 abbrev pub intake_due_of : Config → List Allocation → History → ℤ → List AirCell

@@ -20,7 +20,7 @@ use crate::plan::Place;
 use crate::unit::{Intake, moment_of};
 use air_source::{Air, AirCell, AirFault, Side};
 use fault_counters::Counters;
-use fh_time::Ticks;
+use fh_base::Ticks;
 use unit_cells::UnitCells;
 use unit_model::{SymbolStart, block_counter, samples_under};
 

@@ -1,13 +1,12 @@
 // The uplink lines of a plan, as the unit keeps them.
 ghost use Rattle.std.specs.Prelude.{◌≡◌, ℕ, IfOk, OnOk, map};
-ghost use Rattle.fh_time.specs.declared.values.Slot.{Slot as SpecSlot};
+ghost use Rattle.fh_base.specs.declared.values.Slot.{Slot as SpecSlot};
 ghost use Rattle.plan_model.specs.Lines.{line_allocation};
 ghost use Rattle.du_intake.specs.Lines.{AreLinesInOrder, line_of, lines_at, same_home};
 ghost use Rattle.plan_model.specs.Lines.{uplink_allocations};
 ghost use Rattle.plan_model.specs.Lines.{is_up_line};
 
-use fh_base::NoMemory;
-use fh_time::Slot;
+use fh_base::{NoMemory, Slot};
 use plan_model::PlannedLine;
 use std::alloc::Global;
 use unit_model::same_slot;

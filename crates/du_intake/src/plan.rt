@@ -2,7 +2,7 @@
 ghost use Rattle.std.specs.Prelude.{◌≡◌, ◌-◌, ◌≤◌, IfOk, Some, drop, length, slice_get, take};
 ghost use Rattle.window_config.specs.Configs.{IsConfig};
 ghost use Rattle.du_intake.specs.Planned.{IsPlanOf};
-ghost use Rattle.fh_time.specs.declared.carrier.TheConstants.{CARRIER_PRBS};
+ghost use Rattle.fh_base.specs.declared.carrier.TheConstants.{CARRIER_PRBS};
 
 use crate::claims::{PlannedClaim, claim_symbol};
 use crate::lines::{UplinkLine, sort_by_home, uplink_lines};

@@ -1,7 +1,7 @@
 // The symbols of which uplink cells are planned.
 ghost use Rattle.std.specs.Prelude.{◌≡◌, ◌+◌, ◌^◌, ◌<◌, ◌≤◌, ◌++◌, IfOk, OnOk, length};
 ghost use Rattle.std.specs.List.{list_any};
-ghost use Rattle.fh_time.specs.Numbering.{symbols_of};
+ghost use Rattle.fh_base.specs.Numbering.{symbols_of};
 ghost use Rattle.unit_model.specs.Proper.{IsSlot};
 ghost use Rattle.du_intake.specs.Lines.{AreLinesInOrder, has_symbol};
 ghost use Rattle.du_intake.specs.Symbols.{AreLines, symbol_if, symbols_in};
@@ -9,8 +9,7 @@ ghost use Rattle.du_intake.specs.Listing.{AreAscending, AreInTurn, AreSymbols, I
 
 use crate::claims::has_symbol;
 use crate::lines::{UplinkLine, same_home};
-use fh_base::NoMemory;
-use fh_time::{Slot, Ticks, air, shape};
+use fh_base::{NoMemory, Slot, Ticks, air, shape};
 use std::alloc::Global;
 use window_config::EndpointConfig;
 

@@ -12,14 +12,13 @@ ghost use Rattle.unit_model.specs.Reports.{arrivals_counted};
 ghost use Rattle.unit_model.specs.Standing.{History, arrived, at_clock, nothing_yet};
 ghost use Rattle.unit_model.specs.declared.allocations.Allocation.{Allocation as SpecAllocation};
 ghost use Rattle.du_intake.specs.Planned.{IsPlanOf};
-ghost use Rattle.fh_time.specs.declared.carrier.TheConstants.{CARRIER_PRBS};
+ghost use Rattle.fh_base.specs.declared.carrier.TheConstants.{CARRIER_PRBS};
 
 use crate::claims::{NO_CLAIM, PlannedClaim};
 use crate::plan::{Place, UplinkPlan};
 use air_source::Side;
 use fault_counters::Counters;
-use fh_base::NoMemory;
-use fh_time::{CARRIER_PRBS, FIRST_CLOCK, Ticks, of_ns};
+use fh_base::{CARRIER_PRBS, FIRST_CLOCK, NoMemory, Ticks, of_ns};
 use plan_model::PlannedLine;
 use std::alloc::Global;
 use unit_memory::{Arrived, TakesFrames, UnitMemory};

@@ -4,15 +4,15 @@ use Rattle.std.specs.Ordering.{int_eq}
 use Rattle.std.proofs.lemmas.Bool.Decides.{Decides-int_eq}
 use Rattle.std.proofs.lemmas.Int.{ints}
 use Rattle.std.proofs.lemmas.List.{map-append}
-use Rattle.fragment_laws.specs.Apart.{IsIn}
-use Rattle.unit_model.specs.Lists.{each_tick}
+use Rattle.fh_base.specs.Lists.{each_tick}
 use Rattle.plan_model.specs.Sent.{SentFrame}
 use Rattle.plan_model.proofs.TickLemmas.{int_cases, int_below, same_not, next_tick, ticks_same}
-use Rattle.frame_order.specs.Turns.{is_turn, times}
-use Rattle.frame_order.specs.declared.turns.Turn.{Turn}
-use Rattle.frame_order.specs.Runs.{turn_of}
-use Rattle.schedule_laws.specs.SentOrder.{at_time}
-use Rattle.frame_order.proofs.Left.{times-append}
+use Rattle.du_scheduler.specs.Turns.{is_turn, times}
+use Rattle.du_scheduler.specs.declared.turns.Turn.{Turn}
+use Rattle.du_scheduler.specs.Runs.{turn_of}
+use Rattle.plan_model.specs.SentOrder.{at_time}
+use Rattle.du_scheduler.proofs.Left.{times-append}
+use Rattle.fh_base.specs.Members.{IsIn}
 
 ticks_none : (from : ℤ) (count : ℕ) → each_tick from count (at_time []) ≡ []
 unfolding each_tick

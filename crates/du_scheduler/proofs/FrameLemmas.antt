@@ -4,13 +4,12 @@ use Rattle.std.specs.Prelude.{All}
 use Rattle.std.specs.List.{slice_get, slice_index_or}
 use Rattle.std.specs.Option.{option_map_or}
 use Rattle.std.proofs.lemmas.Option.{slice_get-get_or}
-use Rattle.fh_time.proofs.Order.{symbols_few}
-use Rattle.fh_time.specs.Numbering.{symbols_of}
-use Rattle.fh_time.specs.declared.values.Slot.{Slot}
+use Rattle.fh_base.proofs.Order.{symbols_few}
+use Rattle.fh_base.specs.Numbering.{symbols_of}
+use Rattle.fh_base.specs.declared.values.Slot.{Slot}
 use Rattle.air_source.specs.Answers.{block_of}
 use Rattle.air_source.specs.declared.places.RePlace.{RePlace}
 use Rattle.bfp_codec.specs.declared.samples.Wide.{Wide}
-use Rattle.fragment_laws.specs.Apart.{IsIn}
 use Rattle.window_config.specs.Configs.{IsConfig}
 use Rattle.window_config.specs.Plans.{IsPlanLine}
 use Rattle.window_config.specs.declared.config.Config.{Config}
@@ -26,16 +25,15 @@ use Rattle.plan_model.specs.declared.lines.PlannedLine.{PlannedLine}
 use Rattle.plan_model.specs.declared.streams.Stream.{Stream}
 use Rattle.plan_model.specs.declared.streams.Stream.TheVariants.{DownCommands, UpCommands, DownData, UpData}
 use Rattle.frame_bytes.specs.Messages.{MessageFits, message_size}
-use Rattle.schedule_laws.proofs.ListLemmas.{at_in}
-use Rattle.schedule_laws.proofs.PackLemmas.{message_from, all_few}
-use Rattle.schedule_laws.proofs.SentLemmas.{IsSentStream, message_part, part_is, sent_is}
+use Rattle.plan_model.proofs.SchedulePackLemmas.{message_from, all_few}
+use Rattle.plan_model.proofs.SentLemmas.{IsSentStream, message_part, part_is, sent_is}
 use Rattle.frame_bytes.specs.Cuts.{piece_frame}
 use Rattle.sent_frames.specs.Frames.{bytes_in, command_bytes, fragment_bytes, sent_bytes}
 use Rattle.sent_frames.specs.Commands.{command_head, command_section}
 use Rattle.frame_bytes.specs.Commands.{command_frame}
 use Rattle.window_config.specs.Endpoints.{IsEndpoint}
-use Rattle.frame_order.specs.declared.turns.Turn.{Turn}
-use Rattle.frame_order.specs.Turns.{is_command}
+use Rattle.du_scheduler.specs.declared.turns.Turn.{Turn}
+use Rattle.du_scheduler.specs.Turns.{is_command}
 use Rattle.du_scheduler.specs.Frames.{IsFrameOf}
 use Rattle.du_scheduler.proofs.PartLemmas.{first_within, is_read, no_place}
 use Rattle.sent_frames.specs.Messages.{Source, data_head, data_section, message_bytes, message_samples}
@@ -46,9 +44,11 @@ use Rattle.du_scheduler.specs.declared.kept.PlacedLine.{PlacedLine}
 use Rattle.du_scheduler.specs.Written.{IsData, StandIn, StandsAt, message_sections}
 use Rattle.schedule_laws.proofs.PlannedLemmas.{line_place}
 use Rattle.window_config.specs.declared.config.TheConstants.{MESSAGE_SECTIONS}
-use Rattle.fh_time.specs.declared.symbols.TheConstants.{SLOT_SYMBOLS}
+use Rattle.fh_base.specs.declared.symbols.TheConstants.{SLOT_SYMBOLS}
 use Rattle.frame_bytes.specs.Headers.{carrier_of}
 use Rattle.unit_model.specs.Terms.{piece_count}
+use Rattle.fh_base.specs.Members.{IsIn}
+use Rattle.fh_base.proofs.MadeLists.{at_in}
 
 stand_in : (ps : List PlannedLine) (xs : List Part) → ((x : Part) → IsIn x xs → slice_get ps x.planned.index ≡ Some x.planned) → StandIn ps xs
 stand_in ps [] h = tt
@@ -163,7 +163,7 @@ low_bytes UpCommands c source f e h = sym (ap (λ (s : Stream). bytes_in s c sou
 low_bytes DownData c source f e h = cc
 low_bytes UpData c source f e h = cc
 
-data_stream : (s : Stream) → IsSentStream s → is_command s ≡ false → s ≡ DownData
+pub data_stream : (s : Stream) → IsSentStream s → is_command s ≡ false → s ≡ DownData
 data_stream DownCommands t h = cc
 data_stream UpCommands t h = cc
 data_stream DownData t h = refl

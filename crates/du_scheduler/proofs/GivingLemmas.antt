@@ -1,24 +1,24 @@
 -- What a plan that gave a frame has still to send.
 use Rattle.std.proofs.Common.{◌≡◌, ℕ, ◌≤◌, arith, take, drop, append-nil, List, [], ◌∷◌, ◌++◌, length, map, inl, Some, None, refl, ap, sym, ◌∙◌, subst, append_assoc}
 use Rattle.std.proofs.lemmas.List.{drop_all, take_all}
-use Rattle.fragment_laws.specs.Apart.{IsIn}
 use Rattle.window_config.specs.declared.config.Config.{Config}
 use Rattle.window_config.specs.declared.plan.PlanLine.{PlanLine}
 use Rattle.plan_model.specs.Lines.{planned}
 use Rattle.plan_model.specs.Packs.{parts_of}
 use Rattle.plan_model.specs.Sent.{SentFrame, sent}
 use Rattle.plan_model.specs.declared.lines.PlannedLine.{PlannedLine}
-use Rattle.plan_model.proofs.ListLemmas.{in_right}
-use Rattle.frame_order.specs.Queues.{Gives, IsQueue, StandsFor}
-use Rattle.frame_order.specs.declared.queue.Queue.{Queue}
-use Rattle.frame_order.specs.declared.turns.Turn.{Turn}
-use Rattle.frame_order.specs.Runs.{turn_of}
+use Rattle.du_scheduler.specs.Queues.{Gives, IsQueue, StandsFor}
+use Rattle.du_scheduler.specs.declared.queue.Queue.{Queue}
+use Rattle.du_scheduler.specs.declared.turns.Turn.{Turn}
+use Rattle.du_scheduler.specs.Runs.{turn_of}
 use Rattle.du_scheduler.specs.Kept.{placed_line}
 use Rattle.du_scheduler.specs.Tables.{IsTable, IsTurnOf}
 use Rattle.du_scheduler.specs.declared.kept.PlacedLine.{PlacedLine}
 use Rattle.du_scheduler.specs.Frames.{IsFrameOf}
 use Rattle.du_scheduler.specs.Plans.{HasToSend}
 use Rattle.du_scheduler.specs.declared.plans.Plan.{Plan}
+use Rattle.fh_base.specs.Members.{IsIn}
+use Rattle.fh_base.proofs.MemberLemmas.{in_right}
 
 -- the frame of the turn that the queue gave, and the others
 pub record IsNext (left : List SentFrame) (turn : Turn) (q : Queue) : Type 0 where

@@ -3,17 +3,17 @@ use Rattle.std.proofs.Common.{◌≡◌, ℕ, ◌+◌, ◌-◌, ◌<◌, ◌≤�
 use Rattle.std.proofs.lemmas.List.{length-map, take-map, drop-map}
 use Rattle.window_config.specs.declared.config.Config.{Config}
 use Rattle.window_config.specs.declared.endpoints.EndpointConfig.{EndpointConfig}
-use Rattle.fragment_laws.specs.Apart.{IsIn}
 use Rattle.plan_model.specs.Packs.{Message, Numbered, parts_of, packs}
 use Rattle.plan_model.specs.Streams.{Part, frames_in, messages_of, most_parts, part_fields, parts_in}
 use Rattle.plan_model.specs.declared.lines.PlannedLine.{PlannedLine}
 use Rattle.plan_model.specs.declared.streams.Stream.{Stream}
-use Rattle.plan_parts.specs.Parts.{timed}
+use Rattle.du_scheduler.specs.Parts.{timed}
 use Rattle.schedule_laws.specs.MessageParts.{stream_begins}
 use Rattle.du_scheduler.specs.Kept.{placed_line_of, placed_line, IsStreamParts, message_in, HasMessage}
 use Rattle.du_scheduler.specs.declared.kept.PlacedLine.{PlacedLine}
 use Rattle.du_scheduler.specs.declared.kept.StreamParts.{StreamParts}
 use Rattle.schedule_laws.proofs.MessagePartLemmas.{all_parts, parts_of_packs, IsSlice, slice_is, IsNumbered, number_of}
+use Rattle.fh_base.specs.Members.{IsIn}
 
 -- ---- what is kept of parts
 

@@ -6,16 +6,16 @@ use Rattle.unit_model.specs.Radiated.{first_clock}
 use Rattle.unit_model.specs.Times.{end_of_time}
 use Rattle.plan_model.specs.Lines.{planned}
 use Rattle.plan_model.specs.Sent.{frames_from, sent}
-use Rattle.frame_order.specs.Turns.{times}
-use Rattle.frame_order.specs.declared.turns.Turn.{Turn}
-use Rattle.frame_order.specs.Runs.{SentIsInOrder}
+use Rattle.du_scheduler.specs.Turns.{times}
+use Rattle.du_scheduler.specs.declared.turns.Turn.{Turn}
+use Rattle.du_scheduler.specs.Runs.{SentIsInOrder}
 use Rattle.schedule_laws.proofs.SentTimeLemmas.{all_in_time}
 use Rattle.du_scheduler.proofs.CountLemmas.{ticks_count}
 use Rattle.schedule_laws.proofs.SentOrderLemmas.{frames_kept}
-use Rattle.frame_order.proofs.KeptLemmas.{rising_of, ticks_kept}
-use Rattle.schedule_laws.specs.SentOrder.{at_time}
-use Rattle.frame_order.proofs.RunLemmas.{runs_are}
-use Rattle.unit_model.specs.Lists.{each_tick}
+use Rattle.du_scheduler.proofs.KeptLemmas.{rising_of, ticks_kept}
+use Rattle.plan_model.specs.SentOrder.{at_time}
+use Rattle.du_scheduler.proofs.RunLemmas.{runs_are}
+use Rattle.fh_base.specs.Lists.{each_tick}
 
 pub sent_is_in_order : SentIsInOrder
 unfolding sent

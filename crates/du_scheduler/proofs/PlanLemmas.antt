@@ -3,14 +3,14 @@ use Rattle.std.proofs.Common.{◌≡◌, refl, subst, sym, ◌∙◌, [], ◌∷
 use Rattle.std.specs.Prelude.{Option, Some, None, IfOk}
 use Rattle.air_source.specs.declared.places.RePlace.{RePlace}
 use Rattle.bfp_codec.specs.declared.samples.Wide.{Wide}
-use Rattle.fh_time.specs.declared.values.Ticks.{Ticks}
+use Rattle.fh_base.specs.declared.values.Ticks.{Ticks}
 use Rattle.window_config.specs.declared.config.Config.{Config}
 use Rattle.window_config.specs.declared.plan.PlanLine.{PlanLine}
 use Rattle.plan_model.specs.Lines.{planned}
 use Rattle.plan_model.specs.Sent.{SentFrame, sent}
-use Rattle.plan_check.specs.declared.testing.PlanRefusal.{PlanRefusal}
-use Rattle.frame_order.specs.Queues.{first_time}
-use Rattle.frame_order.specs.Runs.{turn_of}
+use Rattle.du_scheduler.specs.declared.testing.PlanRefusal.{PlanRefusal}
+use Rattle.du_scheduler.specs.Queues.{first_time}
+use Rattle.du_scheduler.specs.Runs.{turn_of}
 use Rattle.du_scheduler.specs.Plans.{Checks, GivesSent, HasToSend, IsPlan, IsSent, LeavesPlan}
 use Rattle.du_scheduler.specs.declared.plans.Plan.{Plan}
 use Rattle.du_scheduler.specs.declared.plans.Sent.{Sent}

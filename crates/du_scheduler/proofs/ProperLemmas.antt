@@ -4,7 +4,6 @@ use Rattle.std.specs.Prelude.{All}
 use Rattle.std.proofs.lemmas.Int.{ints}
 use Rattle.std.proofs.Math.Nat.{div-lt_iff_lt-mul}
 use Rattle.std.proofs.lemmas.List.Elements.{All-nil, All-cons, All-append}
-use Rattle.fragment_laws.specs.Apart.{IsIn}
 use Rattle.window_config.specs.Configs.{IsConfig}
 use Rattle.window_config.specs.Plans.{IsPlanLine}
 use Rattle.window_config.specs.Windows.{ticks_of_ns}
@@ -12,7 +11,6 @@ use Rattle.window_config.specs.declared.config.Config.{Config}
 use Rattle.window_config.specs.declared.endpoints.EndpointConfig.{EndpointConfig}
 use Rattle.window_config.specs.declared.plan.PlanLine.{PlanLine}
 use Rattle.unit_model.specs.Proper.{IsAt}
-use Rattle.unit_model.proofs.SweepLaws.{gap_is}
 use Rattle.plan_model.specs.Departures.{departures_of, sending_window, start_of_part, width_of}
 use Rattle.plan_model.specs.Lines.{planned}
 use Rattle.plan_model.specs.Packs.{Numbered, packs, size_of}
@@ -21,18 +19,20 @@ use Rattle.plan_model.specs.Valid.{IsValid}
 use Rattle.plan_model.specs.declared.lines.PlannedLine.{PlannedLine}
 use Rattle.plan_model.specs.declared.streams.Stream.{Stream}
 use Rattle.plan_model.specs.declared.streams.Stream.TheVariants.{DownCommands, UpCommands, DownData, UpData}
-use Rattle.frame_order.specs.Turns.{IsRun}
-use Rattle.frame_order.specs.declared.turns.Run.{Run}
+use Rattle.du_scheduler.specs.Turns.{IsRun}
+use Rattle.du_scheduler.specs.declared.turns.Run.{Run}
 use Rattle.schedule_laws.proofs.FlowLemmas.{section_short, some_frames}
-use Rattle.schedule_laws.proofs.LineLemmas.{good}
+use Rattle.plan_model.proofs.LineLemmas.{good}
 use Rattle.schedule_laws.proofs.OrderLemmas.{all_short}
-use Rattle.schedule_laws.proofs.PackLemmas.{message_from}
-use Rattle.schedule_laws.proofs.SentLemmas.{IsSentStream, message_part, part_is}
-use Rattle.frame_order.specs.Runs.{MessagesAreRuns, endpoint_runs, latest, run_of, runs_from, stream_runs}
+use Rattle.plan_model.proofs.SchedulePackLemmas.{message_from}
+use Rattle.plan_model.proofs.SentLemmas.{IsSentStream, message_part, part_is}
+use Rattle.du_scheduler.specs.Runs.{MessagesAreRuns, endpoint_runs, latest, run_of, runs_from, stream_runs}
 use Rattle.schedule_laws.proofs.SentTimeLemmas.{most_before, part_time}
 use Rattle.window_config.proofs.TickLemmas.{in_ticks}
 use Rattle.unit_model.specs.Terms.{piece_count, MESSAGE_BYTES}
 use Rattle.window_config.specs.declared.config.TheConstants.{LEAST_FRAGMENT}
+use Rattle.fh_base.specs.Members.{IsIn}
+use Rattle.fh_base.proofs.EachLemmas.{gap_is}
 
 few_frames : (fragment size : ℕ) → LEAST_FRAGMENT ≤ fragment → size ≤ MESSAGE_BYTES → piece_count fragment size ≤ 128
 few_frames fragment size h k =

@@ -8,19 +8,18 @@ use Rattle.window_config.specs.Configs.{IsConfig}
 use Rattle.window_config.specs.declared.config.Config.{Config}
 use Rattle.window_config.specs.declared.endpoints.EndpointConfig.{EndpointConfig}
 use Rattle.unit_model.specs.Proper.{IsAt}
-use Rattle.fragment_laws.specs.Apart.{IsIn}
 use Rattle.plan_model.specs.Packs.{Message, parts_of}
 use Rattle.plan_model.specs.Sent.{SentFrame, sent}
 use Rattle.plan_model.specs.Streams.{Part}
 use Rattle.plan_model.specs.declared.lines.PlannedLine.{PlannedLine}
 use Rattle.plan_model.specs.declared.streams.Stream.{Stream}
 use Rattle.plan_model.specs.declared.streams.Stream.TheVariants.{DownCommands, UpCommands, DownData, UpData}
-use Rattle.frame_order.specs.Turns.{IsRun}
-use Rattle.schedule_laws.specs.SentOrder.{stream_place}
-use Rattle.frame_order.specs.declared.turns.Run.{Run}
-use Rattle.frame_order.specs.declared.turns.Turn.{Turn}
-use Rattle.schedule_laws.proofs.SentLemmas.{IsSentStream, sent_is}
-use Rattle.frame_order.specs.Runs.{IsOrderOf, endpoint_runs, gap_ticks, rests_of, runs_from, runs_of, turn_of}
+use Rattle.du_scheduler.specs.Turns.{IsRun}
+use Rattle.plan_model.specs.SentOrder.{stream_place}
+use Rattle.du_scheduler.specs.declared.turns.Run.{Run}
+use Rattle.du_scheduler.specs.declared.turns.Turn.{Turn}
+use Rattle.plan_model.proofs.SentLemmas.{IsSentStream, sent_is}
+use Rattle.du_scheduler.specs.Runs.{IsOrderOf, endpoint_runs, gap_ticks, rests_of, runs_from, runs_of, turn_of}
 use Rattle.du_scheduler.proofs.OrderLemmas.{sent_is_in_order}
 use Rattle.du_scheduler.proofs.ProperLemmas.{messages_are_runs}
 use Rattle.du_scheduler.specs.Kept.{placed_line, HasMessage, message_in}
@@ -29,6 +28,7 @@ use Rattle.du_scheduler.specs.Tables.{IsKeptInTable, IsTable, AddsEndpoint}
 use Rattle.du_scheduler.specs.declared.kept.StreamParts.{StreamParts}
 use Rattle.du_scheduler.specs.declared.tables.Table.{Table}
 use Rattle.du_scheduler.proofs.MessageLemmas.{message_is}
+use Rattle.fh_base.specs.Members.{IsIn}
 
 get_left : {X : Type 0} (xs ys : List X) (k : ℕ) (x : X) → slice_get xs k ≡ Some x → slice_get (xs ++ ys) k ≡ Some x
 get_left [] ys k x h = cc

@@ -5,7 +5,7 @@ use Rattle.window_config.specs.declared.endpoints.EndpointConfig.{EndpointConfig
 use Rattle.plan_model.specs.Streams.{Part, parts_in}
 use Rattle.plan_model.specs.declared.lines.PlannedLine.{PlannedLine}
 use Rattle.plan_model.specs.declared.streams.Stream.{Stream}
-use Rattle.plan_parts.specs.declared.parts.TimedPart.{TimedPart}
+use Rattle.du_scheduler.specs.declared.parts.TimedPart.{TimedPart}
 use Rattle.schedule_laws.specs.MessageParts.{stream_begins}
 use Rattle.du_scheduler.specs.declared.kept.PlacedLine.{PlacedLine}
 use Rattle.du_scheduler.specs.declared.kept.StreamParts.{StreamParts}

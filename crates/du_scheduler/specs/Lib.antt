@@ -4,3 +4,17 @@ pub mod Plans
 pub mod After
 pub mod Kept
 pub mod Tables
+pub mod Turns
+pub mod Queues
+pub mod TurnLaws
+pub mod Runs
+pub mod Filling
+pub mod Parts
+pub mod Keys
+pub mod OpenMessages
+pub mod Walks
+pub mod Ranges
+pub mod PlanRuns
+pub mod Judging
+pub mod PlanWalks
+pub mod Answers

@@ -11,10 +11,10 @@ use Rattle.plan_model.specs.Sent.{SentFrame, sent}
 use Rattle.plan_model.specs.Valid.{IsValid, plan_refusal}
 use Rattle.plan_model.specs.declared.streams.Stream.{Stream}
 use Rattle.plan_model.specs.declared.streams.Stream.TheVariants.{DownCommands, UpCommands, DownData, UpData}
-use Rattle.plan_check.specs.declared.testing.PlanRefusal.{PlanRefusal}
-use Rattle.plan_check.specs.declared.testing.PlanRefusal.TheVariants.{At, NoMemory}
-use Rattle.frame_order.specs.Queues.{IsQueue, StandsFor}
-use Rattle.frame_order.specs.Runs.{turn_of}
+use Rattle.du_scheduler.specs.declared.testing.PlanRefusal.{PlanRefusal}
+use Rattle.du_scheduler.specs.declared.testing.PlanRefusal.TheVariants.{At, NoMemory}
+use Rattle.du_scheduler.specs.Queues.{IsQueue, StandsFor}
+use Rattle.du_scheduler.specs.Runs.{turn_of}
 use Rattle.sent_frames.specs.Frames.{sent_bytes}
 use Rattle.sent_frames.specs.Sources.{source_of}
 use Rattle.du_scheduler.specs.Tables.{IsTable}

@@ -3,17 +3,17 @@ use Rattle.std.specs.Prelude.{◌≡◌, ℕ, ◌+◌, ◌*◌, ◌<◌, List, [
 use Rattle.window_config.specs.declared.config.Config.{Config}
 use Rattle.window_config.specs.declared.endpoints.EndpointConfig.{EndpointConfig}
 use Rattle.unit_model.specs.Proper.{IsAt}
-use Rattle.fragment_laws.specs.Apart.{IsIn}
 use Rattle.plan_model.specs.Sent.{SentFrame, sent}
 use Rattle.plan_model.specs.declared.lines.PlannedLine.{PlannedLine}
 use Rattle.plan_model.specs.declared.streams.Stream.{Stream}
 use Rattle.plan_model.specs.declared.streams.Stream.TheVariants.{DownCommands, UpCommands, DownData}
-use Rattle.frame_order.specs.declared.turns.Turn.{Turn}
-use Rattle.schedule_laws.specs.SentOrder.{stream_place}
-use Rattle.frame_order.specs.Runs.{turn_of}
+use Rattle.du_scheduler.specs.declared.turns.Turn.{Turn}
+use Rattle.plan_model.specs.SentOrder.{stream_place}
+use Rattle.du_scheduler.specs.Runs.{turn_of}
 use Rattle.du_scheduler.specs.Kept.{IsStreamParts}
 use Rattle.du_scheduler.specs.declared.kept.StreamParts.{StreamParts}
 use Rattle.du_scheduler.specs.declared.tables.Table.{Table}
+use Rattle.fh_base.specs.Members.{IsIn}
 
 -- a stream of an endpoint among all
 pub record IsKeptInTable (c : Config) (ps : List PlannedLine) (stream : Stream) (ep : ℕ) (e : EndpointConfig) (all : List StreamParts) : Type 0 where

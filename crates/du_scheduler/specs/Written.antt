@@ -9,10 +9,10 @@ use Rattle.frame_bytes.specs.declared.messages.DataSection.{DataSection}
 use Rattle.sent_frames.specs.Messages.{data_head, data_section}
 use Rattle.du_scheduler.specs.Kept.{placed_line}
 use Rattle.du_scheduler.specs.declared.kept.PlacedLine.{PlacedLine}
-use Rattle.fh_time.specs.declared.symbols.TheConstants.{SLOT_SYMBOLS}
+use Rattle.fh_base.specs.declared.symbols.TheConstants.{SLOT_SYMBOLS}
 use Rattle.window_config.specs.declared.config.TheConstants.{MESSAGE_SECTIONS}
 use Rattle.frame_bytes.specs.Headers.{carrier_of}
-use Rattle.fh_time.specs.declared.carrier.TheConstants.{CARRIER_PRBS}
+use Rattle.fh_base.specs.declared.carrier.TheConstants.{CARRIER_PRBS}
 
 -- each part's line stands at its place
 abbrev pub StandIn : List PlannedLine → List Part → Type 0

@@ -3,8 +3,8 @@ ghost use Rattle.std.specs.Prelude.{◌≡◌, ◌<◌, ◌^◌, map, IfOk};
 ghost use Rattle.std.specs.List.{AllByRecursion};
 ghost use Rattle.du_scheduler.specs.Kept.{placed_line_of};
 
+use crate::parts::TimedPart;
 use fh_base::NoMemory;
-use plan_parts::TimedPart;
 use std::alloc::Global;
 
 /// A part of a message: a line in one of its symbols.

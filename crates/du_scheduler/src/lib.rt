@@ -5,19 +5,59 @@
 //! Below it [`Table::make`] makes for a valid plan a queue of all its messages and a table of their parts, and [`Table::message`]
 //! lends the parts of the message of a frame. The plan, its tests and the order of frames are this project's profile; layouts and
 //! windows are those of O-RAN.WG4.CUS.
+//!
+//! The frames of many messages in one order: time, endpoint, stream, number and subsequence.
+//!
+//! A [`Queue`] holds one [`Run`] for each message that has frames left, in a heap that is made with its room; [`queue_of`] makes one
+//! of a list of messages. [`Queue::next`] gives the first frame of all and puts its message back at the next one, so it takes no
+//! memory and cannot fail. The frames that `plan_model` lists tick by tick are all frames of all messages, in this order, by a lemma
+//! of `du_scheduler`. Times are ticks of 1/1536 ns.
+//!
+//! The parts of a plan's messages in their order, and the messages that they make as a queue takes them.
+//!
+//! A [`TimedPart`] is a line in its first symbol for a command, in each of its symbols for data; [`parts_of`] lists those of a stream.
+//! [`CompleteMessages`] cuts them into messages by the [`Limits`] of the stream, and [`stream_messages`] says when these leave.
+//! Times are ticks of 1/1536 ns.
+//!
+//! The tests of a plan: which of its lines is refused first, and why.
+//!
+//! [`tested`] answers what `plan_model` defines, for every list of lines in their ranges. Lines are judged slot by slot against the
+//! claims of the earlier ones, by the ring that the radio unit keeps; the parts of data messages are sorted once and gone over once.
+//! The plan and its tests are this project's profile; the fields are those of O-RAN.WG4.CUS.
 #![tactic(auto)]
 
+mod complete;
+mod cutting;
+mod judging;
 mod keeping;
 mod kept;
+mod limits;
+mod open_messages;
+mod parts;
+mod placing;
 mod plans;
+mod queue;
+mod queues;
+mod sorting;
 mod streams;
 mod tables;
+mod testing;
 mod touching;
+mod turns;
+mod walking;
 mod writing;
 
+pub use complete::CompleteMessages;
+pub use cutting::{Messages, stream_messages};
 pub use keeping::planned_lines;
 pub use kept::PlacedLine;
-pub use plan_check::PlanRefusal;
+pub use limits::Limits;
+pub use open_messages::OpenMessage;
+pub use parts::{TimedPart, parts_of};
 pub use plan_model::PlanWhy;
 pub use plans::{Plan, Plane, Sent};
+pub use queue::Queue;
+pub use queues::queue_of;
 pub use tables::Table;
+pub use testing::{PlanRefusal, tested};
+pub use turns::{Run, Turn};

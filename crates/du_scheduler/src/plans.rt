@@ -15,14 +15,13 @@ ghost use Rattle.window_config.specs.declared.plan.TheConstants.{PLAN_LINES};
 
 use crate::Table;
 use crate::keeping::planned_lines;
+use crate::queue::Queue;
+use crate::testing::{PlanRefusal, tested};
 use crate::touching::are_touching;
 use crate::writing::write_frame;
 use air_source::{RePlace, Samples};
 use bfp_codec::Wide;
-use fh_base::{List, NoMemory};
-use fh_time::{Slot, Ticks};
-use frame_order::Queue;
-use plan_check::{PlanRefusal, tested};
+use fh_base::{List, NoMemory, Slot, Ticks};
 use plan_model::{PlannedLine, Stream};
 use std::alloc::Global;
 use window_config::{Config, PlanLine};
@@ -86,8 +85,8 @@ pub struct Plan {
 }
 
 impl Plan {
-    ghost use Rattle.frame_order.specs.Queues.{first_time};
-    ghost use Rattle.frame_order.specs.Runs.{turn_of};
+    ghost use Rattle.du_scheduler.specs.Queues.{first_time};
+    ghost use Rattle.du_scheduler.specs.Runs.{turn_of};
     ghost use Rattle.du_scheduler.specs.Plans.{Checks, GivesSent, HasToSend, IsLent, IsPlan, LeavesPlan, Writes};
     ghost use Rattle.du_scheduler.specs.After.{LeavesAfter};
     ghost use Rattle.schedule_laws.specs.Touched.{Touches};

@@ -3,16 +3,18 @@ ghost use Rattle.std.specs.Prelude.{◌≡◌, ◌<◌, ◌∷◌, ◌++◌, [],
 ghost use Rattle.window_config.specs.Configs.{IsConfig};
 ghost use Rattle.window_config.specs.declared.endpoints.EndpointConfig.{EndpointConfig as SpecEndpoint};
 ghost use Rattle.unit_model.specs.Proper.{IsAt};
-ghost use Rattle.frame_order.specs.Runs.{endpoint_runs, stream_runs};
+ghost use Rattle.du_scheduler.specs.Runs.{endpoint_runs, stream_runs};
 ghost use Rattle.du_scheduler.specs.Kept.{IsStreamParts};
 ghost use Rattle.schedule_laws.specs.TabledPlans.{IsTabledPlan};
 ghost use Rattle.du_scheduler.specs.Tables.{AddsEndpoint};
 
+use crate::cutting::{Messages, stream_messages};
 use crate::kept::{StreamParts, placed_lines};
+use crate::limits::Limits;
+use crate::parts::parts_of;
+use crate::turns::Run;
 use fh_base::NoMemory;
-use frame_order::Run;
 use plan_model::{PlannedLine, Stream};
-use plan_parts::{Limits, Messages, parts_of, stream_messages};
 use std::alloc::Global;
 use window_config::Config;
 

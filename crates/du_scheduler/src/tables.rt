@@ -5,17 +5,19 @@ ghost use Rattle.window_config.specs.declared.config.Config.{Config as SpecConfi
 ghost use Rattle.plan_model.specs.Packs.{parts_of};
 ghost use Rattle.plan_model.specs.Sent.{SentFrame, sent};
 ghost use Rattle.plan_model.specs.declared.lines.PlannedLine.{PlannedLine as SpecLine};
-ghost use Rattle.frame_order.specs.Queues.{IsQueue, StandsFor, gap_of};
-ghost use Rattle.schedule_laws.specs.SentOrder.{stream_place};
-ghost use Rattle.fragment_laws.specs.Apart.{IsIn};
-ghost use Rattle.frame_order.specs.Runs.{gap_ticks, turn_of};
+ghost use Rattle.du_scheduler.specs.Queues.{IsQueue, StandsFor, gap_of};
+ghost use Rattle.plan_model.specs.SentOrder.{stream_place};
+ghost use Rattle.du_scheduler.specs.Runs.{gap_ticks, turn_of};
 ghost use Rattle.du_scheduler.specs.Kept.{placed_line};
 ghost use Rattle.schedule_laws.specs.TabledPlans.{IsTabledPlan};
+ghost use Rattle.fh_base.specs.Members.{IsIn};
 
 use crate::kept::{PlacedLine, StreamParts};
+use crate::queue::Queue;
+use crate::queues::queue_of;
 use crate::streams::add_endpoint;
+use crate::turns::Turn;
 use fh_base::NoMemory;
-use frame_order::{Queue, Turn, queue_of};
 use plan_model::{Departures, PlannedLine, Stream};
 use std::alloc::Global;
 use window_config::Config;

@@ -3,7 +3,7 @@ ghost use Rattle.std.specs.Prelude.{◌≡◌};
 ghost use Rattle.std.specs.List.{list_any};
 ghost use Rattle.schedule_laws.specs.Touched.{is_touching};
 
-use fh_time::Slot;
+use fh_base::Slot;
 use plan_model::{PlannedLine, line_allocation};
 use unit_model::same_slot;
 

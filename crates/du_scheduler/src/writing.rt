@@ -22,10 +22,10 @@ ghost use Rattle.window_config.specs.declared.config.TheConstants.{MOST_FRAGMENT
 ghost use Rattle.window_config.specs.declared.config.TheConstants.{LEAST_FRAGMENT};
 
 use crate::PlacedLine;
+use crate::turns::Turn;
 use air_source::{RePlace, Samples};
 use bfp_codec::Wide;
 use frame_bytes::DataSection;
-use frame_order::Turn;
 use plan_model::PlannedLine;
 use sent_frames::{Fragment, command_frame, data_frame, data_section};
 use window_config::MESSAGE_SECTIONS;

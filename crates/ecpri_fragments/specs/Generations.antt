@@ -1,6 +1,6 @@
 -- The generations of fragments. Lists of arrivals have the newest first, and nothing in them is forgotten.
 use Rattle.std.specs.Prelude.{ℕ, ◌==◌, ◌&&◌, if◌then◌else◌, Bool, true, false, List, [], ◌∷◌, ℤ, ◌+ℤ◌, int_le}
-use Rattle.fh_time.specs.declared.values.Ticks.{Ticks}
+use Rattle.fh_base.specs.declared.values.Ticks.{Ticks}
 use Rattle.ecpri_fragments.specs.declared.sequence.SeqField.{SeqField}
 
 -- a fragment that arrived: its endpoint, its time in ticks, its sequence field and its bytes

@@ -1,6 +1,6 @@
 -- A place for one endpoint and one sequence id, and what it holds.
 use Rattle.std.specs.Prelude.{◌≡◌, ⊤, ℕ, ◌+◌, ◌<◌, ◌&&◌, ◌||◌, if◌then◌else◌, is_some, Bool, true, false, List, [], ◌∷◌, max, nat_lt, Option, Some, None, ℤ}
-use Rattle.fh_time.specs.declared.values.Ticks.{Ticks}
+use Rattle.fh_base.specs.declared.values.Ticks.{Ticks}
 use Rattle.ecpri_fragments.specs.declared.place.Place.{Place}
 use Rattle.ecpri_fragments.specs.declared.place.Span.{Span}
 use Rattle.ecpri_fragments.specs.declared.verdict.Verdict.{Verdict}

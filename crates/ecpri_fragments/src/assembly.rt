@@ -6,8 +6,7 @@ use crate::parts::is_within;
 use crate::place::{Begun, Place};
 use crate::pool::Pool;
 use crate::{SeqField, Verdict};
-use fh_base::NoMemory;
-use fh_time::Ticks;
+use fh_base::{NoMemory, Ticks};
 use std::alloc::Global;
 
 /// How many sequence ids an endpoint has.

@@ -5,7 +5,7 @@ ghost use Rattle.ecpri_fragments.specs.Places.{IsBelow};
 
 use crate::SeqField;
 use crate::place::Span;
-use fh_time::Ticks;
+use fh_base::Ticks;
 
 /// Whether a time falls in the generation that began then.
 pub(crate) fn is_within(begun: Ticks, hold: Ticks, at: Ticks) -> bool

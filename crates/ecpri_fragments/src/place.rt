@@ -6,7 +6,7 @@ ghost use Rattle.ecpri_fragments.specs.declared.place.TheConstants.{MESSAGE_BYTE
 
 use crate::parts::{clear, end_after, first_after, is_whole, is_within, write_at};
 use crate::{SeqField, Verdict};
-use fh_time::Ticks;
+use fh_base::Ticks;
 
 /// The most application bytes of a message.
 pub const MESSAGE_BYTES: usize = 16_384;

@@ -9,12 +9,12 @@ use Rattle.explain_air.specs.Airs.{IsClosed, IsOpen, text_of}
 use Rattle.explain_air.specs.Heard.{HasHeard}
 use Rattle.explain_air.specs.Outs.{Took, kept_text}
 use Rattle.explain_air.specs.declared.kept.Kept.{Kept}
-use Rattle.explain_growth.proofs.Counts.{no_count_more, some_more}
-use Rattle.explain_growth.proofs.Fronts.{lines_grow}
-use Rattle.explain_growth.proofs.Steps.{count_none}
-use Rattle.explain_growth.specs.Subjects.{StandsBefore, Subject, added, are_counts, counted_lines, ending, is_count, open_lines, reasons_of}
-use Rattle.explain_lines.specs.declared.values.ExplainLine.{ExplainLine}
-use Rattle.explain_lines.specs.declared.values.ExplainLine.TheVariants as line
+use Rattle.explain_model.proofs.Counts.{no_count_more, some_more}
+use Rattle.explain_model.proofs.Fronts.{lines_grow}
+use Rattle.explain_model.proofs.Steps.{count_none}
+use Rattle.explain_model.specs.Subjects.{StandsBefore, Subject, added, are_counts, counted_lines, ending, is_count, open_lines, reasons_of}
+use Rattle.explain_model.specs.declared.values.ExplainLine.{ExplainLine}
+use Rattle.explain_model.specs.declared.values.ExplainLine.TheVariants as line
 use Rattle.explain_model.specs.Stories.{arrival_count}
 use Rattle.explain_model.specs.Text.{explain_of, lines_of}
 use Rattle.fault_counters.specs.declared.kinds.Counter.{Counter}

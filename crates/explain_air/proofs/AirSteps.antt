@@ -1,5 +1,5 @@
 -- An air in one call, by what is kept of the events before it.
-use Rattle.std.proofs.Common.{◌≡◌, ℕ, Bool, true, false, List, [], ◌∷◌, ◌++◌, inl, inr, Option, Some, None, OnOk, OnErr, refl, sym, ap, subst, ◌∙◌, append_assoc, append-nil, true≢false}
+use Rattle.std.proofs.Common.{◌≡◌, ℕ, Bool, true, false, List, [], ◌∷◌, ◌++◌, inl, inr, Option, Some, None, OnOk, refl, sym, ap, subst, ◌∙◌, append_assoc, append-nil, true≢false}
 use Rattle.std.specs.Prelude.{Result, Ok, Err}
 use Rattle.std.specs.Io.KnownBytes.{append_known}
 use Rattle.air_source.specs.declared.events.Event.{Event}
@@ -13,11 +13,11 @@ use Rattle.explain_air.specs.Heard.{HasHeard}
 use Rattle.explain_air.specs.OutLaws.{text_both, took_more}
 use Rattle.explain_air.specs.Outs.{Took, kept_text}
 use Rattle.explain_air.specs.declared.kept.Kept.{Kept}
-use Rattle.explain_growth.proofs.Counts.{behind_count, behind_some}
-use Rattle.explain_growth.proofs.Fronts.{lines_grow}
-use Rattle.explain_growth.specs.Subjects.{StandsBefore, Subject, added, counted_lines, counts_last, ending, is_count, open_lines, reasons_of}
-use Rattle.explain_lines.specs.declared.values.ExplainLine.{ExplainLine}
-use Rattle.explain_lines.specs.declared.values.ExplainLine.TheVariants as line
+use Rattle.explain_model.proofs.Counts.{behind_count, behind_some}
+use Rattle.explain_model.proofs.Fronts.{lines_grow}
+use Rattle.explain_model.specs.Subjects.{StandsBefore, Subject, added, counted_lines, counts_last, ending, is_count, open_lines, reasons_of}
+use Rattle.explain_model.specs.declared.values.ExplainLine.{ExplainLine}
+use Rattle.explain_model.specs.declared.values.ExplainLine.TheVariants as line
 use Rattle.explain_model.specs.Text.{explain_of, lines_of}
 use Rattle.fault_counters.specs.declared.kinds.Counter.{Counter}
 use Rattle.fh_base.proofs.Progress.{front_first}
@@ -31,11 +31,6 @@ none_some e = cc
 
 same_one : (j k : Kept) → Some j ≡ Some k → j ≡ k
 same_one j k e = cc
-
--- what is said whatever a call answers is said at its error
-pub on_any : {T E : Type 0} (r : Result T E) (P : Type 0) → P → OnErr r P
-on_any (Ok x) P p = tt
-on_any (Err e) P p = p
 
 -- ---- an event that is no counter
 

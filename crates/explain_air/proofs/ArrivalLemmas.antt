@@ -6,9 +6,9 @@ use Rattle.air_source.specs.declared.events.Event.TheVariants as event
 use Rattle.air_source.specs.declared.events.Side.{Side}
 use Rattle.air_source.specs.declared.events.Side.TheVariants.{Ru, Du}
 use Rattle.explain_model.specs.Stories.{Story, arrival_count, stories, stories_in, story, told_after}
-use Rattle.heard_records.specs.Records.{unit_arrivals}
+use Rattle.explain_records.specs.Records.{unit_arrivals}
 use Rattle.unit_model.specs.Heard.{arrivals_heard, is_of}
-use Rattle.unit_model.specs.Lists.{onto}
+use Rattle.fh_base.specs.Lists.{onto}
 use Rattle.unit_model.specs.Meetings.{Arrival}
 use Rattle.window_config.specs.declared.config.Config.{Config}
 

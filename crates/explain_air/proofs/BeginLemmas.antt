@@ -6,13 +6,13 @@ use Rattle.explain_air.specs.Airs.{IsAfter, text_of}
 use Rattle.explain_air.specs.Heard.{HasHeard}
 use Rattle.explain_air.specs.Outs.{Took, kept_text}
 use Rattle.explain_air.specs.declared.kept.Kept.{Kept}
-use Rattle.explain_growth.proofs.Fronts.{lines_grow}
-use Rattle.explain_growth.proofs.Steps.{none_closed}
-use Rattle.explain_growth.specs.Subjects.{StandsBefore, Subject, open_lines, reasons_of}
-use Rattle.explain_lines.specs.Faults.{is_fault}
-use Rattle.explain_lines.specs.Lines.{line_text}
-use Rattle.explain_lines.specs.declared.values.ExplainLine.{ExplainLine}
-use Rattle.explain_lines.specs.declared.values.ExplainLine.TheVariants as line
+use Rattle.explain_model.proofs.Fronts.{lines_grow}
+use Rattle.explain_model.proofs.Steps.{none_closed}
+use Rattle.explain_model.specs.Subjects.{StandsBefore, Subject, open_lines, reasons_of}
+use Rattle.explain_model.specs.Faults.{is_fault}
+use Rattle.explain_model.specs.Lines.{line_text}
+use Rattle.explain_model.specs.declared.values.ExplainLine.{ExplainLine}
+use Rattle.explain_model.specs.declared.values.ExplainLine.TheVariants as line
 use Rattle.explain_model.specs.Text.{explain_of, first_lines, lines_of}
 use Rattle.fh_base.proofs.Progress.{front_first}
 use Rattle.fh_base.specs.Told.{WritesFront, WritesPart}

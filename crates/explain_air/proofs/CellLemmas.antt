@@ -5,15 +5,15 @@ use Rattle.std.proofs.lemmas.List.Concat.{flat_map-append}
 use Rattle.air_source.specs.declared.events.Event.{Event}
 use Rattle.ecpri_fragments.specs.Pieces.{joined}
 use Rattle.explain_air.specs.Notes.{cells_in}
-use Rattle.explain_lines.specs.declared.values.ExplainLine.{ExplainLine}
-use Rattle.explain_lines.specs.declared.values.ExplainLine.TheVariants as line
+use Rattle.explain_model.specs.declared.values.ExplainLine.{ExplainLine}
+use Rattle.explain_model.specs.declared.values.ExplainLine.TheVariants as line
 use Rattle.explain_model.proofs.PieceLemmas as parts
 use Rattle.explain_model.specs.Cells.{Entry, Lines, Of, entries, event_lines, lines_in, piece_lines, runs, runs_on}
 use Rattle.explain_model.specs.Pieces.{pieces}
 use Rattle.explain_model.specs.Stories.{told}
-use Rattle.explain_reasons.specs.Seen.{cell_runs, run_of}
-use Rattle.reason_records.specs.declared.runs.CellRun.{CellRun}
-use Rattle.reason_sums.proofs.OtherLemmas.{IsPlain, IsPlainEntry, all_parts, entries_plain}
+use Rattle.explain_model.specs.Seen.{cell_runs, run_of}
+use Rattle.explain_model.specs.declared.runs.CellRun.{CellRun}
+use Rattle.why_lines.proofs.OtherLemmas.{IsPlain, IsPlainEntry, all_parts, entries_plain}
 use Rattle.window_config.specs.declared.config.Config.{Config}
 
 module _ (c : Config) where

@@ -7,36 +7,36 @@ use Rattle.explain_air.specs.Closing.{AreOf, IsEnding, IsLast, rest_of}
 use Rattle.explain_air.specs.Notes.{HasNoted}
 use Rattle.explain_air.specs.declared.notes.Notes.{Notes}
 use Rattle.explain_air.specs.Plans.{NumberedLines}
-use Rattle.explain_growth.specs.Subjects.{Subject, reason_lines, reasons_of}
-use Rattle.explain_lines.specs.declared.values.ExplainLine.{ExplainLine}
+use Rattle.explain_model.specs.Subjects.{Subject, reason_lines, reasons_of}
+use Rattle.explain_model.specs.declared.values.ExplainLine.{ExplainLine}
 use Rattle.explain_model.specs.Cells.{event_lines}
 use Rattle.explain_model.specs.Stories.{Story, stories}
 use Rattle.explain_model.specs.Text.{sum_lines}
 use Rattle.explain_model.specs.Margins.{dated, margin_lines, margins_at}
-use Rattle.explain_reasons.specs.Missing.{why_lines}
-use Rattle.explain_reasons.specs.Reasons.{Kept as Records, kept, kept_of}
-use Rattle.explain_reasons.specs.Seen.{cell_runs}
-use Rattle.explain_reasons.specs.Silent.{silent_lines}
-use Rattle.explain_reasons.specs.Unused.{unused_lines}
+use Rattle.explain_model.specs.Missing.{why_lines}
+use Rattle.explain_model.specs.SilentReasons.{Kept as Records, kept, kept_of}
+use Rattle.explain_model.specs.Seen.{cell_runs}
+use Rattle.explain_model.specs.Silent.{silent_lines}
+use Rattle.explain_model.specs.Unused.{unused_lines}
 use Rattle.explain_records.specs.Stored.{SameBySymbol}
 use Rattle.explain_units.specs.declared.units.UnitLines.{UnitLines}
-use Rattle.heard_records.specs.Records.{HaveHeard}
-use Rattle.heard_records.specs.declared.records.HeardRecords.{HeardRecords}
+use Rattle.explain_records.specs.Records.{HaveHeard}
+use Rattle.explain_records.specs.declared.heard_records.HeardRecords.{HeardRecords}
 use Rattle.plan_model.specs.declared.lines.PlannedLine.{PlannedLine}
 use Rattle.explain_records.proofs.MissingLemmas.{same_runs, text_is}
-use Rattle.line_runs.specs.Runs.{run_lines}
+use Rattle.explain_heard.specs.Runs.{run_lines}
 use Rattle.explain_records.specs.Missing.{missing_line_of, missing_related, missing_text}
-use Rattle.reason_records.specs.Keys.{run_key}
-use Rattle.reason_records.specs.declared.keys.SymbolKey.{SymbolKey}
-use Rattle.reason_records.specs.declared.runs.CellRun.{CellRun}
-use Rattle.reason_sums.proofs.SumLemmas.{sums_are}
-use Rattle.reason_sums.specs.Laws.{HaveLines}
-use Rattle.reason_sums.specs.Sums.{AreSums, sum_text}
-use Rattle.silent_lines.proofs.SilentTexts.{silent_told}
-use Rattle.silent_lines.specs.Silent.{silent_text}
-use Rattle.symbol_records.specs.Keys.{of_symbol}
-use Rattle.unused_lines.proofs.TextLemmas.{unused_told}
-use Rattle.unused_lines.specs.Unused.{unused_text}
+use Rattle.explain_model.specs.Keys.{run_key}
+use Rattle.explain_model.specs.declared.keys.SymbolKey.{SymbolKey}
+use Rattle.explain_model.specs.declared.runs.CellRun.{CellRun}
+use Rattle.why_lines.proofs.SumLemmas.{sums_are}
+use Rattle.why_lines.specs.Laws.{HaveLines}
+use Rattle.why_lines.specs.Sums.{AreSums, sum_text}
+use Rattle.why_lines.proofs.SilentTexts.{silent_told}
+use Rattle.why_lines.specs.Silent.{silent_text}
+use Rattle.explain_records.specs.Keys.{of_symbol}
+use Rattle.why_lines.proofs.TextLemmas.{unused_told}
+use Rattle.why_lines.specs.Unused.{unused_text}
 use Rattle.window_config.specs.declared.config.Config.{Config}
 use Rattle.window_config.specs.declared.endpoints.EndpointConfig.{EndpointConfig}
 

@@ -1,10 +1,10 @@
 -- The lines of an explanation are those before its last line, and that.
 use Rattle.std.proofs.Common.{◌≡◌, false, List, [], ◌∷◌, ◌++◌, ap, ◌∙◌, append_assoc}
 use Rattle.air_source.specs.declared.events.Event.{Event}
-use Rattle.explain_growth.proofs.Counts.{no_count_lines}
-use Rattle.explain_growth.specs.Subjects.{Subject, counted_lines, ending, has_count, open_lines, reasons_of}
-use Rattle.explain_lines.specs.declared.values.ExplainLine.{ExplainLine}
-use Rattle.explain_lines.specs.declared.values.ExplainLine.TheVariants as line
+use Rattle.explain_model.proofs.Counts.{no_count_lines}
+use Rattle.explain_model.specs.Subjects.{Subject, counted_lines, ending, has_count, open_lines, reasons_of}
+use Rattle.explain_model.specs.declared.values.ExplainLine.{ExplainLine}
+use Rattle.explain_model.specs.declared.values.ExplainLine.TheVariants as line
 use Rattle.explain_model.proofs.GrowLemmas.{lines_go_on}
 use Rattle.explain_model.specs.Cells.{closed_lines, entries, event_lines, open_run, run_lines}
 use Rattle.explain_model.specs.Margins.{margin_lines}

@@ -1,7 +1,7 @@
 -- Lines that are told one after the other, each of an element.
 use Rattle.std.proofs.Common.{◌≡◌, List, [], ◌∷◌, map, refl, ap}
 use Rattle.std.specs.List.{flat_map}
-use Rattle.explain_lines.specs.declared.values.ExplainLine.{ExplainLine}
+use Rattle.explain_model.specs.declared.values.ExplainLine.{ExplainLine}
 
 module _ {X : Type 0} (f : X → ExplainLine) where
   abbrev pub one_of : X → List ExplainLine

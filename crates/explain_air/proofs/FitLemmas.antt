@@ -2,7 +2,7 @@
 use Rattle.std.specs.Prelude.{List, [], ◌∷◌, ◌++◌}
 use Rattle.std.specs.List.{AllByRecursion}
 use Rattle.explain_records.specs.Missing.{IsCellRun}
-use Rattle.reason_records.specs.declared.runs.CellRun.{CellRun}
+use Rattle.explain_model.specs.declared.runs.CellRun.{CellRun}
 
 pub fits_more : (rs : List CellRun) (r : CellRun) → AllByRecursion IsCellRun rs → IsCellRun r → AllByRecursion IsCellRun (rs ++ r ∷ [])
 fits_more [] r all fits = (fits, tt)

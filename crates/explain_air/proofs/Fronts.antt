@@ -6,13 +6,13 @@ use Rattle.explain_air.specs.Airs.{text_of}
 use Rattle.explain_air.specs.OutLaws.{text_both}
 use Rattle.explain_air.specs.Outs.{Took, kept_text, owed_of, sink_of}
 use Rattle.explain_air.specs.declared.out.LineOut.{LineOut}
-use Rattle.explain_growth.specs.Subjects.{StandsBefore}
-use Rattle.explain_lines.specs.Faults.{is_fault}
-use Rattle.explain_lines.specs.Lines.{line_text}
-use Rattle.explain_lines.specs.declared.values.ExplainLine.{ExplainLine}
-use Rattle.explain_lines.specs.declared.values.ExplainLine.TheVariants as line
+use Rattle.explain_model.specs.Subjects.{StandsBefore}
+use Rattle.explain_model.specs.Faults.{is_fault}
+use Rattle.explain_model.specs.Lines.{line_text}
+use Rattle.explain_model.specs.declared.values.ExplainLine.{ExplainLine}
+use Rattle.explain_model.specs.declared.values.ExplainLine.TheVariants as line
 use Rattle.explain_model.specs.Text.{Reasoned, explain_of, lines_of}
-use Rattle.line_runs.specs.Stops.{StopsSome, Between, Within}
+use Rattle.explain_heard.specs.Stops.{StopsSome, Between, Within}
 use Rattle.fh_base.proofs.Progress.{front_first}
 use Rattle.fh_base.specs.Told.{WritesFront, WritesPart}
 use Rattle.fh_base.proofs.Carrying.{carried_front, front_behind}

@@ -14,19 +14,19 @@ use Rattle.explain_air.specs.declared.kept.Kept.{Kept}
 use Rattle.explain_air.specs.declared.notes.Notes.{Notes}
 use Rattle.explain_air.specs.declared.runs.RunLines.{RunLines}
 use Rattle.explain_model.proofs.GrowLemmas.{lines_go_on}
-use Rattle.explain_growth.proofs.Steps.{cell_run, cell_stories, closed_more, count_none, count_one, delay_stories, no_run, no_stories, none_closed, none_counted, none_open}
-use Rattle.explain_growth.specs.Subjects.{Subject, added, ending, reason_lines}
-use Rattle.explain_lines.specs.declared.values.CellWord.{CellWord}
-use Rattle.explain_lines.specs.declared.values.ExplainLine.{ExplainLine}
-use Rattle.explain_lines.specs.declared.values.ExplainLine.TheVariants as line
+use Rattle.explain_model.proofs.Steps.{cell_run, cell_stories, closed_more, count_none, count_one, delay_stories, no_run, no_stories, none_closed, none_counted, none_open}
+use Rattle.explain_model.specs.Subjects.{Subject, added, ending, reason_lines}
+use Rattle.explain_model.specs.declared.values.CellWord.{CellWord}
+use Rattle.explain_model.specs.declared.values.ExplainLine.{ExplainLine}
+use Rattle.explain_model.specs.declared.values.ExplainLine.TheVariants as line
 use Rattle.explain_model.specs.Cells.{CellRun, closed_lines, closing, entries, run_lines, run_with, word_of}
 use Rattle.explain_model.specs.Stories.{Story, arrival_count, stories, told}
 use Rattle.explain_units.proofs.EventLemmas.{others_leave_it}
 use Rattle.explain_units.specs.Units.{IsUnitAfter, frame_lines}
 use Rattle.explain_units.specs.declared.units.UnitLines.{UnitLines}
-use Rattle.heard_records.specs.declared.records.HeardRecords.{HeardRecords}
-use Rattle.fh_time.specs.declared.values.Ticks.{Ticks}
-use Rattle.heard_records.specs.Records.{HaveHeard}
+use Rattle.explain_records.specs.declared.heard_records.HeardRecords.{HeardRecords}
+use Rattle.fh_base.specs.declared.values.Ticks.{Ticks}
+use Rattle.explain_records.specs.Records.{HaveHeard}
 use Rattle.plan_model.specs.Lines.{planned}
 use Rattle.window_config.specs.Configs.{IsConfig}
 use Rattle.window_config.specs.declared.config.Config.{Config}

@@ -2,8 +2,8 @@
 use Rattle.std.proofs.Common.{◌≡◌, List, [], ◌∷◌, ◌++◌, ◌⊎◌, inl, inr, subst, append-nil}
 use Rattle.explain_air.specs.Notes.{HasNoted}
 use Rattle.explain_air.specs.declared.notes.Noting.{Noting}
-use Rattle.explain_lines.specs.declared.values.ExplainLine.{ExplainLine}
-use Rattle.line_runs.specs.Stops.{StopsInLine, StopsSome, Between, Within}
+use Rattle.explain_model.specs.declared.values.ExplainLine.{ExplainLine}
+use Rattle.explain_heard.specs.Stops.{StopsInLine, StopsSome, Between, Within}
 
 module _ {W : Type 0} (grew : W → List ExplainLine → W → Type 0) (stopped : W → ExplainLine → W → Type 0)
     (more : (a b c : W) (first second : List ExplainLine) → grew a first b → grew b second c → grew a (first ++ second) c) where

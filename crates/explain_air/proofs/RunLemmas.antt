@@ -2,7 +2,7 @@
 use Rattle.std.proofs.Common.{◌≡◌, ◌+◌, ◌==◌, ℕ, true, List, [], ◌∷◌, ◌++◌, Option, Some, None, refl}
 use Rattle.std.proofs.lemmas.Bool.{and_parts, eqb-true}
 use Rattle.air_source.specs.declared.events.AirCell.{AirCell}
-use Rattle.explain_lines.specs.declared.values.CellWord.{CellWord}
+use Rattle.explain_model.specs.declared.values.CellWord.{CellWord}
 use Rattle.explain_model.specs.Cells.{CellRun, extends, is_of_run, same_word}
 
 -- a cell that goes on with a run has the PRB behind it

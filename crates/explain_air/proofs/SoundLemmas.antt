@@ -6,7 +6,7 @@ use Rattle.std.proofs.lemmas.List.Elements.{All-cons, All-nil}
 use Rattle.explain_heard.specs.declared.heard.Heard.{Heard}
 use Rattle.explain_heard.specs.declared.heard.Heard.TheVariants as kept
 use Rattle.explain_units.specs.Fit.{IsFit}
-use Rattle.heard_records.specs.Sound.{IsSoundHeard}
+use Rattle.explain_records.specs.Sound.{IsSoundHeard}
 
 fit_sound : (h : Heard) → IsFit h → IsSoundHeard h
 fit_sound (kept.Message m) f = tt

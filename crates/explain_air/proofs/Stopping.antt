@@ -1,7 +1,7 @@
 -- How far lines were taken, of a part of some lines and of all.
 use Rattle.std.proofs.Common.{◌≡◌, List, [], ◌∷◌, ◌++◌, ◌⊎◌, inl, inr, refl, sym, ap, ◌∙◌, append_assoc, append-nil}
-use Rattle.explain_lines.specs.declared.values.ExplainLine.{ExplainLine}
-use Rattle.line_runs.specs.Stops.{StopsBetween, StopsSome, Between, Within, StopsInLine}
+use Rattle.explain_model.specs.declared.values.ExplainLine.{ExplainLine}
+use Rattle.explain_heard.specs.Stops.{StopsBetween, StopsSome, Between, Within, StopsInLine}
 
 module _ {W : Type 0} (grew : W → List ExplainLine → W → Type 0) (stopped : W → ExplainLine → W → Type 0) where
   -- in one line, or before it

@@ -4,7 +4,7 @@ use Rattle.std.proofs.Common.{inl, inr, sym, subst, append-nil, append_assoc}
 use Rattle.air_source.specs.declared.events.Event.{Event}
 use Rattle.explain_air.specs.Airs.{Grew, IsAfter}
 use Rattle.explain_air.specs.declared.kept.Kept.{Kept}
-use Rattle.explain_growth.specs.Subjects.{Subject}
+use Rattle.explain_model.specs.Subjects.{Subject}
 use Rattle.explain_model.specs.Stories.{arrival_count}
 
 pub grew_none : (f : Bool) (k : Option Kept) (w : Option (List ℕ)) (o : List ℕ) → Grew f k w o [] f k w o

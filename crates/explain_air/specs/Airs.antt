@@ -6,10 +6,10 @@ use Rattle.explain_air.specs.Heard.{HasHeard}
 use Rattle.explain_air.specs.Outs.{Took, kept_text}
 use Rattle.explain_air.specs.declared.air.ExplainAir.{ExplainAir}
 use Rattle.explain_air.specs.declared.kept.Kept.{Kept}
-use Rattle.explain_growth.specs.Subjects.{Subject, counted_lines, counts_last, ending, has_count, open_lines, reasons_of}
-use Rattle.explain_lines.specs.Lines.{line_text}
-use Rattle.explain_lines.specs.declared.values.ExplainLine.{ExplainLine}
-use Rattle.explain_lines.specs.declared.values.ExplainLine.TheVariants as line
+use Rattle.explain_model.specs.Subjects.{Subject, counted_lines, counts_last, ending, has_count, open_lines, reasons_of}
+use Rattle.explain_model.specs.Lines.{line_text}
+use Rattle.explain_model.specs.declared.values.ExplainLine.{ExplainLine}
+use Rattle.explain_model.specs.declared.values.ExplainLine.TheVariants as line
 use Rattle.explain_model.specs.Stories.{arrival_count}
 use Rattle.explain_model.specs.Text.{explain_of}
 use Rattle.fh_base.specs.Told.{WritesFront, WritesPart}

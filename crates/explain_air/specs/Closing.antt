@@ -5,22 +5,22 @@ use Rattle.air_source.specs.declared.events.Side.TheVariants.{Ru, Du}
 use Rattle.explain_air.specs.Notes.{AreNotes}
 use Rattle.explain_air.specs.Plans.{NumberedLines}
 use Rattle.explain_air.specs.declared.notes.Notes.{Notes}
-use Rattle.explain_growth.specs.Subjects.{Subject}
+use Rattle.explain_model.specs.Subjects.{Subject}
 use Rattle.explain_model.specs.Cells.{event_lines}
 use Rattle.explain_model.specs.Stories.{stories}
-use Rattle.explain_reasons.specs.Reasons.{Kept as Records, kept}
-use Rattle.explain_reasons.specs.Seen.{cell_runs}
-use Rattle.explain_lines.specs.declared.values.ExplainLine.{ExplainLine}
-use Rattle.explain_reasons.specs.Silent.{silent_lines}
-use Rattle.explain_reasons.specs.Unused.{unused_lines}
+use Rattle.explain_model.specs.SilentReasons.{Kept as Records, kept}
+use Rattle.explain_model.specs.Seen.{cell_runs}
+use Rattle.explain_model.specs.declared.values.ExplainLine.{ExplainLine}
+use Rattle.explain_model.specs.Silent.{silent_lines}
+use Rattle.explain_model.specs.Unused.{unused_lines}
 use Rattle.explain_records.specs.Stored.{SameBySymbol}
 use Rattle.explain_units.specs.Units.{IsUnitAfter}
 use Rattle.explain_units.specs.declared.units.UnitLines.{UnitLines}
-use Rattle.heard_records.specs.Records.{HaveHeard}
-use Rattle.heard_records.specs.declared.records.HeardRecords.{HeardRecords}
+use Rattle.explain_records.specs.Records.{HaveHeard}
+use Rattle.explain_records.specs.declared.heard_records.HeardRecords.{HeardRecords}
 use Rattle.plan_model.specs.Lines.{planned}
-use Rattle.reason_records.specs.declared.runs.CellRun.{CellRun}
-use Rattle.reason_sums.specs.Sums.{AreSums}
+use Rattle.explain_model.specs.declared.runs.CellRun.{CellRun}
+use Rattle.why_lines.specs.Sums.{AreSums}
 use Rattle.window_config.specs.Configs.{IsConfig}
 use Rattle.window_config.specs.declared.endpoints.EndpointConfig.{EndpointConfig}
 

@@ -7,13 +7,13 @@ use Rattle.explain_air.specs.Notes.{AreNotes, HasNoted}
 use Rattle.explain_air.specs.Runs.{open_of}
 use Rattle.explain_air.specs.declared.kept.Kept.{Kept}
 use Rattle.explain_air.specs.declared.runs.RunLines.{RunLines}
-use Rattle.explain_growth.specs.Subjects.{Subject}
-use Rattle.explain_lines.specs.declared.values.ExplainLine.{ExplainLine}
+use Rattle.explain_model.specs.Subjects.{Subject}
+use Rattle.explain_model.specs.declared.values.ExplainLine.{ExplainLine}
 use Rattle.explain_model.specs.Cells.{closed_lines, open_run, run_lines}
 use Rattle.explain_model.specs.Stories.{arrival_count, stories}
 use Rattle.explain_units.specs.Units.{IsUnitAfter, frame_lines}
-use Rattle.fh_time.specs.declared.values.Ticks.{Ticks}
-use Rattle.heard_records.specs.Records.{HaveHeard}
+use Rattle.fh_base.specs.declared.values.Ticks.{Ticks}
+use Rattle.explain_records.specs.Records.{HaveHeard}
 use Rattle.plan_model.specs.Lines.{planned}
 use Rattle.window_config.specs.Configs.{IsConfig}
 

@@ -5,9 +5,9 @@ use Rattle.std.proofs.Common.{refl, sym, ap, subst, ◌∙◌, append-nil, appen
 use Rattle.std.proofs.lemmas.List.Concat.{flat_map-append}
 use Rattle.explain_air.specs.Notes.{AreNotes, HasNoted, cells_in}
 use Rattle.explain_air.specs.declared.notes.Notes.{Notes}
-use Rattle.explain_lines.specs.declared.values.ExplainLine.{ExplainLine}
-use Rattle.reason_records.specs.declared.runs.CellRun.{CellRun}
-use Rattle.reason_sums.specs.Sums.{AreSums}
+use Rattle.explain_model.specs.declared.values.ExplainLine.{ExplainLine}
+use Rattle.explain_model.specs.declared.runs.CellRun.{CellRun}
+use Rattle.why_lines.specs.Sums.{AreSums}
 use Rattle.window_config.specs.declared.endpoints.EndpointConfig.{EndpointConfig}
 
 pub noted_none : (n : Notes) → HasNoted n [] n

@@ -2,13 +2,13 @@
 use Rattle.std.specs.Prelude.{◌≡◌, ℕ, List, [], ◌∷◌, ◌++◌}
 use Rattle.std.specs.List.{AllByRecursion, flat_map}
 use Rattle.explain_air.specs.declared.notes.Notes.{Notes}
-use Rattle.explain_lines.specs.declared.places.PrbRun.{PrbRun}
-use Rattle.explain_lines.specs.declared.values.CellWord.{CellWord}
-use Rattle.explain_lines.specs.declared.values.ExplainLine.{ExplainLine}
-use Rattle.explain_lines.specs.declared.values.ExplainLine.TheVariants as line
-use Rattle.explain_reasons.specs.Seen.{ep_found, shows}
-use Rattle.reason_records.specs.declared.runs.CellRun.{CellRun}
-use Rattle.reason_sums.specs.Sums.{AreSums}
+use Rattle.explain_model.specs.declared.places.PrbRun.{PrbRun}
+use Rattle.explain_model.specs.declared.values.CellWord.{CellWord}
+use Rattle.explain_model.specs.declared.values.ExplainLine.{ExplainLine}
+use Rattle.explain_model.specs.declared.values.ExplainLine.TheVariants as line
+use Rattle.explain_model.specs.Seen.{ep_found, shows}
+use Rattle.explain_model.specs.declared.runs.CellRun.{CellRun}
+use Rattle.why_lines.specs.Sums.{AreSums}
 use Rattle.unit_model.specs.Meetings.{find_endpoint}
 use Rattle.window_config.specs.declared.endpoints.EndpointConfig.{EndpointConfig}
 

@@ -5,9 +5,9 @@ use Rattle.std.proofs.Common.{refl, sym, ap, subst, ◌∙◌}
 use Rattle.std.proofs.lemmas.List.Elements.{filter-append}
 use Rattle.std.proofs.lemmas.List.Concat.{flat_map-append}
 use Rattle.explain_air.specs.Outs.{AreSame, Took, kept_text}
-use Rattle.explain_lines.specs.Faults.{is_fault}
-use Rattle.explain_lines.specs.Lines.{line_text, lines_text}
-use Rattle.explain_lines.specs.declared.values.ExplainLine.{ExplainLine}
+use Rattle.explain_model.specs.Faults.{is_fault}
+use Rattle.explain_model.specs.Lines.{line_text, lines_text}
+use Rattle.explain_model.specs.declared.values.ExplainLine.{ExplainLine}
 use Rattle.explain_model.specs.Text.{kept}
 use Rattle.fh_base.specs.CarriedLaws.{carried_none, carried_more}
 use Rattle.fh_base.specs.Owed.{Carried}

@@ -2,8 +2,8 @@
 use Rattle.std.specs.Prelude.{◌≡◌, ℕ, Bool, List, [], ◌∷◌, ◌++◌, Option}
 use Rattle.std.specs.Borrow.{GName}
 use Rattle.explain_air.specs.declared.out.LineOut.{LineOut}
-use Rattle.explain_lines.specs.Lines.{lines_text}
-use Rattle.explain_lines.specs.declared.values.ExplainLine.{ExplainLine}
+use Rattle.explain_model.specs.Lines.{lines_text}
+use Rattle.explain_model.specs.declared.values.ExplainLine.{ExplainLine}
 use Rattle.explain_model.specs.Text.{kept}
 use Rattle.fh_base.specs.Told.{WritesFront}
 use Rattle.fh_base.specs.Owed.{Carried}

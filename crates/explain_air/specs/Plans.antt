@@ -2,7 +2,7 @@
 use Rattle.std.specs.Prelude.{◌<◌, ℕ, List, length}
 use Rattle.std.specs.List.{AllByRecursion}
 use Rattle.plan_model.specs.declared.lines.PlannedLine.{PlannedLine}
-use Rattle.silent_lines.specs.Silent.{IsSilentLine}
+use Rattle.why_lines.specs.Silent.{IsSilentLine}
 
 pub record NumberedLines : Type 0 where
   pub planned : List PlannedLine

@@ -2,7 +2,7 @@
 use Rattle.std.specs.Prelude.{Option}
 use Rattle.std.specs.Option.{option_map}
 use Rattle.explain_air.specs.declared.runs.RunLines.{RunLines}
-use Rattle.explain_kept.specs.Runs.{cells_of}
+use Rattle.explain_units.specs.Runs.{cells_of}
 use Rattle.explain_model.specs.Cells.{CellRun}
 
 -- as the lines of events speak of it

@@ -2,15 +2,15 @@
 ghost use Rattle.std.specs.Prelude.{◌≡◌, [], ◌∷◌, ◌++◌, OnOk, IfOk};
 ghost use Rattle.std.specs.List.{AllByRecursion};
 ghost use Rattle.explain_records.specs.Missing.{IsCellRun};
-ghost use Rattle.reason_records.specs.Keys.{run_key};
-ghost use Rattle.reason_records.specs.declared.keys.SymbolKey.{SymbolKey as SpecKey};
-ghost use Rattle.symbol_records.specs.Keys.{of_symbol};
+ghost use Rattle.explain_model.specs.Keys.{run_key};
+ghost use Rattle.explain_model.specs.declared.keys.SymbolKey.{SymbolKey as SpecKey};
+ghost use Rattle.explain_records.specs.Keys.{of_symbol};
 
+use explain_model::CellRun;
+use explain_records::{OrderedRecords, SymbolRecords};
 use fh_base::NoMemory;
-use reason_records::CellRun;
 use std::alloc::Global;
 use std::marker::Model;
-use symbol_records::{OrderedRecords, SymbolRecords};
 
 /// Runs of cells, in the order in which they were told. Contracts see them as the list of them.
 #[derive(Drop)]
@@ -22,7 +22,7 @@ impl Model for CellRuns {
     ghost use Rattle.std.specs.Prelude.{List};
     ghost use Rattle.std.specs.List.{AllByRecursion};
     ghost use Rattle.explain_records.specs.Missing.{IsCellRun};
-    ghost use Rattle.reason_records.specs.declared.runs.CellRun.{CellRun};
+    ghost use Rattle.explain_model.specs.declared.runs.CellRun.{CellRun};
 
     ghost Value = { List CellRun };
 

@@ -1,16 +1,16 @@
 // What stands before the events.
 ghost use Rattle.std.specs.Prelude.{◌≡◌, IfErr, OnOk};
 ghost use Rattle.air_source.specs.Causes.{HasAirCause};
-ghost use Rattle.explain_lines.specs.declared.values.ExplainLine.TheVariants as line;
+ghost use Rattle.explain_model.specs.declared.values.ExplainLine.TheVariants as line;
 ghost use Rattle.explain_model.specs.Text.{endpoint_lines, first_lines, window_lines};
-ghost use Rattle.line_runs.specs.Stops.{StopsInLine};
+ghost use Rattle.explain_heard.specs.Stops.{StopsInLine};
 ghost use Rattle.window_config.specs.Configs.{IsConfig};
 ghost use Rattle.window_config.specs.Limits.{IsWithinLimits};
 ghost use Rattle.window_config.specs.Windows.{cp_dl_of};
 
 use air_source::AirFault;
-use explain_lines::{ExplainLine, WindowName};
-use line_runs::LineSink;
+use explain_heard::LineSink;
+use explain_model::{ExplainLine, WindowName};
 use window_config::{Config, Delays, EndpointConfig, Range, command_window, cp_dl};
 
 /// The line of a window.

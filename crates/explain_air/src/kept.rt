@@ -7,17 +7,17 @@ ghost use Rattle.air_source.specs.declared.events.Event.TheVariants.{Arrival, Ce
 ghost use Rattle.air_source.specs.declared.events.Side.{Side as SpecSide};
 ghost use Rattle.explain_air.specs.Heard.{HasEnded, HasHeard, lines_at};
 ghost use Rattle.explain_air.specs.Notes.{HasNoted};
-ghost use Rattle.explain_growth.specs.Subjects.{Subject, added, ending};
+ghost use Rattle.explain_model.specs.Subjects.{Subject, added, ending};
 ghost use Rattle.explain_heard.specs.Heard.{all_heard};
-ghost use Rattle.explain_lines.specs.declared.values.ExplainLine.TheVariants as line;
+ghost use Rattle.explain_model.specs.declared.values.ExplainLine.TheVariants as line;
 ghost use Rattle.explain_model.specs.Cells.{word_of};
 ghost use Rattle.explain_model.specs.Stories.{arrival_count, stories, told};
 ghost use Rattle.explain_units.specs.Fit.{IsFit};
 ghost use Rattle.explain_units.specs.Units.{IsUnitAfter, frame_lines, judged_next};
-ghost use Rattle.heard_records.specs.Records.{HaveHeard};
+ghost use Rattle.explain_records.specs.Records.{HaveHeard};
 ghost use Rattle.plan_model.specs.Lines.{planned};
 ghost use Rattle.window_config.specs.declared.config.Config.{Config as SpecConfig};
-ghost use Rattle.line_runs.specs.Stops.{StopsSome};
+ghost use Rattle.explain_heard.specs.Stops.{StopsSome};
 ghost use Rattle.window_config.specs.Configs.{IsConfig};
 
 use crate::closing::tell_last;
@@ -25,12 +25,11 @@ use crate::notes::{Notes, Noting};
 use crate::plan::PlanLines;
 use crate::runs::RunLines;
 use air_source::{AirCell, AirFault, Side};
-use explain_lines::{CellWord, ExplainLine};
+use explain_heard::LineSink;
+use explain_model::{CellWord, ExplainLine};
+use explain_records::HeardRecords;
 use explain_units::UnitLines;
-use fh_base::NoMemory;
-use fh_time::Ticks;
-use heard_records::HeardRecords;
-use line_runs::LineSink;
+use fh_base::{NoMemory, Ticks};
 use std::alloc::Global;
 use window_config::Config;
 

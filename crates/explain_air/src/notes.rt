@@ -4,17 +4,16 @@ ghost use Rattle.std.proofs.Common.{inl, inr};
 ghost use Rattle.air_source.specs.Causes.{HasAirCause};
 ghost use Rattle.explain_air.specs.NoteLaws.{noted_more, noted_none};
 ghost use Rattle.explain_air.specs.Notes.{AreNotes, HasNoted, run_of_line};
-ghost use Rattle.explain_reasons.specs.Seen.{ep_found};
+ghost use Rattle.explain_model.specs.Seen.{ep_found};
 ghost use Rattle.unit_model.specs.Meetings.{find_endpoint};
 
 use crate::cells::CellRuns;
 use air_source::AirFault;
-use explain_lines::{CellWord, ExplainLine, PrbRun};
+use explain_heard::LineSink;
+use explain_model::{CellRun, CellWord, ExplainLine, PrbRun};
 use fh_base::NoMemory;
-use line_runs::LineSink;
-use reason_records::CellRun;
-use reason_sums::ReasonSums;
 use std::alloc::Global;
+use why_lines::ReasonSums;
 use window_config::{Config, EndpointConfig};
 
 /// What is noted of the lines that are told.

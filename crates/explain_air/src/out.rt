@@ -5,9 +5,9 @@ ghost use Rattle.explain_air.specs.Outs.{AreSame, Took, kept_text, owed_of, sink
 ghost use Rattle.fh_base.specs.Told.{WritesPart};
 
 use air_source::{AirFault, tell};
-use explain_lines::{ExplainLine, is_fault, put_line};
+use explain_heard::LineSink;
+use explain_model::{ExplainLine, is_fault, put_line};
 use fh_base::{Line, OwedBytes, Sink};
-use line_runs::LineSink;
 
 /// Takes lines to a sink: all, or those of the text of the faults alone. What does not fill a buffer is owed to the sink.
 #[derive(Drop)]

@@ -1,7 +1,7 @@
 // The lines of a plan, with their numbers in the document.
 ghost use Rattle.std.specs.Prelude.{◌≡◌, ◌<◌, length};
 ghost use Rattle.std.specs.List.{AllByRecursion};
-ghost use Rattle.silent_lines.specs.Silent.{IsSilentLine};
+ghost use Rattle.why_lines.specs.Silent.{IsSilentLine};
 
 use plan_model::PlannedLine;
 use std::marker::Model;

@@ -3,16 +3,16 @@ ghost use Rattle.std.specs.Prelude.{◌≡◌, ◌+◌, [], ◌∷◌, ◌++◌,
 ghost use Rattle.air_source.specs.Causes.{HasAirCause};
 ghost use Rattle.explain_air.specs.Notes.{HasNoted};
 ghost use Rattle.explain_air.specs.Runs.{open_of};
-ghost use Rattle.explain_kept.specs.Runs.{cells_of};
-ghost use Rattle.explain_lines.specs.declared.values.ExplainLine.TheVariants as line;
+ghost use Rattle.explain_units.specs.Runs.{cells_of};
+ghost use Rattle.explain_model.specs.declared.values.ExplainLine.TheVariants as line;
 ghost use Rattle.explain_model.specs.Cells.{closing, longer, run_lines, run_with};
-ghost use Rattle.line_runs.specs.Stops.{StopsSome};
+ghost use Rattle.explain_heard.specs.Stops.{StopsSome};
 
 use crate::notes::{Notes, note_and_put};
 use air_source::{AirCell, AirFault};
-use explain_kept::OpenRun;
-use explain_lines::{CellWord, ExplainLine};
-use line_runs::LineSink;
+use explain_heard::LineSink;
+use explain_model::{CellWord, ExplainLine};
+use explain_units::OpenRun;
 
 /// The run of cells that may go on, and what is noted of the lines before it.
 #[derive(Drop)]

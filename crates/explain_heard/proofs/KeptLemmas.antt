@@ -7,11 +7,11 @@ use Rattle.std.specs.Prelude.{Option, length}
 use Rattle.ecpri_fragments.specs.Pieces.{joined}
 use Rattle.ecpri_fragments.specs.Verdicts.{Message as Whole}
 use Rattle.explain_heard.specs.Heard.{first_four}
-use Rattle.explain_lines.specs.declared.values.WholeAnswer.{WholeAnswer}
-use Rattle.explain_lines.specs.declared.values.WholeLine.{WholeLine}
+use Rattle.explain_model.specs.declared.values.WholeAnswer.{WholeAnswer}
+use Rattle.explain_model.specs.declared.values.WholeLine.{WholeLine}
 use Rattle.explain_model.specs.Sections.{symbol_named, whole_line as model_line}
-use Rattle.fh_time.specs.declared.numerology.Numerology.{Numerology}
-use Rattle.fh_time.specs.declared.values.Slot.{Slot}
+use Rattle.fh_base.specs.declared.numerology.Numerology.{Numerology}
+use Rattle.fh_base.specs.declared.values.Slot.{Slot}
 use Rattle.explain_heard.specs.Built.{whole_line}
 use Rattle.explain_heard.specs.Named.{named_in}
 use Rattle.window_config.specs.declared.endpoints.EndpointConfig.{EndpointConfig}

@@ -1,2 +1,5 @@
 pub mod JoinLemmas
 pub mod KeptLemmas
+pub mod RunLemmas
+pub mod PutLemmas
+pub mod MapLemmas

@@ -7,18 +7,18 @@ use Rattle.explain_heard.specs.declared.heard.MessageHeard.{MessageHeard}
 use Rattle.explain_heard.specs.declared.heard.MessageWord.{MessageWord}
 use Rattle.explain_heard.specs.declared.heard.MessageWord.TheVariants as word
 use Rattle.explain_heard.specs.declared.heard.WholeHeard.{WholeHeard}
-use Rattle.explain_lines.specs.declared.places.Clash.{Clash}
-use Rattle.explain_lines.specs.declared.places.MessagePlace.{MessagePlace}
-use Rattle.explain_lines.specs.declared.values.ControlLine.{ControlLine}
-use Rattle.explain_lines.specs.declared.values.DataLine.{DataLine}
-use Rattle.explain_lines.specs.declared.values.ExplainLine.{ExplainLine}
-use Rattle.explain_lines.specs.declared.values.ExplainLine.TheVariants as line
-use Rattle.explain_lines.specs.declared.values.WholeLine.{WholeLine}
+use Rattle.explain_model.specs.declared.places.Clash.{Clash}
+use Rattle.explain_model.specs.declared.places.MessagePlace.{MessagePlace}
+use Rattle.explain_model.specs.declared.values.ControlLine.{ControlLine}
+use Rattle.explain_model.specs.declared.values.DataLine.{DataLine}
+use Rattle.explain_model.specs.declared.values.ExplainLine.{ExplainLine}
+use Rattle.explain_model.specs.declared.values.ExplainLine.TheVariants as line
+use Rattle.explain_model.specs.declared.values.WholeLine.{WholeLine}
 use Rattle.explain_model.specs.Judged.{first_given, given_count}
 use Rattle.explain_model.specs.Sections.{control_place, data_place}
 use Rattle.explain_model.specs.Timings.{control_timing, data_timing}
 use Rattle.explain_heard.specs.Named.{whole_named}
-use Rattle.unit_cells.specs.declared.heading.DataHeading.{DataHeading}
+use Rattle.unit_model.specs.declared.heading.DataHeading.{DataHeading}
 use Rattle.unit_model.specs.Commands.{is_idle}
 use Rattle.unit_model.specs.declared.decoded.ControlSection.{ControlSection}
 use Rattle.unit_model.specs.declared.verdicts.CommandVerdict.{CommandVerdict}

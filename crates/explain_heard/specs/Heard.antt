@@ -12,10 +12,10 @@ use Rattle.explain_heard.specs.declared.heard.Heard.{Heard}
 use Rattle.explain_heard.specs.declared.heard.Heard.TheVariants as kept
 use Rattle.explain_heard.specs.declared.heard.MessageWord.{MessageWord}
 use Rattle.explain_heard.specs.declared.heard.MessageWord.TheVariants as word
-use Rattle.explain_lines.specs.declared.values.WholeAnswer.{WholeAnswer}
-use Rattle.explain_lines.specs.declared.values.WholeAnswer.TheVariants as answer
+use Rattle.explain_model.specs.declared.values.WholeAnswer.{WholeAnswer}
+use Rattle.explain_model.specs.declared.values.WholeAnswer.TheVariants as answer
 use Rattle.explain_model.specs.Messages.{command_answer}
-use Rattle.unit_memory.specs.Judgements.{Judgement, Met, Commanded, Fragmented, Unread, Turned, Given}
+use Rattle.unit_model.specs.Judgements.{Judgement, Met, Commanded, Fragmented, Unread, Turned, Given}
 use Rattle.unit_model.specs.Meetings.{find_endpoint}
 use Rattle.window_config.specs.declared.endpoints.EndpointConfig.{EndpointConfig}
 

@@ -4,7 +4,7 @@ use Rattle.std.proofs.Common.{refl, sym, ap, subst, ◌∙◌, append-nil, appen
 use Rattle.air_source.specs.declared.events.Side.{Side}
 use Rattle.explain_heard.specs.Heard.{HearsAll, Keeps, all_heard, heard_of}
 use Rattle.explain_heard.specs.declared.heard.Heard.{Heard}
-use Rattle.unit_memory.specs.Judgements.{Judgement}
+use Rattle.unit_model.specs.Judgements.{Judgement}
 use Rattle.window_config.specs.declared.endpoints.EndpointConfig.{EndpointConfig}
 
 all_both : (side : Side) (es : List EndpointConfig) (first second : List Judgement) → all_heard side es (first ++ second) ≡ all_heard side es first ++ all_heard side es second

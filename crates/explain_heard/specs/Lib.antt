@@ -2,3 +2,5 @@ pub mod Heard
 pub mod Laws
 pub mod Named
 pub mod Built
+pub mod Runs
+pub mod Stops

@@ -2,8 +2,8 @@
 use Rattle.std.specs.Prelude.{ℕ, ℤ, List, nat_lt, if◌then◌else◌, Option, None}
 use Rattle.explain_heard.specs.declared.heard.WholeHeard.{WholeHeard}
 use Rattle.explain_model.specs.Sections.{symbol_named}
-use Rattle.fh_time.specs.declared.numerology.Numerology.{Numerology}
-use Rattle.fh_time.specs.declared.values.Slot.{Slot}
+use Rattle.fh_base.specs.declared.numerology.Numerology.{Numerology}
+use Rattle.fh_base.specs.declared.values.Slot.{Slot}
 
 -- of a message of so many bytes
 abbrev pub named_in : Numerology → ℕ → List ℕ → ℤ → Option (Slot × ℕ)

@@ -2,7 +2,7 @@
 ghost use Rattle.std.specs.Prelude.{◌≡◌};
 ghost use Rattle.explain_model.specs.Sections.{control_place, data_place};
 ghost use Rattle.explain_heard.specs.Built.{control_with, data_with, fragment_line, line_of_message, placed, whole_line};
-ghost use Rattle.unit_cells.specs.Headings.{IsSoundHeading};
+ghost use Rattle.unit_model.specs.Headings.{IsSoundHeading};
 ghost use Rattle.unit_model.specs.Commands.{is_idle};
 ghost use Rattle.unit_model.specs.Proper.{IsTime};
 ghost use Rattle.unit_model.specs.Sound.{IsSoundCommand};
@@ -14,11 +14,10 @@ use crate::{FragmentHeard, MessageHeard, MessageWord, WholeHeard};
 use air_source::Side;
 use cplane_sections::CBody;
 use ecpri_fragments::SeqField;
-use explain_lines::{
+use explain_model::{
     Clash, ControlLine, DataLine, ExplainLine, MessagePlace, SymbolPlace, WholeLine,
 };
-use unit_cells::DataHeading;
-use unit_model::{CommandVerdict, ControlSection, DataVerdict, allocation_of};
+use unit_model::{CommandVerdict, ControlSection, DataHeading, DataVerdict, allocation_of};
 use window_config::Delays;
 
 fn placed(number: u32, id: u16, place: usize, seq: SeqField) -> MessagePlace

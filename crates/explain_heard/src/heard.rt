@@ -2,10 +2,9 @@
 
 use air_source::Side;
 use ecpri_fragments::{SeqField, Verdict};
-use explain_lines::{CommandAnswer, WholeAnswer};
-use fh_time::Ticks;
-use unit_cells::DataHeading;
-use unit_model::{CommandVerdict, ControlSection, DataVerdict};
+use explain_model::{CommandAnswer, WholeAnswer};
+use fh_base::Ticks;
+use unit_model::{CommandVerdict, ControlSection, DataHeading, DataVerdict};
 use window_config::EndpointConfig;
 
 /// What a whole message of a frame is to its unit.

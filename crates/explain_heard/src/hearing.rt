@@ -12,13 +12,10 @@ use crate::words::message_word;
 use air_source::Side;
 use ecpri_fragments::{Lease, SeqField, Verdict};
 use ecpri_frames::WholeMessage;
-use explain_lines::WholeAnswer;
-use fh_base::NoMemory;
-use fh_time::Ticks;
+use explain_model::WholeAnswer;
+use fh_base::{NoMemory, Ticks};
 use std::alloc::Global;
-use unit_cells::DataHeading;
-use unit_memory::Listener;
-use unit_model::{CommandVerdict, ControlSection, DataVerdict};
+use unit_model::{CommandVerdict, ControlSection, DataHeading, DataVerdict, Listener};
 use uplane_sections::URefusal;
 use window_config::{Config, EndpointConfig};
 

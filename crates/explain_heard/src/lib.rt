@@ -3,18 +3,29 @@
 //! A [`Hearing`] cannot fail: where memory is refused it notes that and keeps no more, and what it has then says nothing. The lines of
 //! these values are made here too, but for what they say of earlier ones: which section an overlapping one clashes with, and how many
 //! PRBs had no block before, are given to them.
+//!
+//! One line for each run of items, told to whatever takes lines.
+//!
+//! [`LineRuns`] is given items one by one. It holds the run that is open, and tells its line to a [`LineSink`] when an item comes that
+//! does not go on with it, or at the end. What the items and the lines are is said by [`RunItem`].
 #![tactic(auto)]
 
 mod building;
 mod heard;
 mod hearing;
+mod items;
 mod naming;
 mod pieces;
+mod runs;
+mod sinks;
 mod timings;
 mod words;
 
 pub use building::{control_line, data_line, fragment_line, message_line, whole_line};
 pub use heard::{FragmentHeard, Heard, MessageHeard, MessageWord, WholeHeard};
 pub use hearing::Hearing;
+pub use items::RunItem;
 pub use naming::{symbol_named, whole_symbol};
+pub use runs::LineRuns;
+pub use sinks::LineSink;
 pub use timings::{control_timing, data_timing, heading_slot};

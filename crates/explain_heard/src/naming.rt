@@ -6,7 +6,7 @@ ghost use Rattle.unit_model.specs.Proper.{IsTime};
 ghost use Rattle.uplane_sections.specs.Header.{payloadVersion};
 
 use crate::WholeHeard;
-use fh_time::{Numerology, Slot, Ticks, resolve, shape};
+use fh_base::{Numerology, Slot, Ticks, resolve, shape};
 use uplane_sections::read_head;
 
 // Whether a header is of version 1.

@@ -1,7 +1,7 @@
 // How far a section is from the two ends of its window.
 ghost use Rattle.std.specs.Prelude.{◌≡◌, pos, neg_ℤ, ◌^◌, ◌≤ℤ◌, ◌-ℤ◌};
 ghost use Rattle.explain_model.specs.Timings.{whole_ns, opens, closes, timing_by, control_timing, window_at, bare, heading_slot, data_timing};
-ghost use Rattle.unit_cells.specs.Headings.{IsSoundHeading};
+ghost use Rattle.unit_model.specs.Headings.{IsSoundHeading};
 ghost use Rattle.unit_model.specs.Commands.{command_slot, command_start};
 ghost use Rattle.unit_model.specs.Blocks.{data_start};
 ghost use Rattle.unit_model.specs.Proper.{IsSlot, IsTime};
@@ -9,10 +9,9 @@ ghost use Rattle.unit_model.specs.Sound.{IsSoundCommand};
 ghost use Rattle.window_config.specs.Limits.{IsWindow, IsWithinLimits};
 
 use air_source::Side;
-use explain_lines::Timing;
-use fh_time::{NANOSECOND, Slot, Ticks, air, of_ns, resolve};
-use unit_cells::DataHeading;
-use unit_model::{ControlSection, allocation_of};
+use explain_model::Timing;
+use fh_base::{NANOSECOND, Slot, Ticks, air, of_ns, resolve};
+use unit_model::{ControlSection, DataHeading, allocation_of};
 use window_config::{Delays, Range, command_window, data_window};
 
 // When a window opens for a symbol that starts then.

@@ -11,8 +11,8 @@ use air_source::Side;
 use cplane_sections::check;
 use ecpri_fragments::{SeqField, read_seq};
 use ecpri_frames::{IQ_DATA, ONE_WAY_DELAY, REAL_TIME_CONTROL, WholeMessage};
-use explain_lines::CommandAnswer;
-use fh_time::shape;
+use explain_model::CommandAnswer;
+use fh_base::shape;
 use window_config::EndpointConfig;
 
 /// The eAxC id of a payload.

@@ -1,11 +1,10 @@
 -- An accepted section stands among all that the radio unit decoded, and each of its elements stays claimed.
-use Rattle.std.proofs.Common.{◌≡◌, ℕ, ◌<◌, Bool, true, List, [], ◌∷◌, ◌++◌, refl, sym, ap, ◌∙◌, subst, inl, inr}
-use Rattle.std.specs.Prelude.{if◌then◌else◌, Some}
+use Rattle.std.proofs.Common.{◌≡◌, ℕ, ◌<◌, true, List, [], ◌∷◌, ◌++◌, refl, sym, ap, ◌∙◌, subst, inl, inr}
+use Rattle.std.specs.Prelude.{Some}
 use Rattle.air_source.specs.Units.{same_side}
 use Rattle.air_source.specs.declared.events.Event.{Event}
 use Rattle.air_source.specs.declared.events.Side.{Side}
 use Rattle.air_source.specs.declared.events.Side.TheVariants.{Ru}
-use Rattle.fragment_laws.specs.Apart.{IsIn}
 use Rattle.window_config.specs.declared.config.Config.{Config}
 use Rattle.window_config.specs.declared.delays.Delays.{Delays}
 use Rattle.unit_model.specs.Claims.{claim_at, claim_of, names}
@@ -17,15 +16,17 @@ use Rattle.unit_model.specs.declared.decoded.ControlSection.{ControlSection}
 use Rattle.unit_model.specs.declared.verdicts.CommandVerdict.{CommandVerdict}
 use Rattle.unit_model.specs.declared.verdicts.CommandVerdict.TheVariants.{Accepted}
 use Rattle.unit_laws.proofs.ChangeLemmas.{accepted-cons, claim_stays}
-use Rattle.unit_memory.specs.Judgements.{Commanded, Judgement}
-use Rattle.plan_model.proofs.ListLemmas.{in_filter}
+use Rattle.unit_model.specs.Judgements.{Commanded, Judgement}
 use Rattle.unit_model.specs.Heard.{arrivals_heard}
 use Rattle.explain_model.specs.Stories.{Story, stories}
-use Rattle.reason_laws.specs.Decoded.{CommandedSection, commanded_in, commanded_sections, judged_of, of_unit}
-use Rattle.reason_laws.proofs.DecodedLemmas.{are_decoded}
-use Rattle.reason_laws.proofs.StoryLemmas.{are_judged}
+use Rattle.explain_laws.specs.Decoded.{CommandedSection, commanded_in, commanded_sections, judged_of, of_unit}
+use Rattle.explain_laws.proofs.DecodedLemmas.{are_decoded}
+use Rattle.explain_laws.proofs.StoryLemmas.{are_judged}
 use Rattle.explain_laws.specs.Silent.{IsAccepted}
 use Rattle.explain_laws.proofs.ListLemmas.{in_both, in_some}
+use Rattle.fh_base.specs.Members.{IsIn}
+use Rattle.fh_base.proofs.MemberLemmas.{in_filter}
+use Rattle.replay_laws.proofs.GivenLemmas.{claim_named as named_claim}
 
 -- it was accepted over what these left that came before it
 pub record Stands (d : Delays) (cs : List ControlSection) (k : ControlSection) : Type 0 where
@@ -77,10 +78,6 @@ accepted_stands c events k h =
     stands c.delays k (commands_of Ru c arrivals) commanded
 
 -- ---- its claims
-
-named_claim : (a : Allocation) (xs : List Allocation) (cell : Cell) (re : ℕ) → names a cell re ≡ true → claim_at (a ∷ xs) cell re ≡ Some (claim_of a)
-unfolding claim_at
-named_claim a xs cell re named = ap (λ (b : Bool). if b then Some (claim_of a) else claim_at xs cell re) named
 
 pub stays_claimed : (d : Delays) (cs : List ControlSection) (k : ControlSection) (cell : Cell) (re : ℕ) → Stands d cs k → re < 12 → names (allocation_of k) cell re ≡ true
     → claim_at (accepted d cs) cell re ≡ Some (claim_of (allocation_of k))

@@ -5,8 +5,8 @@ use Rattle.std.specs.Prelude.{◌==◌, ◌||◌, not, nat_lt, if◌then◌else�
 use Rattle.std.specs.List.{AllByRecursion, flat_map}
 use Rattle.std.proofs.lemmas.Bool.{and_parts}
 use Rattle.std.proofs.lemmas.Grind.{flat_map-append}
-use Rattle.fh_time.specs.Numbering.{shape_of}
-use Rattle.fh_time.specs.declared.values.Ticks.{Ticks}
+use Rattle.fh_base.specs.Numbering.{shape_of}
+use Rattle.fh_base.specs.declared.values.Ticks.{Ticks}
 use Rattle.cplane_sections.specs.Tests.{checked}
 use Rattle.cplane_sections.specs.declared.values.CHead.{CHead}
 use Rattle.cplane_sections.specs.declared.values.CRefusal.{CRefusal}
@@ -33,22 +33,21 @@ use Rattle.unit_model.specs.Blocks.{data_verdicts}
 use Rattle.unit_model.specs.Commands.{command_verdicts}
 use Rattle.unit_model.specs.Counts.{block_counter, cells_counted, frames_counted, messages_counted}
 use Rattle.unit_model.specs.Decoding.{Backwards, Decoded, Refused, Sections, data_sections, decode_message}
-use Rattle.unit_model.specs.Lists.{onto}
+use Rattle.fh_base.specs.Lists.{onto}
 use Rattle.unit_model.specs.Meetings.{Arrival, Meeting, Ignored, Commands, Piece, command_read, commands, control_met, find_endpoint, fragments, meet, meetings, met_by}
 use Rattle.unit_model.specs.Reports.{arrivals_counted, hold_of, met}
 use Rattle.unit_model.specs.Terms.{URefusal}
 use Rattle.unit_model.specs.declared.decoded.ControlSection.{ControlSection}
 use Rattle.unit_model.specs.declared.decoded.UserSection.{UserSection}
 use Rattle.unit_model.proofs.CountLemmas.{times-append}
-use Rattle.unit_memory.specs.Judgements.{Judgement, Met, Commanded, Fragmented, Unread, Turned, Given, judged_by, judged_commands, judged_data, judged_decoded, judged_in, judged_meeting, judged_now, judged_whole}
-use Rattle.judged_laws.specs.Counted.{ignored_counted, judged_counted, judgement_counted}
-use Rattle.judged_laws.proofs.CountedLemmas.{are_counted}
+use Rattle.unit_model.specs.Judgements.{Judgement, Met, Commanded, Fragmented, Unread, Turned, Given, judged_by, judged_commands, judged_data, judged_decoded, judged_in, judged_meeting, judged_now, judged_whole}
+use Rattle.explain_laws.specs.JudgedCounted.{ignored_counted, judged_counted, judgement_counted}
+use Rattle.explain_laws.proofs.CountedLemmas.{are_counted}
 use Rattle.unit_model.specs.Heard.{arrivals_heard, cells_heard, is_of}
-use Rattle.unit_laws.proofs.HeardLemmas.{arrivals-append}
-use Rattle.explain_lines.specs.declared.values.CellWord.{CellWord}
-use Rattle.explain_lines.specs.declared.values.CellWord.TheVariants.{Shown, Missing}
-use Rattle.explain_lines.specs.declared.values.ExplainLine.{ExplainLine}
-use Rattle.explain_lines.specs.declared.values.ExplainLine.TheVariants as line
+use Rattle.explain_model.specs.declared.values.CellWord.{CellWord}
+use Rattle.explain_model.specs.declared.values.CellWord.TheVariants.{Shown, Missing}
+use Rattle.explain_model.specs.declared.values.ExplainLine.{ExplainLine}
+use Rattle.explain_model.specs.declared.values.ExplainLine.TheVariants as line
 use Rattle.explain_model.specs.Cells.{Entry, Lines, Of, entries, entries_after, entry_of, lines_in, piece_lines, run_from, runs_on, same_symbol, same_word, word_by}
 use Rattle.explain_model.specs.Judged.{judged_before}
 use Rattle.explain_model.specs.Messages.{answer_by, command_answer, line_to, message_lines}
@@ -59,7 +58,8 @@ use Rattle.explain_model.proofs.MarginLemmas.{lines_both}
 use Rattle.explain_model.proofs.PieceLemmas.{are_pieces}
 use Rattle.explain_laws.specs.Counted.{WordsAreCounted, answer_words, cell_counter, delay_count, here_after, is_of_unit, of_unit, word_count, words}
 use Rattle.explain_laws.proofs.EachLemmas.{IsInner, judged_inner}
-use Rattle.explain_laws.proofs.LineLemmas.{all_both}
+use Rattle.unit_model.proofs.ArrivalLemmas.{arrivals-append}
+use Rattle.fh_base.proofs.MemberLemmas.{all_join as all_both}
 
 module _ (side : Side) (k : Counter) where
   -- ---- the words of some lines of the unit

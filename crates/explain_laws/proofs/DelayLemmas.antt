@@ -14,7 +14,7 @@ use Rattle.delay_measure.specs.Table.{after_message}
 use Rattle.delay_measure.specs.declared.states.Exchange.{Exchange}
 use Rattle.delay_measure.specs.declared.steps.MeterStep.{MeterStep}
 use Rattle.delay_measure.specs.declared.steps.MeterStep.TheVariants.{Send, SendTwo, SendResult, Result as ResultAlone, Again, Noted, Repeat, Unknown}
-use Rattle.document_delays.specs.Settings.{setting_of}
+use Rattle.document_traffic.specs.Settings.{setting_of}
 use Rattle.ecpri_frames.specs.Gathering.{whole_messages}
 use Rattle.ecpri_frames.specs.Messages.{Message, pdu}
 use Rattle.ecpri_frames.specs.declared.refusals.PduRefusal.{PduRefusal}
@@ -28,12 +28,12 @@ use Rattle.air_source.specs.declared.events.Event.TheVariants as event
 use Rattle.air_source.specs.declared.events.Side.{Side}
 use Rattle.air_source.specs.declared.events.Side.TheVariants.{Ru, Du}
 use Rattle.window_config.specs.declared.config.Config.{Config}
-use Rattle.measured_traffic.specs.Doings.{counted_by, counted_then}
-use Rattle.measured_traffic.specs.Exchanged.{counted_of, delays_counted, is_delay_event, is_short, short_counted, shorts_of}
-use Rattle.measured_traffic.specs.Measured.{exchanges, others_of}
-use Rattle.measured_traffic.specs.Replayed.{landings_for, traffic_of}
-use Rattle.measured_traffic.proofs.CountedLemmas.{counters_have_counted}
-use Rattle.measured_traffic.proofs.ExchangedLemmas.{delay_events_are_known}
+use Rattle.document_traffic.specs.Doings.{counted_by, counted_then}
+use Rattle.document_traffic.specs.Exchanged.{counted_of, delays_counted, is_delay_event, is_short, short_counted, shorts_of}
+use Rattle.document_traffic.specs.Measured.{exchanges, others_of}
+use Rattle.document_traffic.specs.Replayed.{landings_for, traffic_of}
+use Rattle.document_traffic.proofs.CountedLemmas.{counters_have_counted}
+use Rattle.document_traffic.proofs.ExchangedLemmas.{delay_events_are_known}
 use Rattle.unit_model.specs.Counts.{block_counter, cells_counted, command_counter, data_counter, fragment_counter, refusal_counted}
 use Rattle.unit_model.specs.Meetings.{Arrival}
 use Rattle.unit_model.specs.Reports.{arrivals_counted, met}
@@ -44,17 +44,17 @@ use Rattle.unit_model.specs.declared.verdicts.DataVerdict.TheVariants as user
 use Rattle.ecpri_fragments.specs.declared.verdict.Verdict.{Verdict}
 use Rattle.ecpri_fragments.specs.declared.verdict.Verdict.TheVariants as fragment
 use Rattle.unit_model.proofs.CountLemmas.{times-append}
-use Rattle.unit_memory.specs.Judgements.{judgements}
-use Rattle.judged_laws.proofs.CountedLemmas.{are_counted}
+use Rattle.unit_model.specs.Judgements.{judgements}
+use Rattle.explain_laws.proofs.CountedLemmas.{are_counted}
 use Rattle.replay_laws.specs.Events.{events}
 use Rattle.unit_model.specs.Heard.{arrivals_heard, cells_heard}
 use Rattle.replay_laws.specs.Moments.{all_arrivals}
-use Rattle.explain_lines.specs.declared.values.CommandAnswer.{CommandAnswer}
-use Rattle.explain_lines.specs.declared.values.CommandAnswer.TheVariants as answer
-use Rattle.explain_lines.specs.declared.values.ExplainLine.{ExplainLine}
-use Rattle.explain_lines.specs.declared.values.ExplainLine.TheVariants as line
-use Rattle.explain_lines.specs.declared.values.WholeAnswer.{WholeAnswer}
-use Rattle.explain_lines.specs.declared.values.WholeAnswer.TheVariants as whole
+use Rattle.explain_model.specs.declared.values.CommandAnswer.{CommandAnswer}
+use Rattle.explain_model.specs.declared.values.CommandAnswer.TheVariants as answer
+use Rattle.explain_model.specs.declared.values.ExplainLine.{ExplainLine}
+use Rattle.explain_model.specs.declared.values.ExplainLine.TheVariants as line
+use Rattle.explain_model.specs.declared.values.WholeAnswer.{WholeAnswer}
+use Rattle.explain_model.specs.declared.values.WholeAnswer.TheVariants as whole
 use Rattle.explain_model.specs.Cells.{event_lines}
 use Rattle.explain_model.specs.Sections.{judged_lines}
 use Rattle.explain_laws.specs.Counted.{answer_words, delay_count, whole_word, word_count, words}

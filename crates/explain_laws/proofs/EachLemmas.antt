@@ -4,7 +4,7 @@ use Rattle.std.specs.Prelude.{◌==◌, ◌||◌, not, nat_lt, cond, if◌then�
 use Rattle.std.specs.List.{AllByRecursion, flat_map}
 use Rattle.std.proofs.lemmas.List.Elements.{filter-append}
 use Rattle.std.proofs.lemmas.Grind.{flat_map-append}
-use Rattle.fh_time.specs.Numbering.{shape_of}
+use Rattle.fh_base.specs.Numbering.{shape_of}
 use Rattle.cplane_sections.specs.Tests.{checked}
 use Rattle.cplane_sections.specs.declared.values.CHead.{CHead}
 use Rattle.cplane_sections.specs.declared.values.CRefusal.{CRefusal}
@@ -18,9 +18,9 @@ use Rattle.air_source.specs.declared.events.Side.TheVariants.{Ru, Du}
 use Rattle.window_config.specs.declared.config.Config.{Config}
 use Rattle.window_config.specs.declared.endpoints.EndpointConfig.{EndpointConfig}
 use Rattle.unit_model.specs.Meetings.{Meeting, Ignored, command_read, control_met, find_endpoint, meet, met_by}
-use Rattle.unit_memory.specs.Judgements.{Judgement, Met, Commanded, Fragmented, Unread, Turned, Given}
-use Rattle.explain_lines.specs.declared.values.ExplainLine.{ExplainLine}
-use Rattle.explain_lines.specs.declared.values.ExplainLine.TheVariants as line
+use Rattle.unit_model.specs.Judgements.{Judgement, Met, Commanded, Fragmented, Unread, Turned, Given}
+use Rattle.explain_model.specs.declared.values.ExplainLine.{ExplainLine}
+use Rattle.explain_model.specs.declared.values.ExplainLine.TheVariants as line
 use Rattle.explain_model.specs.Cells.{Entry, Lines, Of, entries, entries_after, lines_in, piece_lines, runs_on}
 use Rattle.explain_model.specs.Judged.{judged_before}
 use Rattle.explain_model.specs.Messages.{line_to, message_lines}
@@ -29,7 +29,8 @@ use Rattle.explain_model.specs.Sections.{control_line, data_line, frame_line, ju
 use Rattle.explain_model.specs.Stories.{Story, Told, Came, Cell, Delay, Count, stories, stories_in, told}
 use Rattle.explain_model.proofs.PieceLemmas.{are_pieces}
 use Rattle.explain_laws.specs.Each.{AreArrivals, EachJudgedHasOneLine, OneEach, has_line, is_arrival_line, is_piece}
-use Rattle.explain_laws.proofs.LineLemmas.{all_both, all_if}
+use Rattle.fh_base.proofs.MemberLemmas.{all_join as all_both}
+use Rattle.fh_base.proofs.CommonLemmas.{all_if}
 
 -- ---- one judgement
 

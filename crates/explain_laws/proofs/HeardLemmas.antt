@@ -1,24 +1,15 @@
 -- Each element that an accepted section names is in use in a cell that the radio unit reported.
-use Rattle.std.proofs.Common.{◌≡◌, ℕ, ℤ, pos, zero, suc, ◌+◌, ◌*◌, ◌<◌, ◌+ℤ◌, ◌-ℤ◌, ◌*ℤ◌, ◌≤ℤ◌, ◌<ℤ◌, true, false, List, [], ◌∷◌, ◌++◌, refl, sym, ap, ◌∙◌, subst, arith}
+use Rattle.std.proofs.Common.{◌≡◌, ℕ, ℤ, pos, zero, suc, ◌+◌, ◌<◌, ◌+ℤ◌, ◌-ℤ◌, ◌≤ℤ◌, ◌<ℤ◌, true, false, List, [], ◌∷◌, ◌++◌, refl, sym, ap, ◌∙◌, subst, arith}
 use Rattle.std.specs.Prelude.{All, not, Some, None, Option}
 use Rattle.std.proofs.lemmas.Bool.{and_parts}
 use Rattle.std.proofs.lemmas.Int.{by_lt_z, ints}
 use Rattle.std.proofs.lemmas.List.Elements.{All-append, All-head, All-nil, All-tail, All-weaker}
-use Rattle.fh_time.specs.Air.{air_of}
-use Rattle.fh_time.specs.Kinds.{kind_start}
-use Rattle.fh_time.specs.declared.frames.TheConstants.{FRAME}
-use Rattle.fh_time.specs.declared.nanoseconds.TheConstants.{NANOSECOND}
-use Rattle.fh_time.specs.declared.symbols.TheConstants.{SUBFRAME}
-use Rattle.fh_time.specs.declared.values.Slot.{Slot}
-use Rattle.fh_time.proofs.Euclid.{frame_floor}
-use Rattle.fh_time.proofs.Kept.{offsets_short}
+use Rattle.fh_base.specs.Air.{air_of}
+use Rattle.fh_base.specs.declared.values.Slot.{Slot}
+use Rattle.fh_base.proofs.Kept.{offsets_short}
 use Rattle.air_source.specs.declared.events.Side.TheVariants.{Ru}
 use Rattle.window_config.specs.Configs.{IsConfig}
-use Rattle.window_config.specs.Limits.{IsWithinLimits}
-use Rattle.window_config.specs.Rings.{ru_reach_of}
 use Rattle.window_config.specs.declared.config.Config.{Config}
-use Rattle.window_config.specs.declared.delays.Delays.{Delays}
-use Rattle.window_config.specs.declared.endpoints.EndpointConfig.{EndpointConfig}
 use Rattle.unit_model.specs.Claims.{cell_at, claim_at, claim_of, covers, in_mask, names}
 use Rattle.unit_model.specs.Commands.{accepted, allocation_of, is_idle}
 use Rattle.unit_model.specs.Meetings.{Arrival, commands, meetings}
@@ -26,23 +17,20 @@ use Rattle.unit_model.specs.Proper.{IsAt, IsProperCommand}
 use Rattle.unit_model.specs.Radiated.{first_clock, is_used, wait_of}
 use Rattle.unit_model.specs.Reports.{accepted_of, commands_of}
 use Rattle.unit_model.specs.Standing.{IsCell}
-use Rattle.unit_model.specs.Sweeps.{frame_of_tick}
 use Rattle.unit_model.specs.Times.{end_of_time, last_landing}
 use Rattle.unit_model.specs.declared.cells.Cell.{Cell}
 use Rattle.unit_model.specs.declared.cells.Claim.{Claim}
 use Rattle.unit_model.specs.declared.decoded.ControlSection.{ControlSection}
 use Rattle.unit_model.proofs.ClaimLemmas.{covers_is}
 use Rattle.unit_model.proofs.VerdictLemmas.{accepted_proper}
-use Rattle.unit_laws.specs.Far.{IsFar}
 use Rattle.unit_laws.specs.Past.{IsInOrder}
-use Rattle.unit_laws.specs.Swept.{IsSwept}
+use Rattle.unit_model.specs.Swept.{IsSwept}
 use Rattle.unit_laws.proofs.AcceptanceLemmas.{accepted_is_acceptable}
 use Rattle.unit_laws.proofs.AheadLemmas.{no_claims_ahead}
-use Rattle.unit_laws.proofs.EndLemmas.{reach_small}
 use Rattle.unit_laws.proofs.FrameLemmas.{symbols_are_swept}
 use Rattle.unit_laws.proofs.HistoryLemmas.{commands_are_proper}
 use Rattle.unit_laws.proofs.LookupLemmas.{covered_cells}
-use Rattle.unit_laws.proofs.OrderLemmas.{All-onto, commands_in_order}
+use Rattle.unit_laws.proofs.OrderLemmas.{commands_in_order}
 use Rattle.unit_laws.proofs.PastLemmas.{section_before}
 use Rattle.unit_laws.proofs.AddedLemmas.{CommandCame, commands_added}
 use Rattle.replay_laws.specs.Events.{events}
@@ -51,12 +39,15 @@ use Rattle.replay_laws.specs.Passing.{AreLandings}
 use Rattle.replay_laws.specs.Traffic.{Traffic}
 use Rattle.replay_laws.proofs.CameLemmas.{arrivals_in_time, landed_then, next_first, none_first}
 use Rattle.replay_laws.proofs.EndLemmas.{all_in_time}
-use Rattle.explain_reasons.specs.Seen.{is_heard, seen}
-use Rattle.reason_documents.proofs.UsedLemmas.{heard}
+use Rattle.explain_model.specs.Seen.{is_heard, seen}
+use Rattle.explain_laws.proofs.UsedLemmas.{heard}
 use Rattle.explain_laws.specs.Silent.{IsAccepted}
 use Rattle.explain_laws.proofs.AcceptedLemmas.{Stands, accepted_stands, stays_claimed}
 use Rattle.explain_laws.proofs.ReplayLemmas.{arrivals_are}
-use Rattle.explain_laws.proofs.ListLemmas.{holds_in, in_middle}
+use Rattle.explain_laws.proofs.ListLemmas.{in_middle}
+use Rattle.fh_base.proofs.OntoLemmas.{All-onto}
+use Rattle.unit_laws.proofs.EndLemmas.{far_later}
+use Rattle.fh_base.proofs.MadeLists.{in_all as holds_in}
 
 -- ---- nothing comes before the clock begins
 
@@ -95,16 +86,6 @@ commands_begun c (a ∷ arrivals) h =
     (commands_begun c arrivals (All-tail HasBegun a arrivals h)))
 
 -- ---- a claimed symbol starts before the end of time
-
-begins_later : (clock tick q frame before : ℤ) (offset : ℕ) → (clock +ℤ pos 1536000000000) ≤ℤ tick → tick <ℤ (q *ℤ FRAME +ℤ FRAME)
-    → (q -ℤ pos 5) ≤ℤ frame → before ≤ℤ pos 4000000 → clock <ℤ ((frame *ℤ FRAME +ℤ pos offset) -ℤ (before *ℤ pos NANOSECOND))
-begins_later clock tick q frame before offset a b c d = omega (arith, ints)
-
-far_later : (d : Delays) (es : List EndpointConfig) (ep : ℕ) (e : EndpointConfig) (slot : Slot) (symbol : ℕ) (clock tick : ℤ) → IsWithinLimits d
-    → (clock +ℤ pos 1536000000000) ≤ℤ tick → IsSwept es ep e slot symbol tick → IsFar e.numerology (ru_reach_of d) clock slot
-far_later d es ep e slot symbol clock tick limits later swept =
-    begins_later clock tick (frame_of_tick tick) slot.frame (ru_reach_of d).before (slot.subframe * SUBFRAME + kind_start e.numerology.kind slot.slot 0) later
-    (frame_floor tick).1 swept.frame_low (reach_small d limits)
 
 second_later : (tick : ℤ) → ((end_of_time -ℤ pos 0) +ℤ pos 1) ≤ℤ tick → (last_landing +ℤ pos 1536000000000) ≤ℤ tick
 second_later tick h = omega (arith, ints)

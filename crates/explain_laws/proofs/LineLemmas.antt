@@ -1,31 +1,17 @@
 -- What holds of the lines of each entry holds of all lines.
-use Rattle.std.proofs.Common.{Bool, true, false, List, [], ◌∷◌, ◌++◌, length, sym, subst}
-use Rattle.std.specs.Prelude.{⊤, if◌then◌else◌, Some}
+use Rattle.std.proofs.Common.{List, [], ◌∷◌, ◌++◌, length, sym, subst}
+use Rattle.std.specs.Prelude.{⊤, Some}
 use Rattle.std.specs.List.{AllByRecursion, flat_map}
 use Rattle.ecpri_fragments.specs.Pieces.{joined}
 use Rattle.air_source.specs.declared.events.Event.{Event}
 use Rattle.window_config.specs.declared.config.Config.{Config}
-use Rattle.explain_lines.specs.declared.values.ExplainLine.{ExplainLine}
+use Rattle.explain_model.specs.declared.values.ExplainLine.{ExplainLine}
 use Rattle.explain_model.specs.Cells.{CellRun, Entry, Lines, Of, entries, entries_after, entry_of, event_lines, lines_in, piece_lines, run_from, run_lines, runs_on}
 use Rattle.explain_model.specs.Pieces.{pieces}
 use Rattle.explain_model.specs.Stories.{Told, told_after, told_of}
 use Rattle.explain_model.proofs.PieceLemmas.{are_pieces}
-
-pub all_both : {A : Type 0} (P : A → Type 0) (xs ys : List A) → AllByRecursion P xs → AllByRecursion P ys → AllByRecursion P (xs ++ ys)
-all_both P [] ys h g = g
-all_both P (x ∷ xs) ys h g = (h.0, all_both P xs ys h.1 g)
-
-all_left : {A : Type 0} (P : A → Type 0) (xs ys : List A) → AllByRecursion P (xs ++ ys) → AllByRecursion P xs
-all_left P [] ys h = tt
-all_left P (x ∷ xs) ys h = (h.0, all_left P xs ys h.1)
-
-all_right : {A : Type 0} (P : A → Type 0) (xs ys : List A) → AllByRecursion P (xs ++ ys) → AllByRecursion P ys
-all_right P [] ys h = h
-all_right P (x ∷ xs) ys h = all_right P xs ys h.1
-
-pub all_if : {A : Type 0} (P : A → Type 0) (b : Bool) (xs ys : List A) → AllByRecursion P xs → AllByRecursion P ys → AllByRecursion P (if b then xs else ys)
-all_if P true xs ys h g = h
-all_if P false xs ys h g = g
+use Rattle.fh_base.proofs.MemberLemmas.{all_join as all_both}
+use Rattle.fh_base.proofs.CommonLemmas.{all_left, all_right}
 
 module _ (P : ExplainLine → Type 0) (of_runs : (r : CellRun) → AllByRecursion P (run_lines (Some r))) where
   abbrev pub Holds : Entry → Type 0

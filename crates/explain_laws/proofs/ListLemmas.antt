@@ -1,10 +1,9 @@
 -- What stands in lists that are made of others.
-use Rattle.std.proofs.Common.{ℕ, zero, suc, ◌+◌, List, [], ◌∷◌, ◌++◌, refl, sym, subst, inl, inr}
-use Rattle.std.specs.Prelude.{All, ◌⊎◌}
+use Rattle.std.proofs.Common.{ℕ, zero, suc, ◌+◌, List, [], ◌∷◌, ◌++◌, refl, subst, inl, inr}
+use Rattle.std.specs.Prelude.{◌⊎◌}
 use Rattle.std.specs.List.{flat_map}
-use Rattle.std.proofs.lemmas.List.Elements.{All-head, All-tail}
-use Rattle.fragment_laws.specs.Apart.{IsIn}
-use Rattle.unit_model.specs.Lists.{each}
+use Rattle.fh_base.specs.Lists.{each}
+use Rattle.fh_base.specs.Members.{IsIn}
 
 module _ {X : Type 0} (x : X) where
   pub in_both : (xs ys : List X) → IsIn x (xs ++ ys) → IsIn x xs ⊎ IsIn x ys
@@ -39,12 +38,6 @@ pub in_some : {X Y : Type 0} (x : X) (f : Y → List X) (y : Y) (ys : List Y) �
 in_some x f y [] m n = absurd m
 in_some x f y (z ∷ ys) (inl here) n = in_left x (f z) (flat_map f ys) (subst (λ w. IsIn x (f w)) here n)
 in_some x f y (z ∷ ys) (inr later) n = in_right x (f z) (flat_map f ys) (in_some x f y ys later n)
-
--- what holds of all holds of each
-pub holds_in : {X : Type 0} (P : X → Type 0) (x : X) (xs : List X) → All P xs → IsIn x xs → P x
-holds_in P x [] all m = absurd m
-holds_in P x (y ∷ xs) all (inl here) = subst P (sym here) (All-head P y xs all)
-holds_in P x (y ∷ xs) all (inr later) = holds_in P x xs (All-tail P y xs all) later
 
 pub in_middle : {X : Type 0} (before : List X) (x : X) (after : List X) → IsIn x (before ++ x ∷ after)
 in_middle before x after = in_right x before (x ∷ after) (inl refl)

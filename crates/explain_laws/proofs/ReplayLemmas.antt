@@ -14,7 +14,7 @@ use Rattle.air_source.specs.declared.events.Side.{Side}
 use Rattle.air_source.specs.declared.events.Side.TheVariants.{Ru, Du}
 use Rattle.window_config.specs.declared.config.Config.{Config}
 use Rattle.unit_model.specs.Counts.{cells_counted}
-use Rattle.unit_model.specs.Lists.{each_tick, onto}
+use Rattle.fh_base.specs.Lists.{each_tick, onto}
 use Rattle.unit_model.specs.Meetings.{Arrival}
 use Rattle.unit_model.specs.Radiated.{first_clock}
 use Rattle.unit_model.specs.Reports.{arrivals_counted}
@@ -24,11 +24,11 @@ use Rattle.unit_model.specs.Heard.{arrivals_heard}
 use Rattle.replay_laws.specs.Moments.{all_arrivals, arrivals_in, end_of_time, landing_at}
 use Rattle.replay_laws.specs.Traffic.{Traffic, landings_at, reported_at}
 use Rattle.replay_laws.proofs.CameLemmas.{next_first, none_first}
-use Rattle.unit_laws.proofs.HeardLemmas.{arrivals-append, arrivals-cells, arrivals-none, arrivals-other, arrivals-own}
 use Rattle.replay_laws.proofs.OnceLemmas.{cells_are_reported}
 use Rattle.explain_model.specs.Cells.{event_lines}
 use Rattle.explain_laws.specs.Counted.{CountersAreLines, LinesAreCounters, delay_count, word_count}
 use Rattle.explain_laws.proofs.CountLemmas.{any_events}
+use Rattle.unit_model.proofs.ArrivalLemmas.{arrivals-append, arrivals-cells, arrivals-none, arrivals-other, arrivals-own}
 
 -- ---- the arrivals of a replay
 

@@ -3,9 +3,9 @@ use Rattle.std.proofs.Common.{◌≡◌, ℕ, suc, ℤ, pos, negsuc, ◌+ℤ◌,
 use Rattle.std.proofs.lemmas.Int.{ints}
 use Rattle.std.specs.Prelude.{◌==◌, ◌||◌, not, nat_lt, int_lt, ◌<ℤ◌, ◌≤ℤ◌, if◌then◌else◌, ⊤, Option, Some, None}
 use Rattle.std.specs.List.{AllByRecursion}
-use Rattle.fh_time.proofs.Orders.{under, under_is, not_under, not_under_is}
-use Rattle.fh_time.specs.Carrier.{is_outside}
-use Rattle.fh_time.specs.Numbering.{shape_of}
+use Rattle.fh_base.proofs.Orders.{under, under_is, not_under, not_under_is}
+use Rattle.fh_base.specs.Carrier.{is_outside}
+use Rattle.fh_base.specs.Numbering.{shape_of}
 use Rattle.ecpri_fragments.specs.Sequence.{id_of}
 use Rattle.ecpri_frames.specs.declared.heads.TheConstants.{ONE_WAY_DELAY, REAL_TIME_CONTROL, IQ_DATA}
 use Rattle.unit_model.specs.Heard.{arrivals_heard}
@@ -37,7 +37,7 @@ use Rattle.unit_model.specs.declared.allocations.Allocation.{Allocation}
 use Rattle.unit_model.specs.declared.decoded.ControlSection.{ControlSection}
 use Rattle.unit_model.specs.declared.decoded.UserSection.{UserSection}
 use Rattle.unit_model.specs.declared.verdicts.CommandVerdict.TheVariants as control
-use Rattle.unit_memory.specs.Judgements.{Judgement, Met, Commanded, Fragmented, Unread, Turned, Given, heading_of, judged_by, judged_commands, judged_data, judged_decoded, judged_in, judged_meeting, judged_message, judged_now, judged_whole, judgements}
+use Rattle.unit_model.specs.Judgements.{Judgement, Met, Commanded, Fragmented, Unread, Turned, Given, heading_of, judged_by, judged_commands, judged_data, judged_decoded, judged_in, judged_meeting, judged_message, judged_now, judged_whole, judgements}
 use Rattle.explain_model.specs.Cells.{entry_of}
 use Rattle.explain_model.specs.Judged.{judged_before}
 use Rattle.explain_model.specs.Margins.{control_class, data_class_of}
@@ -46,7 +46,9 @@ use Rattle.explain_model.specs.Sections.{control_line, data_line, judged_lines, 
 use Rattle.explain_model.specs.Stories.{Told, arrival_count, arrival_with, story, told_of}
 use Rattle.explain_model.specs.Timings.{control_timing, data_timing, timing_by, whole_ns, window_at}
 use Rattle.explain_laws.specs.Signs.{EachSignIsItsClass, HasSign, IsBySign, class_by}
-use Rattle.explain_laws.proofs.LineLemmas.{Holds, all_both, all_if, of_events}
+use Rattle.explain_laws.proofs.LineLemmas.{Holds, of_events}
+use Rattle.fh_base.proofs.MemberLemmas.{all_join as all_both}
+use Rattle.fh_base.proofs.CommonLemmas.{all_if}
 
 -- ---- whole nanoseconds, rounded down, have the sign of the ticks
 

@@ -5,7 +5,6 @@ use Rattle.std.specs.Option.{option_to_list}
 use Rattle.std.proofs.lemmas.Bool.{and_parts, cases_Bool}
 use Rattle.air_source.specs.declared.events.Event.{Event}
 use Rattle.air_source.specs.declared.events.Side.TheVariants.{Ru}
-use Rattle.fragment_laws.specs.Apart.{IsIn}
 use Rattle.window_config.specs.Configs.{IsConfig}
 use Rattle.window_config.specs.declared.config.Config.{Config}
 use Rattle.window_config.specs.declared.endpoints.EndpointConfig.{EndpointConfig}
@@ -15,23 +14,24 @@ use Rattle.unit_model.specs.Commands.{allocation_of}
 use Rattle.unit_model.specs.Meetings.{find_endpoint}
 use Rattle.unit_model.specs.Proper.{IsAt}
 use Rattle.unit_laws.proofs.FarLemmas.{endpoints_equal}
-use Rattle.unit_laws.proofs.HistoryLemmas.{found_at}
 use Rattle.plan_model.specs.Lines.{line_allocation, planned, planned_at, planned_from, planned_with}
 use Rattle.plan_model.specs.declared.lines.PlannedLine.{PlannedLine}
 use Rattle.replay_laws.specs.Events.{events}
 use Rattle.replay_laws.specs.Passing.{AreLandings}
 use Rattle.replay_laws.specs.Traffic.{Traffic}
-use Rattle.measured_traffic.specs.Replayed.{traffic_of}
-use Rattle.measured_traffic.proofs.ReplayedLemmas.{landings_are_replayed}
-use Rattle.reason_records.specs.declared.sections.CommandRecord.{CommandRecord}
-use Rattle.explain_reasons.specs.Commanded.{command_reason}
-use Rattle.explain_reasons.specs.Reasons.{kept}
-use Rattle.explain_reasons.specs.Seen.{Seen, is_heard, seen}
-use Rattle.explain_reasons.specs.Silent.{SilentPrb, SilentSymbol, is_dl, is_silent, line_elements, silent_in, silent_mask, silent_of, silent_of_line, silent_prb, silent_prbs, silent_symbol, silent_symbols}
-use Rattle.reason_documents.proofs.MaskLemmas.{bits_is}
+use Rattle.document_traffic.specs.Replayed.{traffic_of}
+use Rattle.document_traffic.proofs.ReplayedLemmas.{landings_are_replayed}
+use Rattle.explain_model.specs.declared.sections.CommandRecord.{CommandRecord}
+use Rattle.explain_model.specs.Commanded.{command_reason}
+use Rattle.explain_model.specs.SilentReasons.{kept}
+use Rattle.explain_model.specs.Seen.{Seen, is_heard, seen}
+use Rattle.explain_model.specs.Silent.{SilentPrb, SilentSymbol, is_dl, is_silent, line_elements, silent_in, silent_mask, silent_of, silent_of_line, silent_prb, silent_prbs, silent_symbol, silent_symbols}
+use Rattle.explain_laws.proofs.MaskLemmas.{bits_is}
 use Rattle.explain_laws.specs.Silent.{NoAcceptedNamesSilent, SilentAreUnnamed}
 use Rattle.explain_laws.proofs.HeardLemmas.{accepted_is_heard, at_place}
 use Rattle.explain_laws.proofs.ListLemmas.{in_both, of_each, of_some}
+use Rattle.fh_base.specs.Members.{IsIn}
+use Rattle.unit_model.proofs.EndpointLemmas.{found_at}
 
 -- ---- the endpoint of a line of a plan
 

@@ -14,14 +14,14 @@ use Rattle.unit_model.specs.Reports.{arrivals_counted}
 use Rattle.replay_laws.specs.Events.{events, is_measured, number_of}
 use Rattle.unit_model.specs.Heard.{arrivals_heard, cells_heard}
 use Rattle.replay_laws.specs.Traffic.{Traffic}
-use Rattle.explain_lines.specs.declared.values.CellWord.{CellWord}
-use Rattle.explain_lines.specs.declared.values.CellWord.TheVariants.{Shown, Missing}
-use Rattle.explain_lines.specs.declared.values.CommandAnswer.{CommandAnswer}
-use Rattle.explain_lines.specs.declared.values.CommandAnswer.TheVariants as answer
-use Rattle.explain_lines.specs.declared.values.ExplainLine.{ExplainLine}
-use Rattle.explain_lines.specs.declared.values.ExplainLine.TheVariants as line
-use Rattle.explain_lines.specs.declared.values.WholeAnswer.{WholeAnswer}
-use Rattle.explain_lines.specs.declared.values.WholeAnswer.TheVariants as whole
+use Rattle.explain_model.specs.declared.values.CellWord.{CellWord}
+use Rattle.explain_model.specs.declared.values.CellWord.TheVariants.{Shown, Missing}
+use Rattle.explain_model.specs.declared.values.CommandAnswer.{CommandAnswer}
+use Rattle.explain_model.specs.declared.values.CommandAnswer.TheVariants as answer
+use Rattle.explain_model.specs.declared.values.ExplainLine.{ExplainLine}
+use Rattle.explain_model.specs.declared.values.ExplainLine.TheVariants as line
+use Rattle.explain_model.specs.declared.values.WholeAnswer.{WholeAnswer}
+use Rattle.explain_model.specs.declared.values.WholeAnswer.TheVariants as whole
 use Rattle.explain_model.specs.Cells.{event_lines}
 
 -- ---- of which counters a line has the word

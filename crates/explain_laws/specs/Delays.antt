@@ -5,7 +5,7 @@ use Rattle.fault_counters.specs.Counts.{capped}
 use Rattle.fault_counters.specs.declared.kinds.Counter.TheVariants as counter
 use Rattle.fh_document.specs.declared.document.Document.{Document}
 use Rattle.air_source.specs.declared.events.Side.{Side}
-use Rattle.measured_traffic.specs.Replayed.{traffic_of}
+use Rattle.document_traffic.specs.Replayed.{traffic_of}
 use Rattle.replay_laws.specs.Events.{events, number_of}
 use Rattle.explain_model.specs.Cells.{event_lines}
 use Rattle.explain_laws.specs.Counted.{word_count}

@@ -5,3 +5,12 @@ pub mod Runs
 pub mod Signs
 pub mod Explained
 pub mod Silent
+pub mod JudgedCounted
+pub mod Decoded
+pub mod Blocks
+pub mod Giving
+pub mod Grown
+pub mod Undisturbed
+pub mod Planned
+pub mod Uplink
+pub mod ReasonCounted

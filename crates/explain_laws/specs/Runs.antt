@@ -3,9 +3,9 @@ use Rattle.std.specs.Prelude.{◌≡◌, true, false, List, ◌∷◌, filter}
 use Rattle.std.specs.List.{flat_map}
 use Rattle.air_source.specs.declared.events.Event.{Event}
 use Rattle.window_config.specs.declared.config.Config.{Config}
-use Rattle.explain_lines.specs.Faults.{is_fault}
-use Rattle.explain_lines.specs.Lines.{lines_text}
-use Rattle.explain_lines.specs.declared.values.ExplainLine.TheVariants as line
+use Rattle.explain_model.specs.Faults.{is_fault}
+use Rattle.explain_model.specs.Lines.{lines_text}
+use Rattle.explain_model.specs.declared.values.ExplainLine.TheVariants as line
 use Rattle.explain_model.specs.Cells.{entries, event_lines, piece_lines, runs, runs_on}
 use Rattle.explain_model.specs.Pieces.{ArePiecesOf}
 use Rattle.explain_model.specs.Text.{Reasoned, explain_of, lines_of}

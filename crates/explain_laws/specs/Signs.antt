@@ -5,9 +5,9 @@ use Rattle.air_source.specs.declared.events.Event.{Event}
 use Rattle.window_config.specs.Classes.{classified}
 use Rattle.window_config.specs.declared.config.Config.{Config}
 use Rattle.window_config.specs.declared.verdicts.Class.{Class}
-use Rattle.explain_lines.specs.declared.places.Timing.{Timing}
-use Rattle.explain_lines.specs.declared.values.ExplainLine.{ExplainLine}
-use Rattle.explain_lines.specs.declared.values.ExplainLine.TheVariants as line
+use Rattle.explain_model.specs.declared.places.Timing.{Timing}
+use Rattle.explain_model.specs.declared.values.ExplainLine.{ExplainLine}
+use Rattle.explain_model.specs.declared.values.ExplainLine.TheVariants as line
 use Rattle.explain_model.specs.Cells.{event_lines}
 use Rattle.explain_model.specs.Margins.{control_class, data_class_of}
 

@@ -3,7 +3,6 @@ use Rattle.std.specs.Prelude.{◌≡◌, ℕ, ◌<◌, true, false, List}
 use Rattle.air_source.specs.declared.events.Event.{Event}
 use Rattle.air_source.specs.declared.events.Side.TheVariants.{Ru}
 use Rattle.fh_document.specs.declared.document.Document.{Document}
-use Rattle.fragment_laws.specs.Apart.{IsIn}
 use Rattle.window_config.specs.Configs.{IsConfig}
 use Rattle.window_config.specs.declared.config.Config.{Config}
 use Rattle.window_config.specs.declared.plan.PlanLine.{PlanLine}
@@ -11,14 +10,15 @@ use Rattle.unit_model.specs.Claims.{cell_at, in_mask, names}
 use Rattle.unit_model.specs.Commands.{allocation_of, is_idle}
 use Rattle.unit_model.specs.declared.decoded.ControlSection.{ControlSection}
 use Rattle.unit_model.specs.declared.verdicts.CommandVerdict.TheVariants.{Accepted}
-use Rattle.unit_memory.specs.Judgements.{Commanded}
+use Rattle.unit_model.specs.Judgements.{Commanded}
 use Rattle.replay_laws.specs.Events.{events}
 use Rattle.replay_laws.specs.Passing.{AreLandings}
 use Rattle.replay_laws.specs.Traffic.{Traffic}
 use Rattle.document_traffic.specs.Laws.{IsReplayable}
-use Rattle.measured_traffic.specs.Replayed.{traffic_of}
+use Rattle.document_traffic.specs.Replayed.{traffic_of}
 use Rattle.explain_model.specs.Stories.{Story, stories}
-use Rattle.explain_reasons.specs.Silent.{SilentPrb, SilentSymbol, silent_in}
+use Rattle.explain_model.specs.Silent.{SilentPrb, SilentSymbol, silent_in}
+use Rattle.fh_base.specs.Members.{IsIn}
 
 -- among all that is told of the events the radio unit judged this section, and accepted it
 pub record IsAccepted (c : Config) (events : List Event) (k : ControlSection) : Type 0 where

@@ -5,7 +5,7 @@ use Rattle.std.specs.List.{flat_map, AllByRecursion}
 use Rattle.std.proofs.lemmas.Grind.{flat_map-append}
 use Rattle.std.specs.Ordering.{int_eq}
 use Rattle.std.proofs.lemmas.Bool.{and_parts, eqb-true}
-use Rattle.fh_time.proofs.Orders.{same_z}
+use Rattle.fh_base.proofs.Orders.{same_z}
 use Rattle.unit_model.specs.Claims.{same_slot}
 use Rattle.unit_model.proofs.ClaimLemmas.{same_slot_is}
 use Rattle.air_source.specs.Units.{same_side}
@@ -14,9 +14,9 @@ use Rattle.air_source.specs.declared.events.Event.{Event}
 use Rattle.air_source.specs.declared.events.Side.{Side}
 use Rattle.air_source.specs.declared.events.Side.TheVariants.{Ru, Du}
 use Rattle.window_config.specs.declared.config.Config.{Config}
-use Rattle.explain_lines.specs.declared.values.CellWord.{CellWord}
-use Rattle.explain_lines.specs.declared.values.CellWord.TheVariants.{Shown, Missing}
-use Rattle.explain_lines.specs.declared.values.ExplainLine.{ExplainLine}
+use Rattle.explain_model.specs.declared.values.CellWord.{CellWord}
+use Rattle.explain_model.specs.declared.values.CellWord.TheVariants.{Shown, Missing}
+use Rattle.explain_model.specs.declared.values.ExplainLine.{ExplainLine}
 use Rattle.explain_model.specs.Cells.{CellRun, Entry, Lines, Of, IsFrontOf, LinesGoOn, closed_in, closing, closing_by, entries, entries_after, entry_of, extends, is_of_run, lines_in, longer, open_in, piece_lines, run_from, run_lines, run_of, run_with, runs_on, same_word, settled_lines}
 use Rattle.explain_model.specs.Pieces.{AreLinked, closed_pieces, goes_on, open_piece, as_piece, pieces}
 use Rattle.explain_model.specs.Stories.{Told, told, told_of}

@@ -2,3 +2,12 @@ pub mod GrowLemmas
 pub mod MarginLemmas
 pub mod PieceLemmas
 pub mod StoryLemmas
+pub mod ExampleLemmas
+pub mod RunLemmas
+pub mod SameLemmas
+pub mod ToldLemmas
+pub mod AloneLemmas
+pub mod SeenLemmas
+pub mod Counts
+pub mod Steps
+pub mod Fronts

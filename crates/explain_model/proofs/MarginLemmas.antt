@@ -6,17 +6,17 @@ use Rattle.std.specs.List.{flat_map}
 use Rattle.std.proofs.lemmas.Grind.{flat_map-append, fold-append}
 use Rattle.std.proofs.lemmas.List.{map-append}
 use Rattle.std.proofs.lemmas.List.Elements.{filter-append}
-use Rattle.fh_time.proofs.Orders.{not_none}
+use Rattle.fh_base.proofs.Orders.{not_none}
 use Rattle.air_source.specs.Units.{same_side}
 use Rattle.air_source.specs.declared.events.Event.{Event}
 use Rattle.air_source.specs.declared.events.Side.{Side}
 use Rattle.window_config.specs.declared.config.Config.{Config}
 use Rattle.window_config.specs.declared.verdicts.Class.{Class}
 use Rattle.window_config.specs.declared.verdicts.Class.TheVariants.{OnTime, Late, Early}
-use Rattle.unit_model.specs.Lists.{onto}
-use Rattle.unit_memory.specs.Judgements.{Judgement}
-use Rattle.explain_lines.specs.declared.places.Timing.{Timing}
-use Rattle.explain_lines.specs.declared.values.Margin.{Margin}
+use Rattle.fh_base.specs.Lists.{onto}
+use Rattle.unit_model.specs.Judgements.{Judgement}
+use Rattle.explain_model.specs.declared.places.Timing.{Timing}
+use Rattle.explain_model.specs.declared.values.Margin.{Margin}
 use Rattle.explain_model.specs.Growing.{JudgedGoOn, MarginsGoOn, margin_by}
 use Rattle.explain_model.specs.Judged.{judged_after, judged_before}
 use Rattle.explain_model.specs.Margins.{Dated, dated, dated_in, early_by, greatest, late_by, least, margin_from, margin_of, same_class, timings}

@@ -8,12 +8,12 @@ use Rattle.air_source.specs.declared.events.AirCell.{AirCell}
 use Rattle.air_source.specs.declared.events.Event.{Event}
 use Rattle.window_config.specs.declared.config.Config.{Config}
 use Rattle.unit_model.specs.Claims.{same_slot}
-use Rattle.unit_memory.specs.Judgements.{Judgement}
-use Rattle.explain_lines.specs.declared.places.PrbRun.{PrbRun}
-use Rattle.explain_lines.specs.declared.values.CellWord.{CellWord}
-use Rattle.explain_lines.specs.declared.values.CellWord.TheVariants.{Shown, Missing}
-use Rattle.explain_lines.specs.declared.values.ExplainLine.{ExplainLine}
-use Rattle.explain_lines.specs.declared.values.ExplainLine.TheVariants as line
+use Rattle.unit_model.specs.Judgements.{Judgement}
+use Rattle.explain_model.specs.declared.places.PrbRun.{PrbRun}
+use Rattle.explain_model.specs.declared.values.CellWord.{CellWord}
+use Rattle.explain_model.specs.declared.values.CellWord.TheVariants.{Shown, Missing}
+use Rattle.explain_model.specs.declared.values.ExplainLine.{ExplainLine}
+use Rattle.explain_model.specs.declared.values.ExplainLine.TheVariants as line
 use Rattle.explain_model.specs.Judged.{gives_block, judged_before}
 use Rattle.explain_model.specs.Pieces.{closed_pieces, open_piece, pieces}
 use Rattle.explain_model.specs.Sections.{story_lines}

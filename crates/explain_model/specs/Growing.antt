@@ -8,10 +8,10 @@ use Rattle.air_source.specs.declared.events.Side.{Side}
 use Rattle.window_config.specs.declared.config.Config.{Config}
 use Rattle.window_config.specs.declared.verdicts.Class.{Class}
 use Rattle.window_config.specs.declared.verdicts.Class.TheVariants.{OnTime, Late, Early}
-use Rattle.unit_model.specs.Lists.{onto}
-use Rattle.unit_memory.specs.Judgements.{Judgement}
-use Rattle.explain_lines.specs.declared.places.Timing.{Timing}
-use Rattle.explain_lines.specs.declared.values.Margin.{Margin}
+use Rattle.fh_base.specs.Lists.{onto}
+use Rattle.unit_model.specs.Judgements.{Judgement}
+use Rattle.explain_model.specs.declared.places.Timing.{Timing}
+use Rattle.explain_model.specs.declared.values.Margin.{Margin}
 use Rattle.explain_model.specs.Judged.{judged_before}
 use Rattle.explain_model.specs.Margins.{Dated, dated, dated_in, early_by, late_by, margin_of}
 use Rattle.explain_model.specs.Sections.{judged_lines, judgement_lines}

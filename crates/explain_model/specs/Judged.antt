@@ -1,19 +1,19 @@
 -- What a unit judged before, the newest first, and what that says of a further section (this project's profile).
 use Rattle.std.specs.Prelude.{ℕ, zero, suc, ◌+◌, ◌==◌, Bool, true, false, not, ◌&&◌, ◌||◌, if◌then◌else◌, List, [], ◌∷◌, Option, Some, None}
-use Rattle.fh_time.specs.Carrier.{count_of, first_of}
-use Rattle.fh_time.specs.declared.values.Slot.{Slot}
+use Rattle.fh_base.specs.Carrier.{count_of, first_of}
+use Rattle.fh_base.specs.declared.values.Slot.{Slot}
 use Rattle.air_source.specs.Units.{same_side}
 use Rattle.air_source.specs.declared.events.Side.{Side}
 use Rattle.unit_model.specs.Claims.{cell_of, claim_at, first_prb, is_from, is_overlapped, prb_count, same_slot}
 use Rattle.unit_model.specs.Commands.{allocation_of, with_accepted}
-use Rattle.unit_model.specs.Lists.{onto, or_else}
+use Rattle.fh_base.specs.Lists.{onto, or_else}
 use Rattle.unit_model.specs.Radiated.{cell_id}
 use Rattle.unit_model.specs.declared.allocations.Allocation.{Allocation}
 use Rattle.unit_model.specs.declared.verdicts.DataVerdict.{DataVerdict}
 use Rattle.unit_model.specs.declared.verdicts.DataVerdict.TheVariants as user
-use Rattle.unit_cells.specs.declared.heading.DataHeading.{DataHeading}
-use Rattle.unit_memory.specs.Judgements.{Judgement, Met, Commanded, Fragmented, Unread, Turned, Given}
-use Rattle.explain_lines.specs.declared.places.Clash.{Clash}
+use Rattle.unit_model.specs.declared.heading.DataHeading.{DataHeading}
+use Rattle.unit_model.specs.Judgements.{Judgement, Met, Commanded, Fragmented, Unread, Turned, Given}
+use Rattle.explain_model.specs.declared.places.Clash.{Clash}
 use Rattle.explain_model.specs.Stories.{Told, Came, Cell, Delay, Count}
 use Rattle.explain_model.specs.Timings.{heading_slot}
 

@@ -13,13 +13,13 @@ use Rattle.unit_model.specs.declared.verdicts.CommandVerdict.{CommandVerdict}
 use Rattle.unit_model.specs.declared.verdicts.CommandVerdict.TheVariants as control
 use Rattle.unit_model.specs.declared.verdicts.DataVerdict.{DataVerdict}
 use Rattle.unit_model.specs.declared.verdicts.DataVerdict.TheVariants as user
-use Rattle.unit_memory.specs.Judgements.{Judgement, Met, Commanded, Fragmented, Unread, Turned, Given}
-use Rattle.explain_lines.specs.declared.places.Timing.{Timing}
-use Rattle.explain_lines.specs.declared.values.ExplainLine.{ExplainLine}
-use Rattle.explain_lines.specs.declared.values.ExplainLine.TheVariants as line
-use Rattle.explain_lines.specs.declared.values.Margin.{Margin}
-use Rattle.explain_lines.specs.declared.values.MarginClass.{MarginClass}
-use Rattle.explain_lines.specs.declared.values.MarginClass.TheVariants.{Down, Up, Data}
+use Rattle.unit_model.specs.Judgements.{Judgement, Met, Commanded, Fragmented, Unread, Turned, Given}
+use Rattle.explain_model.specs.declared.places.Timing.{Timing}
+use Rattle.explain_model.specs.declared.values.ExplainLine.{ExplainLine}
+use Rattle.explain_model.specs.declared.values.ExplainLine.TheVariants as line
+use Rattle.explain_model.specs.declared.values.Margin.{Margin}
+use Rattle.explain_model.specs.declared.values.MarginClass.{MarginClass}
+use Rattle.explain_model.specs.declared.values.MarginClass.TheVariants.{Down, Up, Data}
 use Rattle.explain_model.specs.Stories.{Story, stories}
 use Rattle.explain_model.specs.Timings.{control_timing, data_timing}
 use Rattle.air_source.specs.Units.{same_side}

@@ -1,6 +1,6 @@
 -- The line of a whole message of a frame (this project's profile).
 use Rattle.std.specs.Prelude.{ℕ, ◌==◌, ◌||◌, not, nat_lt, if◌then◌else◌, List, [], ◌∷◌, length, Option, Some, None, Result, Ok, Err}
-use Rattle.fh_time.specs.Numbering.{shape_of}
+use Rattle.fh_base.specs.Numbering.{shape_of}
 use Rattle.cplane_sections.specs.Tests.{checked}
 use Rattle.cplane_sections.specs.declared.values.CHead.{CHead}
 use Rattle.cplane_sections.specs.declared.values.CRefusal.{CRefusal}
@@ -11,11 +11,11 @@ use Rattle.air_source.specs.declared.events.Side.{Side}
 use Rattle.air_source.specs.declared.events.Side.TheVariants.{Ru, Du}
 use Rattle.window_config.specs.declared.endpoints.EndpointConfig.{EndpointConfig}
 use Rattle.unit_model.specs.Meetings.{find_endpoint}
-use Rattle.explain_lines.specs.declared.places.MessagePlace.{MessagePlace}
-use Rattle.explain_lines.specs.declared.values.CommandAnswer.{CommandAnswer}
-use Rattle.explain_lines.specs.declared.values.CommandAnswer.TheVariants as answer
-use Rattle.explain_lines.specs.declared.values.ExplainLine.{ExplainLine}
-use Rattle.explain_lines.specs.declared.values.ExplainLine.TheVariants as line
+use Rattle.explain_model.specs.declared.places.MessagePlace.{MessagePlace}
+use Rattle.explain_model.specs.declared.values.CommandAnswer.{CommandAnswer}
+use Rattle.explain_model.specs.declared.values.CommandAnswer.TheVariants as answer
+use Rattle.explain_model.specs.declared.values.ExplainLine.{ExplainLine}
+use Rattle.explain_model.specs.declared.values.ExplainLine.TheVariants as line
 
 -- a message of the types 0 and 2, of the arrival with this number
 abbrev pub message_place : ℕ → Message → MessagePlace

@@ -1,9 +1,9 @@
 -- The lines of an arrival: its frame, and each judgement on it in its order (this project's profile).
 use Rattle.std.specs.Prelude.{ℕ, ℤ, ◌==◌, ◌&&◌, not, nat_le, nat_lt, if◌then◌else◌, List, [], ◌∷◌, ◌++◌, length, Option, Some, None}
-use Rattle.fh_time.specs.Frame.{absolute_frame}
-use Rattle.fh_time.specs.Numbering.{slots_of, symbols_of}
-use Rattle.fh_time.specs.declared.numerology.Numerology.{Numerology}
-use Rattle.fh_time.specs.declared.values.Slot.{Slot}
+use Rattle.fh_base.specs.Frame.{absolute_frame}
+use Rattle.fh_base.specs.Numbering.{slots_of, symbols_of}
+use Rattle.fh_base.specs.declared.numerology.Numerology.{Numerology}
+use Rattle.fh_base.specs.declared.values.Slot.{Slot}
 use Rattle.ecpri_fragments.specs.Generations.{Fragment}
 use Rattle.ecpri_fragments.specs.Pieces.{joined}
 use Rattle.ecpri_fragments.specs.Verdicts.{Message as Whole}
@@ -18,18 +18,18 @@ use Rattle.unit_model.specs.declared.verdicts.CommandVerdict.{CommandVerdict}
 use Rattle.unit_model.specs.declared.verdicts.CommandVerdict.TheVariants as control
 use Rattle.unit_model.specs.declared.verdicts.DataVerdict.{DataVerdict}
 use Rattle.unit_model.specs.declared.verdicts.DataVerdict.TheVariants as user
-use Rattle.unit_cells.specs.declared.heading.DataHeading.{DataHeading}
-use Rattle.unit_memory.specs.Judgements.{Judgement, Met, Commanded, Fragmented, Unread, Turned, Given}
-use Rattle.explain_lines.specs.declared.places.Clash.{Clash}
-use Rattle.explain_lines.specs.declared.places.MessagePlace.{MessagePlace}
-use Rattle.explain_lines.specs.declared.places.SymbolPlace.{SymbolPlace}
-use Rattle.explain_lines.specs.declared.values.ControlLine.{ControlLine}
-use Rattle.explain_lines.specs.declared.values.DataLine.{DataLine}
-use Rattle.explain_lines.specs.declared.values.ExplainLine.{ExplainLine}
-use Rattle.explain_lines.specs.declared.values.ExplainLine.TheVariants as line
-use Rattle.explain_lines.specs.declared.values.WholeAnswer.{WholeAnswer}
-use Rattle.explain_lines.specs.declared.values.WholeAnswer.TheVariants as whole
-use Rattle.explain_lines.specs.declared.values.WholeLine.{WholeLine}
+use Rattle.unit_model.specs.declared.heading.DataHeading.{DataHeading}
+use Rattle.unit_model.specs.Judgements.{Judgement, Met, Commanded, Fragmented, Unread, Turned, Given}
+use Rattle.explain_model.specs.declared.places.Clash.{Clash}
+use Rattle.explain_model.specs.declared.places.MessagePlace.{MessagePlace}
+use Rattle.explain_model.specs.declared.places.SymbolPlace.{SymbolPlace}
+use Rattle.explain_model.specs.declared.values.ControlLine.{ControlLine}
+use Rattle.explain_model.specs.declared.values.DataLine.{DataLine}
+use Rattle.explain_model.specs.declared.values.ExplainLine.{ExplainLine}
+use Rattle.explain_model.specs.declared.values.ExplainLine.TheVariants as line
+use Rattle.explain_model.specs.declared.values.WholeAnswer.{WholeAnswer}
+use Rattle.explain_model.specs.declared.values.WholeAnswer.TheVariants as whole
+use Rattle.explain_model.specs.declared.values.WholeLine.{WholeLine}
 use Rattle.explain_model.specs.Judged.{accepted_in, clash_in, first_given, fresh_count, given_count, last_place}
 use Rattle.explain_model.specs.Messages.{message_lines}
 use Rattle.explain_model.specs.Stories.{Story}

@@ -10,7 +10,7 @@ use Rattle.air_source.specs.declared.events.Side.{Side}
 use Rattle.window_config.specs.declared.config.Config.{Config}
 use Rattle.unit_model.specs.Meetings.{Arrival}
 use Rattle.unit_model.specs.Heard.{arrivals_heard}
-use Rattle.unit_memory.specs.Judgements.{Judgement, judgements}
+use Rattle.unit_model.specs.Judgements.{Judgement, judgements}
 
 -- an arrival: its number among all arrivals of both ways, its refusal, if it has one, and what its unit judges of it, by the arrivals
 -- of that unit before it

@@ -10,11 +10,11 @@ use Rattle.window_config.specs.Windows.{cp_dl_of}
 use Rattle.window_config.specs.declared.config.Config.{Config}
 use Rattle.window_config.specs.declared.delays.Delays.{Delays}
 use Rattle.window_config.specs.declared.endpoints.EndpointConfig.{EndpointConfig}
-use Rattle.explain_lines.specs.Lines.{lines_text}
-use Rattle.explain_lines.specs.Faults.{is_fault}
-use Rattle.explain_lines.specs.declared.values.ExplainLine.{ExplainLine}
-use Rattle.explain_lines.specs.declared.values.ExplainLine.TheVariants as line
-use Rattle.explain_lines.specs.declared.values.WindowName.TheVariants.{T1aUp, T1aCpDl, T1aCpUl, T2aUp, T2aCpDl, T2aCpUl, Ta3, Ta4}
+use Rattle.explain_model.specs.Lines.{lines_text}
+use Rattle.explain_model.specs.Faults.{is_fault}
+use Rattle.explain_model.specs.declared.values.ExplainLine.{ExplainLine}
+use Rattle.explain_model.specs.declared.values.ExplainLine.TheVariants as line
+use Rattle.explain_model.specs.declared.values.WindowName.TheVariants.{T1aUp, T1aCpDl, T1aCpUl, T2aUp, T2aCpDl, T2aCpUl, Ta3, Ta4}
 use Rattle.explain_model.specs.Cells.{event_lines}
 use Rattle.explain_model.specs.Margins.{margin_lines}
 

@@ -1,8 +1,8 @@
 -- How far a section is from the two ends of its window (this project's profile).
 use Rattle.std.specs.Prelude.{ℤ, pos, ◌+ℤ◌, ◌-ℤ◌, []}
 use Rattle.std.specs.Int.{int_div_euclid}
-use Rattle.fh_time.specs.declared.nanoseconds.TheConstants.{NANOSECOND}
-use Rattle.fh_time.specs.declared.values.Slot.{Slot}
+use Rattle.fh_base.specs.declared.nanoseconds.TheConstants.{NANOSECOND}
+use Rattle.fh_base.specs.declared.values.Slot.{Slot}
 use Rattle.air_source.specs.declared.events.Side.{Side}
 use Rattle.air_source.specs.declared.events.Side.TheVariants.{Ru, Du}
 use Rattle.window_config.specs.Windows.{command_window_of, data_window_of, ticks_of_ns}
@@ -12,9 +12,9 @@ use Rattle.unit_model.specs.Blocks.{data_slot, data_start}
 use Rattle.unit_model.specs.Commands.{command_start}
 use Rattle.unit_model.specs.declared.decoded.ControlSection.{ControlSection}
 use Rattle.unit_model.specs.declared.decoded.UserSection.{UserSection}
-use Rattle.unit_cells.specs.Headings.{data_under}
-use Rattle.unit_cells.specs.declared.heading.DataHeading.{DataHeading}
-use Rattle.explain_lines.specs.declared.places.Timing.{Timing}
+use Rattle.unit_model.specs.Headings.{data_under}
+use Rattle.unit_model.specs.declared.heading.DataHeading.{DataHeading}
+use Rattle.explain_model.specs.declared.places.Timing.{Timing}
 
 -- when a window opens and closes for a symbol that starts then, in ticks: before it at the radio unit, after it at the distributed unit
 abbrev pub opens : Side → Range → ℤ → ℤ

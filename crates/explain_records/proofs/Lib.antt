@@ -2,3 +2,18 @@ pub mod NearestLemmas
 pub mod LineLemmas
 pub mod OrderLemmas
 pub mod MissingLemmas
+pub mod RecordLemmas
+mod PlaceLemmas
+mod CountLemmas
+mod NoneLemmas
+pub mod GrowingLemmas
+mod CurrentLemmas
+mod StepLemmas
+mod FirstLemmas
+pub mod TableLemmas
+pub mod UnitLemmas
+mod KeptLemmas
+mod WalkLemmas
+mod StoryLemmas
+mod HeardOrderLemmas
+pub mod SoundLemmas

@@ -2,23 +2,23 @@
 use Rattle.std.proofs.Common.{◌≡◌, ℕ, ℤ, pos, negsuc, ◌<ℤ◌, ◌≤ℤ◌, unsigned_abs, arith, Bool, true, false, not, ◌&&◌, ◌||◌, ◌==◌, if◌then◌else◌, List, [], ◌∷◌, Option, Some, None, refl, ap, ◌∙◌}
 use Rattle.std.specs.Int.{int_gap}
 use Rattle.std.proofs.lemmas.Int.{ints}
-use Rattle.fh_time.specs.declared.values.Slot.{Slot}
+use Rattle.fh_base.specs.declared.values.Slot.{Slot}
 use Rattle.ecpri_fragments.specs.Pieces.{joined}
 use Rattle.ecpri_fragments.specs.Verdicts.{Message as Whole}
 use Rattle.air_source.specs.declared.events.Side.{Side}
 use Rattle.window_config.specs.declared.delays.Delays.{Delays}
 use Rattle.window_config.specs.declared.endpoints.EndpointConfig.{EndpointConfig}
-use Rattle.unit_cells.specs.declared.heading.DataHeading.{DataHeading}
-use Rattle.unit_memory.specs.Judgements.{Judgement, Commanded}
+use Rattle.unit_model.specs.declared.heading.DataHeading.{DataHeading}
+use Rattle.unit_model.specs.Judgements.{Judgement, Commanded}
 use Rattle.unit_model.specs.Commands.{is_idle}
 use Rattle.unit_model.specs.declared.decoded.ControlSection.{ControlSection}
-use Rattle.reason_records.specs.declared.sections.CommandRecord.{CommandRecord}
+use Rattle.explain_model.specs.declared.sections.CommandRecord.{CommandRecord}
 use Rattle.unit_model.specs.declared.verdicts.CommandVerdict.{CommandVerdict}
 use Rattle.unit_model.specs.declared.verdicts.DataVerdict.{DataVerdict}
-use Rattle.explain_lines.specs.declared.values.WholeAnswer.{WholeAnswer}
-use Rattle.explain_lines.specs.declared.values.WholeAnswer.TheVariants as answer
+use Rattle.explain_model.specs.declared.values.WholeAnswer.{WholeAnswer}
+use Rattle.explain_model.specs.declared.values.WholeAnswer.TheVariants as answer
 use Rattle.explain_model.specs.Sections.{control_line, data_line, symbol_named, whole_line}
-use Rattle.explain_reasons.specs.Records.{command_in, command_record, data_record, header_with}
+use Rattle.explain_model.specs.Records.{command_in, command_record, data_record, header_with}
 use Rattle.explain_records.specs.OfLines.{LinesTellRecords, command_of_line, data_of_line, header_named, listed, why_of}
 
 -- ---- how far a number is below 0

@@ -4,29 +4,26 @@ use Rattle.std.specs.List.{AllByRecursion, flat_map}
 use Rattle.std.proofs.lemmas.List.Elements.{filter-append}
 use Rattle.air_source.specs.declared.events.Event.{Event}
 use Rattle.window_config.specs.declared.config.Config.{Config}
-use Rattle.unit_model.specs.Lists.{each}
+use Rattle.fh_base.specs.Lists.{each}
 use Rattle.explain_model.specs.Cells.{Entry, Lines, Of, runs}
-use Rattle.explain_reasons.proofs.AloneLemmas.{others_never_matter}
-use Rattle.explain_reasons.specs.Missing.{MissingCell, goes_on_missing, is_missing, missing_cell, missing_cells, missing_line, missing_lines, missing_of, why_lines}
-use Rattle.explain_reasons.specs.Reasons.{Kept, kept, missing_reason, of_symbol}
-use Rattle.explain_reasons.specs.Seen.{Seen, cell_runs, ep_of, run_of, seen_at, seen_in, seen_key}
-use Rattle.explain_reasons.proofs.SeenLemmas.{runs_hold_cells}
+use Rattle.explain_model.proofs.AloneLemmas.{others_never_matter}
+use Rattle.explain_model.specs.Missing.{MissingCell, goes_on_missing, is_missing, missing_cell, missing_cells, missing_line, missing_lines, missing_of, why_lines}
+use Rattle.explain_model.specs.SilentReasons.{Kept, kept, missing_reason, of_symbol}
+use Rattle.explain_model.specs.Seen.{Seen, cell_runs, ep_of, run_of, seen_at, seen_in, seen_key}
+use Rattle.explain_model.proofs.SeenLemmas.{runs_hold_cells}
 use Rattle.explain_model.specs.Pieces.{pieces}
-use Rattle.line_runs.specs.Runs.{piece_line, run_lines}
-use Rattle.line_runs.proofs.MapLemmas.{run_lines_map}
-use Rattle.reason_records.specs.Keys.{run_key}
-use Rattle.reason_records.specs.declared.keys.SymbolKey.{SymbolKey}
-use Rattle.reason_records.specs.declared.runs.CellRun.{CellRun}
+use Rattle.explain_heard.specs.Runs.{piece_line, run_lines}
+use Rattle.explain_heard.proofs.MapLemmas.{run_lines_map}
+use Rattle.explain_model.specs.Keys.{run_key}
+use Rattle.explain_model.specs.declared.keys.SymbolKey.{SymbolKey}
+use Rattle.explain_model.specs.declared.runs.CellRun.{CellRun}
 use Rattle.explain_records.specs.Missing.{missing_cell_of, missing_line_of, missing_prb_at, missing_prbs, missing_prbs_by, missing_prbs_of, missing_related, missing_run_line, missing_text}
 use Rattle.explain_records.specs.Stored.{SameBySymbol}
 use Rattle.explain_records.specs.declared.missing.MissingPrb.{MissingPrb}
+use Rattle.fh_base.proofs.EachLemmas.{each_same}
+use Rattle.fh_base.proofs.MemberLemmas.{all_join as all_append}
 
 -- ---- a run by the records of its symbol
-
-pub each_same : {A : Type 0} (first n : ℕ) (f g : ℕ → List A) → ((k : ℕ) → f k ≡ g k) → each first n f ≡ each first n g
-unfolding each
-each_same first zero f g same = refl
-each_same first (suc n) f g same = ap₂ (λ x y. x ++ y) (same first) (each_same (first + 1) n f g same)
 
 pub alone : (all : Kept) (r : CellRun) → missing_prbs_by (of_symbol (run_key r) all) r ≡ missing_prbs_by all r
 alone all r = each_same r.prb r.count (missing_prb_at (of_symbol (run_key r) all) r) (missing_prb_at all r)
@@ -98,16 +95,12 @@ cells_of_runs c all (r ∷ rs) h =
 
 -- ---- the runs that are kept
 
-all_append : {A : Type 0} (P : A → Type 0) (xs ys : List A) → AllByRecursion P xs → AllByRecursion P ys → AllByRecursion P (xs ++ ys)
-all_append P [] ys h k = k
-all_append P (x ∷ xs) ys h k = (h.0, all_append P xs ys h.1 k)
-
-run_has : (c : Config) (es : List Entry) → AllByRecursion (HasEndpoint c) (run_of c es)
+pub run_has : (c : Config) (es : List Entry) → AllByRecursion (HasEndpoint c) (run_of c es)
 run_has c [] = tt
 run_has c (Lines ls ∷ rest) = tt
 run_has c (Of a w ∷ rest) = (refl, tt)
 
-runs_have : (c : Config) (ps : List (List Entry)) → AllByRecursion (HasEndpoint c) (flat_map (run_of c) ps)
+pub runs_have : (c : Config) (ps : List (List Entry)) → AllByRecursion (HasEndpoint c) (flat_map (run_of c) ps)
 runs_have c [] = tt
 runs_have c (p ∷ ps) = all_append (HasEndpoint c) (run_of c p) (flat_map (run_of c) ps) (run_has c p) (runs_have c ps)
 

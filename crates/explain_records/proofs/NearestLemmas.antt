@@ -4,10 +4,10 @@ use Rattle.std.specs.List.{find}
 use Rattle.std.proofs.lemmas.Bool.{cases_Bool}
 use Rattle.std.proofs.lemmas.Bool.Decides.{nat_tests}
 use Rattle.std.proofs.lemmas.List.Elements.{filter_more}
-use Rattle.unit_model.specs.Lists.{or_else, some}
+use Rattle.fh_base.specs.Lists.{or_else, some}
 use Rattle.slot_rings.proofs.MaskLemmas.{in_both, some_in}
-use Rattle.explain_reasons.specs.Commanded.{nearer, nearest, share}
-use Rattle.explain_reasons.specs.Reasons.{last_of}
+use Rattle.explain_model.specs.Commanded.{nearer, nearest, share}
+use Rattle.explain_model.specs.SilentReasons.{last_of}
 use Rattle.explain_records.specs.Nearest.{nearer_of}
 
 -- ---- the first that passes

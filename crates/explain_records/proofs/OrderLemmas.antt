@@ -2,16 +2,16 @@
 use Rattle.std.proofs.Common.{◌≡◌, Bool, true, false, ◌&&◌, ◌==◌, List, filter, refl, sym, ◌∙◌}
 use Rattle.std.proofs.lemmas.List.Elements.{filter_agree}
 use Rattle.unit_model.specs.Claims.{same_slot}
-use Rattle.explain_reasons.specs.Reasons.{Kept, of_symbol as kept_at, slot_of}
-use Rattle.reason_records.specs.Keys.{beginning_key, command_key, data_key, header_key, repeated_key, same_slot_key, same_symbol}
-use Rattle.reason_records.specs.declared.data.DataRecord.{DataRecord}
-use Rattle.reason_records.specs.declared.headers.BeginningRecord.{BeginningRecord}
-use Rattle.reason_records.specs.declared.headers.HeaderRecord.{HeaderRecord}
-use Rattle.reason_records.specs.declared.headers.RepeatedRecord.{RepeatedRecord}
-use Rattle.reason_records.specs.declared.keys.SlotKey.{SlotKey}
-use Rattle.reason_records.specs.declared.keys.SymbolKey.{SymbolKey}
-use Rattle.reason_records.specs.declared.sections.CommandRecord.{CommandRecord}
-use Rattle.symbol_records.specs.Keys.{command_symbol, in_slot, of_symbol}
+use Rattle.explain_model.specs.SilentReasons.{Kept, of_symbol as kept_at, slot_of}
+use Rattle.explain_model.specs.Keys.{beginning_key, command_key, data_key, header_key, repeated_key, same_slot_key, same_symbol}
+use Rattle.explain_model.specs.declared.data.DataRecord.{DataRecord}
+use Rattle.explain_model.specs.declared.headers.BeginningRecord.{BeginningRecord}
+use Rattle.explain_model.specs.declared.headers.HeaderRecord.{HeaderRecord}
+use Rattle.explain_model.specs.declared.headers.RepeatedRecord.{RepeatedRecord}
+use Rattle.explain_model.specs.declared.keys.SlotKey.{SlotKey}
+use Rattle.explain_model.specs.declared.keys.SymbolKey.{SymbolKey}
+use Rattle.explain_model.specs.declared.sections.CommandRecord.{CommandRecord}
+use Rattle.explain_records.specs.Keys.{command_symbol, in_slot, of_symbol}
 
 and_end : (a b : Bool) → (a && (b && true)) ≡ (a && b)
 and_end true true = refl

@@ -1,6 +1,6 @@
 -- What the code's structs stand for in the definitions.
-use Rattle.explain_reasons.specs.Commanded.{Elements}
-use Rattle.explain_reasons.specs.Reasons.{Kept}
+use Rattle.explain_model.specs.Commanded.{Elements}
+use Rattle.explain_model.specs.SilentReasons.{Kept}
 use Rattle.explain_records.specs.declared.commands.Asked.{Asked}
 use Rattle.explain_records.specs.declared.reasons.AtSymbol.{AtSymbol}
 

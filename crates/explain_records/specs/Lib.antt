@@ -4,3 +4,14 @@ pub mod Stored
 pub mod OfLines
 pub mod Missing
 pub mod MissingSteps
+pub mod Keys
+pub mod Order
+pub mod Places
+pub mod Beginnings
+pub mod Turns
+pub mod Tables
+pub mod Recorded
+pub mod Units
+pub mod Sound
+pub mod Steps
+pub mod Records

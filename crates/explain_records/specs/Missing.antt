@@ -1,15 +1,15 @@
 -- Missing cells, run by run.
 use Rattle.std.specs.Prelude.{◌<◌, ◌+◌, ◌^◌, ℕ, Bool, List, [], ◌∷◌, if◌then◌else◌}
 use Rattle.std.specs.List.{flat_map}
-use Rattle.unit_model.specs.Lists.{each}
-use Rattle.explain_lines.specs.declared.values.ExplainLine.{ExplainLine}
-use Rattle.explain_lines.specs.declared.values.ExplainLine.TheVariants as line
-use Rattle.explain_reasons.specs.Missing.{MissingCell, goes_on_missing, seen_run}
-use Rattle.explain_reasons.specs.Reasons.{Kept, missing_reason}
-use Rattle.explain_reasons.specs.Seen.{seen_at}
-use Rattle.line_runs.specs.Runs.{run_lines}
-use Rattle.reason_records.specs.Keys.{run_key}
-use Rattle.reason_records.specs.declared.runs.CellRun.{CellRun}
+use Rattle.fh_base.specs.Lists.{each}
+use Rattle.explain_model.specs.declared.values.ExplainLine.{ExplainLine}
+use Rattle.explain_model.specs.declared.values.ExplainLine.TheVariants as line
+use Rattle.explain_model.specs.Missing.{MissingCell, goes_on_missing, seen_run}
+use Rattle.explain_model.specs.SilentReasons.{Kept, missing_reason}
+use Rattle.explain_model.specs.Seen.{seen_at}
+use Rattle.explain_heard.specs.Runs.{run_lines}
+use Rattle.explain_model.specs.Keys.{run_key}
+use Rattle.explain_model.specs.declared.runs.CellRun.{CellRun}
 use Rattle.explain_records.specs.declared.missing.MissingPrb.{MissingPrb}
 
 -- ---- a cell

@@ -1,9 +1,9 @@
 -- The nearest of records that come one after the other.
 use Rattle.std.specs.Prelude.{ℕ, nat_le, if◌then◌else◌, List, filter, Option, Some, None}
-use Rattle.explain_reasons.specs.Commanded.{nearest}
-use Rattle.explain_reasons.specs.Reasons.{misses_prb}
-use Rattle.reason_records.specs.declared.data.DataRecord.{DataRecord}
-use Rattle.reason_records.specs.declared.keys.SymbolKey.{SymbolKey}
+use Rattle.explain_model.specs.Commanded.{nearest}
+use Rattle.explain_model.specs.SilentReasons.{misses_prb}
+use Rattle.explain_model.specs.declared.data.DataRecord.{DataRecord}
+use Rattle.explain_model.specs.declared.keys.SymbolKey.{SymbolKey}
 
 -- the nearer of the nearest so far and a later one
 abbrev pub nearer_of : {A : Type 0} → (A → ℕ) → Option A → A → A

@@ -1,29 +1,29 @@
 -- The records of what lines say.
 use Rattle.std.specs.Prelude.{◌≡◌, ◌==◌, ◌||◌, not, ℕ, List, [], ◌∷◌, if◌then◌else◌, Option, Some, None}
-use Rattle.fh_time.specs.declared.values.Slot.{Slot}
+use Rattle.fh_base.specs.declared.values.Slot.{Slot}
 use Rattle.air_source.specs.declared.events.Side.{Side}
-use Rattle.explain_lines.specs.declared.values.ControlLine.{ControlLine}
-use Rattle.explain_lines.specs.declared.values.DataLine.{DataLine}
-use Rattle.explain_lines.specs.declared.values.WholeAnswer.{WholeAnswer}
-use Rattle.explain_lines.specs.declared.values.WholeAnswer.TheVariants as answer
-use Rattle.explain_lines.specs.declared.values.WholeLine.{WholeLine}
+use Rattle.explain_model.specs.declared.values.ControlLine.{ControlLine}
+use Rattle.explain_model.specs.declared.values.DataLine.{DataLine}
+use Rattle.explain_model.specs.declared.values.WholeAnswer.{WholeAnswer}
+use Rattle.explain_model.specs.declared.values.WholeAnswer.TheVariants as answer
+use Rattle.explain_model.specs.declared.values.WholeLine.{WholeLine}
 use Rattle.ecpri_fragments.specs.Verdicts.{Message as Whole}
 use Rattle.uplane_sections.specs.declared.values.URefusal.{URefusal}
 use Rattle.window_config.specs.declared.delays.Delays.{Delays}
 use Rattle.window_config.specs.declared.endpoints.EndpointConfig.{EndpointConfig}
-use Rattle.unit_cells.specs.declared.heading.DataHeading.{DataHeading}
-use Rattle.unit_memory.specs.Judgements.{Judgement, Commanded, Unread, Turned}
+use Rattle.unit_model.specs.declared.heading.DataHeading.{DataHeading}
+use Rattle.unit_model.specs.Judgements.{Judgement, Commanded, Unread, Turned}
 use Rattle.unit_model.specs.declared.decoded.ControlSection.{ControlSection}
 use Rattle.unit_model.specs.declared.verdicts.CommandVerdict.{CommandVerdict}
 use Rattle.unit_model.specs.declared.verdicts.DataVerdict.{DataVerdict}
 use Rattle.explain_model.specs.Margins.{control_class, data_class_of}
 use Rattle.explain_model.specs.Sections.{control_line, data_line, whole_line}
-use Rattle.explain_reasons.specs.Records.{command_in, data_record, distance_by, distance_in, header_in}
-use Rattle.reason_records.specs.declared.data.DataRecord.{DataRecord}
-use Rattle.reason_records.specs.declared.headers.HeaderRecord.{HeaderRecord}
-use Rattle.reason_records.specs.declared.headers.HeaderWhy.{HeaderWhy}
-use Rattle.reason_records.specs.declared.headers.HeaderWhy.TheVariants.{Refused, WrongWay}
-use Rattle.reason_records.specs.declared.sections.CommandRecord.{CommandRecord}
+use Rattle.explain_model.specs.Records.{command_in, data_record, distance_by, distance_in, header_in}
+use Rattle.explain_model.specs.declared.data.DataRecord.{DataRecord}
+use Rattle.explain_model.specs.declared.headers.HeaderRecord.{HeaderRecord}
+use Rattle.explain_model.specs.declared.headers.HeaderWhy.{HeaderWhy}
+use Rattle.explain_model.specs.declared.headers.HeaderWhy.TheVariants.{Refused, WrongWay}
+use Rattle.explain_model.specs.declared.sections.CommandRecord.{CommandRecord}
 
 -- ---- the record of each line
 

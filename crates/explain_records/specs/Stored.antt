@@ -1,7 +1,7 @@
 -- The records that are kept.
 use Rattle.std.specs.Prelude.{◌≡◌, []}
-use Rattle.explain_reasons.specs.Reasons.{Kept, of_symbol}
-use Rattle.reason_records.specs.declared.keys.SymbolKey.{SymbolKey}
+use Rattle.explain_model.specs.SilentReasons.{Kept, of_symbol}
+use Rattle.explain_model.specs.declared.keys.SymbolKey.{SymbolKey}
 
 abbrev pub nothing_kept : Kept
 nothing_kept = record { given = []; commanded = []; headers = []; repeated = []; begun = [] }

@@ -1,13 +1,12 @@
 // What the commands of a slot say of its elements.
 ghost use Rattle.std.specs.Prelude.{◌≡◌, if◌then◌else◌};
 ghost use Rattle.unit_model.specs.Claims.{is_from};
-ghost use Rattle.explain_reasons.specs.Commanded.{accepted_command, command_reason, command_reason_by, has_prb, is_accepted, is_accepted_for, is_named_by, is_refused_for, refused_command, share};
+ghost use Rattle.explain_model.specs.Commanded.{accepted_command, command_reason, command_reason_by, has_prb, is_accepted, is_accepted_for, is_named_by, is_refused_for, refused_command, share};
 ghost use Rattle.explain_records.specs.Nearest.{nearer_of};
 ghost use Rattle.explain_records.specs.Elements.{elements};
-ghost use Rattle.reason_records.specs.Keys.{same_slot_key};
+ghost use Rattle.explain_model.specs.Keys.{same_slot_key};
 
-use explain_lines::Reason;
-use reason_records::{CommandRecord, SlotKey};
+use explain_model::{CommandRecord, Reason, SlotKey};
 use unit_model::{CommandVerdict, is_from, same_slot};
 
 /// Elements of one PRB in one symbol of a slot, in a direction.
@@ -61,7 +60,7 @@ fn has_symbol(r: &CommandRecord, symbol: u8) -> bool
 }
 
 /// Whether a command names one of some elements.
-#[tactic(auto, unfolding(explain_reasons::specs::Commanded::is_named_by))]
+#[tactic(auto, unfolding(explain_model::specs::Commanded::is_named_by))]
 fn is_named_by(asked: &Asked, r: &CommandRecord) -> bool
     ensures { result ≡ is_named_by (elements asked.now) r.now }
 {
@@ -167,7 +166,7 @@ fn command_reason_by(verdict: CommandVerdict, by: u64, from: u32) -> Reason
 }
 
 /// Why no command claims one of some elements: what became of the nearest that names it.
-#[tactic(auto, unfolding(explain_reasons::specs::Commanded::command_reason))]
+#[tactic(auto, unfolding(explain_model::specs::Commanded::command_reason))]
 pub fn command_reason(commanded: &[CommandRecord], asked: &Asked) -> Reason
     ensures { result ≡ command_reason commanded.now (elements asked.now) }
 {

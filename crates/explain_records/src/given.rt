@@ -1,11 +1,10 @@
 // What the data of a symbol say of its PRBs.
 ghost use Rattle.std.specs.Prelude.{◌≡◌, if◌then◌else◌};
-ghost use Rattle.explain_reasons.specs.Reasons.{covers_prb, gives_prb, giver_of, is_on_time, misses_prb, other_reason, untimely_by, untimely_reason};
+ghost use Rattle.explain_model.specs.SilentReasons.{covers_prb, gives_prb, giver_of, is_on_time, misses_prb, other_reason, untimely_by, untimely_reason};
 ghost use Rattle.explain_records.specs.Nearest.{nearer_of, nearest_missing};
-ghost use Rattle.reason_records.specs.Keys.{same_symbol};
+ghost use Rattle.explain_model.specs.Keys.{same_symbol};
 
-use explain_lines::Reason;
-use reason_records::{DataRecord, SymbolKey};
+use explain_model::{DataRecord, Reason, SymbolKey};
 use unit_model::{is_from, same_slot};
 use window_config::Class;
 
@@ -17,7 +16,7 @@ pub(crate) fn same_symbol(a: SymbolKey, b: SymbolKey) -> bool
 }
 
 /// Whether a section of data covers a PRB of a symbol.
-#[tactic(auto, unfolding(explain_reasons::specs::Reasons::covers_prb))]
+#[tactic(auto, unfolding(explain_model::specs::SilentReasons::covers_prb))]
 fn covers_prb(key: SymbolKey, prb: u16, r: &DataRecord) -> bool
     ensures { result ≡ covers_prb key prb r.now }
 {
@@ -98,7 +97,7 @@ fn nearer(first: Option<DataRecord>, next: DataRecord) -> DataRecord
 }
 
 /// The block of another section id that stands at a PRB of a symbol, if one does.
-#[tactic(auto, unfolding(explain_reasons::specs::Reasons::other_reason))]
+#[tactic(auto, unfolding(explain_model::specs::SilentReasons::other_reason))]
 pub(crate) fn other_reason(given: &[DataRecord], key: SymbolKey, prb: u16) -> Option<Reason>
     ensures { result ≡ other_reason given.now key prb }
 {
@@ -112,7 +111,7 @@ pub(crate) fn other_reason(given: &[DataRecord], key: SymbolKey, prb: u16) -> Op
 }
 
 /// The nearest data that covered a PRB of a symbol late or early, if any did.
-#[tactic(auto, unfolding(explain_reasons::specs::Reasons::untimely_reason))]
+#[tactic(auto, unfolding(explain_model::specs::SilentReasons::untimely_reason))]
 pub(crate) fn untimely_reason(given: &[DataRecord], key: SymbolKey, prb: u16) -> Option<Reason>
     ensures { result ≡ untimely_reason given.now key prb }
 {

@@ -1,11 +1,10 @@
 // What the messages of a symbol that were not decoded say of it.
 ghost use Rattle.std.specs.Prelude.{◌≡◌, filter, if◌then◌else◌};
-ghost use Rattle.explain_reasons.specs.Reasons.{header_by, header_reason, last_of, repeated_reason, unfinished_reason};
-ghost use Rattle.reason_records.specs.Keys.{beginning_key, header_key, repeated_key, same_symbol};
+ghost use Rattle.explain_model.specs.SilentReasons.{header_by, header_reason, last_of, repeated_reason, unfinished_reason};
+ghost use Rattle.explain_model.specs.Keys.{beginning_key, header_key, repeated_key, same_symbol};
 
 use crate::given::same_symbol;
-use explain_lines::Reason;
-use reason_records::{BeginningRecord, HeaderRecord, HeaderWhy, RepeatedRecord, SymbolKey};
+use explain_model::{BeginningRecord, HeaderRecord, HeaderWhy, Reason, RepeatedRecord, SymbolKey};
 
 /// The reason of a whole message that was not decoded.
 fn header_by(why: HeaderWhy, from: u32) -> Reason
@@ -85,7 +84,7 @@ fn last_begun(begun: &[BeginningRecord], key: SymbolKey) -> Option<BeginningReco
 }
 
 /// The last message of a symbol that never became whole, if there is one.
-#[tactic(auto, unfolding(explain_reasons::specs::Reasons::unfinished_reason))]
+#[tactic(auto, unfolding(explain_model::specs::SilentReasons::unfinished_reason))]
 pub(crate) fn unfinished_reason(begun: &[BeginningRecord], key: SymbolKey) -> Option<Reason>
     ensures { result ≡ unfinished_reason begun.now key }
 {

@@ -1,22 +1,48 @@
 //! What waits in memory until the end of a replay, why a cell is missing or an element silent by it, and the lines at the end of an
 //! explanation that say why cells are missing ([`tell_missing`]).
+//!
+//! Records of what happened at symbols, kept until the records of one symbol are asked for.
+//!
+//! [`SymbolRecords`] takes records in the order in which they are made. [`SymbolRecords::order`] sorts them once by their keys, and
+//! [`OrderedRecords::of_symbol`] then lends the records of one key as a slice, in the order in which they were appended.
+//!
+//! The fragments of data that came to a unit, as far as reasons need them: which messages came under a used sequence id, and which
+//! never became whole.
+//!
+//! All that waits in memory of what both units heard, until the reasons of a replay are told.
 #![tactic(auto)]
 
+mod beginnings;
 mod commands;
+mod fragment_records;
+mod generations;
 mod given;
 mod headers;
+mod heard_records;
+mod keys;
+mod kinds;
 mod missing;
 mod of_lines;
 mod ordered;
 mod reasons;
+mod records;
 mod same;
+mod sections;
 mod store;
+#[cfg(test)]
+mod tests;
+mod told;
 
 pub use commands::{Asked, accepted_command, command_reason};
+pub use fragment_records::FragmentRecords;
 pub use given::giver_of;
+pub use heard_records::HeardRecords;
+pub use keys::Keyed;
+pub use kinds::in_slot;
 pub use missing::{is_next, tell_missing};
 pub use of_lines::{command_record, data_record, header_record};
 pub use ordered::OrderedKept;
 pub use reasons::{AtSymbol, missing_reason};
+pub use records::{OrderedRecords, SymbolRecords};
 pub use same::{same_reason, word_place};
 pub use store::KeptRecords;

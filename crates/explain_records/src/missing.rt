@@ -2,19 +2,18 @@
 ghost use Rattle.std.specs.Prelude.{◌≡◌, ◌+◌, ◌==◌, OnOk, IfErr};
 ghost use Rattle.std.specs.List.{AllByRecursion};
 ghost use Rattle.air_source.specs.Causes.{HasAirCause};
-ghost use Rattle.explain_reasons.specs.Missing.{alike, seen_run};
-ghost use Rattle.explain_reasons.specs.Seen.{seen_at};
+ghost use Rattle.explain_model.specs.Missing.{alike, seen_run};
+ghost use Rattle.explain_model.specs.Seen.{seen_at};
 ghost use Rattle.explain_records.specs.Elements.{at_symbol};
-ghost use Rattle.line_runs.specs.Runs.{HasPut, StopsPutting};
-ghost use Rattle.line_runs.specs.Stops.{StopsInLine};
+ghost use Rattle.explain_heard.specs.Runs.{HasPut, StopsPutting};
+ghost use Rattle.explain_heard.specs.Stops.{StopsInLine};
 ghost use Rattle.explain_records.specs.Missing.{IsCellRun, missing_line_of, missing_prbs, missing_prbs_by, missing_prbs_of, missing_related, missing_text};
 
 use crate::same::same_reason;
 use crate::{AtSymbol, OrderedKept, missing_reason};
 use air_source::AirFault;
-use explain_lines::{ExplainLine, PrbRun, Reason, SymbolPlace};
-use line_runs::{LineRuns, LineSink, RunItem};
-use reason_records::CellRun;
+use explain_heard::{LineRuns, LineSink, RunItem};
+use explain_model::{CellRun, ExplainLine, PrbRun, Reason, SymbolPlace};
 use unit_model::same_slot;
 
 /// A cell without samples: the run that it is of, its PRB, and why it has none.

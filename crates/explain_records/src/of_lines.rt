@@ -2,12 +2,14 @@
 ghost use Rattle.std.specs.Prelude.{◌≡◌, ◌<◌, ◌^◌, pos};
 ghost use Rattle.std.specs.Int.{int_gap};
 ghost use Rattle.explain_model.specs.Margins.{control_class, data_class_of};
-ghost use Rattle.explain_reasons.specs.Records.{distance_by, distance_in};
+ghost use Rattle.explain_model.specs.Records.{distance_by, distance_in};
 ghost use Rattle.explain_records.specs.OfLines.{command_of_line, data_of_line, header_of_line, why_of};
 
 use air_source::Side;
-use explain_lines::{ControlLine, DataLine, Timing, WholeAnswer, WholeLine};
-use reason_records::{CommandRecord, DataRecord, HeaderRecord, HeaderWhy};
+use explain_model::{
+    CommandRecord, ControlLine, DataLine, DataRecord, HeaderRecord, HeaderWhy, Timing, WholeAnswer,
+    WholeLine,
+};
 use unit_model::{CommandVerdict, DataVerdict};
 use window_config::Class;
 

@@ -1,16 +1,17 @@
 // The records of a replay, in the order of their symbols.
 ghost use Rattle.std.specs.Prelude.{◌≡◌, filter};
-ghost use Rattle.explain_reasons.specs.Reasons.{of_symbol};
+ghost use Rattle.explain_model.specs.SilentReasons.{of_symbol};
 ghost use Rattle.explain_records.specs.Elements.{at_symbol};
-ghost use Rattle.reason_records.specs.Keys.{command_key, data_key, same_slot_key, same_symbol};
-ghost use Rattle.symbol_records.specs.Order.{AreInOrder};
+ghost use Rattle.explain_model.specs.Keys.{command_key, data_key, same_slot_key, same_symbol};
+ghost use Rattle.explain_records.specs.Order.{AreInOrder};
 
+use crate::kinds::in_slot;
 use crate::reasons::AtSymbol;
-use reason_records::{
+use crate::records::OrderedRecords;
+use explain_model::{
     BeginningRecord, CommandRecord, DataRecord, HeaderRecord, RepeatedRecord, SlotKey, SymbolKey,
 };
 use std::marker::Model;
-use symbol_records::{OrderedRecords, in_slot};
 
 /// The records of a replay, in the order of their symbols. Contracts see them as the lists of them.
 #[derive(Drop)]
@@ -23,7 +24,7 @@ pub struct OrderedKept {
 }
 
 impl Model for OrderedKept {
-    ghost use Rattle.explain_reasons.specs.Reasons.{Kept};
+    ghost use Rattle.explain_model.specs.SilentReasons.{Kept};
 
     ghost Value = { Kept };
 

@@ -1,15 +1,15 @@
 // Why a cell is missing.
 ghost use Rattle.std.specs.Prelude.{◌≡◌};
-ghost use Rattle.explain_reasons.specs.Reasons.{came_reason, missing_reason, nothing_reason, uplink_elements};
+ghost use Rattle.explain_model.specs.SilentReasons.{came_reason, missing_reason, nothing_reason, uplink_elements};
 ghost use Rattle.explain_records.specs.Elements.{at_symbol, elements};
 
 use crate::commands::{Asked, accepted_command, command_reason};
 use crate::given::{other_reason, untimely_reason};
 use crate::headers::{header_reason, repeated_reason, unfinished_reason};
 use air_source::Side;
-use explain_lines::Reason;
-use reason_records::{
-    BeginningRecord, CommandRecord, DataRecord, HeaderRecord, RepeatedRecord, SlotKey, SymbolKey,
+use explain_model::{
+    BeginningRecord, CommandRecord, DataRecord, HeaderRecord, Reason, RepeatedRecord, SlotKey,
+    SymbolKey,
 };
 
 /// The records of one symbol, and the commands of its slot.
@@ -39,7 +39,7 @@ fn uplink_elements(key: SymbolKey, prb: u16) -> Asked
 }
 
 /// What is known of a message that came for a PRB of a symbol, by the first rule that holds.
-#[tactic(auto, unfolding(explain_reasons::specs::Reasons::came_reason))]
+#[tactic(auto, unfolding(explain_model::specs::SilentReasons::came_reason))]
 fn came_reason(at: &AtSymbol<'_>, key: SymbolKey, prb: u16) -> Option<Reason>
     ensures { result ≡ came_reason (at_symbol at.now) key prb }
 {
@@ -77,7 +77,7 @@ fn nothing_reason(at: &AtSymbol<'_>, key: SymbolKey, prb: u16) -> Reason
 }
 
 /// Why a cell of a PRB of a symbol that has no samples under its section id has none, by the records of the symbol.
-#[tactic(auto, unfolding(explain_reasons::specs::Reasons::missing_reason))]
+#[tactic(auto, unfolding(explain_model::specs::SilentReasons::missing_reason))]
 pub fn missing_reason(at: &AtSymbol<'_>, key: SymbolKey, prb: u16) -> Reason
     ensures { result ≡ missing_reason (at_symbol at.now) key prb }
 {

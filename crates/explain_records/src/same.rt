@@ -1,9 +1,9 @@
 // Reasons that read the same.
 ghost use Rattle.std.specs.Prelude.{◌≡◌};
-ghost use Rattle.explain_lines.specs.Reasons.{word_of};
-ghost use Rattle.explain_reasons.specs.Same.{detail_of, from_of, pieces_of, place_of, same_reason};
+ghost use Rattle.explain_model.specs.Reasons.{word_of};
+ghost use Rattle.explain_model.specs.Same.{detail_of, from_of, pieces_of, place_of, same_reason};
 
-use explain_lines::Reason;
+use explain_model::Reason;
 
 /// The place of a reason's first word among all words.
 pub fn word_place(reason: &Reason) -> u8

@@ -3,11 +3,11 @@ ghost use Rattle.std.specs.Prelude.{◌≡◌, ◌++◌, [], ◌∷◌, IfOk, On
 ghost use Rattle.explain_records.specs.Stored.{SameBySymbol, nothing_kept};
 
 use crate::ordered::OrderedKept;
+use crate::records::SymbolRecords;
+use explain_model::{BeginningRecord, CommandRecord, DataRecord, HeaderRecord, RepeatedRecord};
 use fh_base::NoMemory;
-use reason_records::{BeginningRecord, CommandRecord, DataRecord, HeaderRecord, RepeatedRecord};
 use std::alloc::Global;
 use std::marker::Model;
-use symbol_records::SymbolRecords;
 
 /// The records of a replay, in the order in which they are made. Contracts see them as the lists of them.
 #[derive(Drop)]
@@ -20,7 +20,7 @@ pub struct KeptRecords {
 }
 
 impl Model for KeptRecords {
-    ghost use Rattle.explain_reasons.specs.Reasons.{Kept};
+    ghost use Rattle.explain_model.specs.SilentReasons.{Kept};
 
     ghost Value = { Kept };
 

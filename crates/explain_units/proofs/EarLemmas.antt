@@ -9,9 +9,9 @@ use Rattle.explain_units.proofs.FitLemmas.{judged_fit}
 use Rattle.explain_units.specs.Ears.{HearsFor}
 use Rattle.explain_units.specs.Fit.{IsFit}
 use Rattle.explain_units.specs.Judging.{Judging}
-use Rattle.fh_time.specs.declared.values.Ticks.{Ticks}
+use Rattle.fh_base.specs.declared.values.Ticks.{Ticks}
 use Rattle.unit_memory.proofs.HoldLemmas.{holds_later}
-use Rattle.unit_memory.specs.Judgements.{Judgement, judgements}
+use Rattle.unit_model.specs.Judgements.{Judgement, judgements}
 use Rattle.unit_memory.specs.Memory.{Holds, HoldsSome, arrival_at}
 use Rattle.unit_memory.specs.declared.memory.UnitMemory.{UnitMemory}
 use Rattle.unit_model.specs.Meetings.{Arrival}

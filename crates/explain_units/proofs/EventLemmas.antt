@@ -9,17 +9,17 @@ use Rattle.air_source.specs.declared.events.Event.{Event}
 use Rattle.air_source.specs.declared.events.Event.TheVariants as event
 use Rattle.air_source.specs.declared.events.Side.{Side}
 use Rattle.air_source.specs.declared.events.Side.TheVariants.{Ru, Du}
-use Rattle.earlier_sections.proofs.GiverLemmas.{givers_are_kept}
-use Rattle.earlier_sections.specs.Blocks.{giver_of}
-use Rattle.earlier_sections.specs.Laws.{kept_by, kept_from, kept_in}
-use Rattle.earlier_sections.specs.declared.blocks.Given.{Given as Kept}
+use Rattle.explain_units.proofs.GiverLemmas.{givers_are_kept}
+use Rattle.explain_units.specs.Blocks.{giver_of}
+use Rattle.explain_units.specs.Laws.{kept_by, kept_from, kept_in}
+use Rattle.explain_units.specs.declared.blocks.Given.{Given as Kept}
 use Rattle.ecpri_frames.specs.Messages.{pdu}
 use Rattle.ecpri_frames.specs.declared.refusals.PduRefusal.{PduRefusal}
 use Rattle.explain_heard.specs.Heard.{all_heard}
 use Rattle.explain_heard.specs.declared.heard.Heard.{Heard}
-use Rattle.explain_kept.specs.declared.margins.EndpointMargins.{EndpointMargins}
-use Rattle.explain_lines.specs.declared.values.ExplainLine.{ExplainLine}
-use Rattle.explain_lines.specs.declared.values.ExplainLine.TheVariants as line
+use Rattle.explain_units.specs.declared.kept_margins.EndpointMargins.{EndpointMargins}
+use Rattle.explain_model.specs.declared.values.ExplainLine.{ExplainLine}
+use Rattle.explain_model.specs.declared.values.ExplainLine.TheVariants as line
 use Rattle.explain_model.proofs.MarginLemmas.{after_both, judged_go_on}
 use Rattle.explain_model.proofs.StoryLemmas.{one, stories_both}
 use Rattle.explain_model.specs.Cells.{giver_in}
@@ -35,13 +35,13 @@ use Rattle.explain_units.specs.MarginLines.{margins_said}
 use Rattle.explain_units.specs.Knowing.{known_of}
 use Rattle.explain_units.specs.Units.{IsElsewhere, IsUnitAfter, frame_lines, judged_next}
 use Rattle.explain_units.specs.declared.units.UnitLines.{UnitLines}
-use Rattle.fh_time.specs.declared.values.Ticks.{Ticks}
-use Rattle.unit_laws.proofs.HeardLemmas.{arrivals-append}
+use Rattle.fh_base.specs.declared.values.Ticks.{Ticks}
 use Rattle.unit_model.specs.Heard.{arrivals_heard, is_of}
-use Rattle.unit_memory.specs.Judgements.{Judgement}
-use Rattle.unit_model.specs.Lists.{onto}
+use Rattle.unit_model.specs.Judgements.{Judgement}
+use Rattle.fh_base.specs.Lists.{onto}
 use Rattle.unit_model.specs.Meetings.{Arrival}
 use Rattle.window_config.specs.declared.config.Config.{Config}
+use Rattle.unit_model.proofs.ArrivalLemmas.{arrivals-append}
 
 itself : (side : Side) → same_side side side ≡ true
 itself Ru = refl

@@ -10,11 +10,11 @@ use Rattle.ecpri_frames.specs.Gathering.{whole_messages}
 use Rattle.ecpri_frames.specs.Messages.{Message}
 use Rattle.explain_heard.specs.Heard.{all_heard}
 use Rattle.explain_units.specs.Fit.{IsFit, IsWithin, IsWithinJudged}
-use Rattle.fh_time.specs.Carrier.{is_outside}
-use Rattle.fh_time.specs.Numbering.{shape_of}
-use Rattle.sound_judgements.proofs.SoundLemmas.{are_sound}
-use Rattle.sound_judgements.specs.Sound.{IsSoundJudgement}
-use Rattle.unit_memory.specs.Judgements.{Judgement, Met, Commanded, Fragmented, Unread, Turned, Given, heading_of, judged_by, judged_commands, judged_data, judged_decoded, judged_in, judged_meeting, judged_message, judged_now, judged_whole, judgements}
+use Rattle.fh_base.specs.Carrier.{is_outside}
+use Rattle.fh_base.specs.Numbering.{shape_of}
+use Rattle.unit_laws.proofs.SoundLemmas.{are_sound}
+use Rattle.unit_laws.specs.Sound.{IsSoundJudgement}
+use Rattle.unit_model.specs.Judgements.{Judgement, Met, Commanded, Fragmented, Unread, Turned, Given, heading_of, judged_by, judged_commands, judged_data, judged_decoded, judged_in, judged_meeting, judged_message, judged_now, judged_whole, judgements}
 use Rattle.unit_model.proofs.SoundLemmas.{sound_command}
 use Rattle.unit_model.specs.Blocks.{data_verdict, timely}
 use Rattle.unit_model.specs.Claims.{overlaps, repeats}

@@ -3,22 +3,22 @@ use Rattle.std.proofs.Common.{◌≡◌, ℕ, zero, suc, ◌+◌, ◌<◌, Bool,
 use Rattle.std.specs.Prelude.{◌==◌, ◌||◌, not, nat_lt, if◌then◌else◌}
 use Rattle.std.specs.List.{flat_map}
 use Rattle.air_source.specs.declared.events.Side.{Side}
-use Rattle.earlier_sections.proofs.LawLemmas.{blocks_are_kept}
-use Rattle.earlier_sections.specs.Laws.{AreKept, kept_by, kept_of}
-use Rattle.earlier_sections.specs.declared.blocks.Given.{Given as Kept}
+use Rattle.explain_units.proofs.LawLemmas.{blocks_are_kept}
+use Rattle.explain_units.specs.Laws.{AreKept, kept_by, kept_of}
+use Rattle.explain_units.specs.declared.blocks.Given.{Given as Kept}
 use Rattle.ecpri_fragments.specs.Sequence.{id_of, sequence_of}
 use Rattle.ecpri_frames.specs.Messages.{Message}
 use Rattle.ecpri_frames.specs.declared.heads.TheConstants.{IQ_DATA, ONE_WAY_DELAY, REAL_TIME_CONTROL}
 use Rattle.explain_heard.specs.Heard.{all_heard, heard_of, message_word, word_with}
 use Rattle.explain_heard.specs.declared.heard.Heard.{Heard}
 use Rattle.explain_heard.specs.declared.heard.MessageWord.TheVariants as word
-use Rattle.explain_kept.proofs.KeptLemmas.{margins_more, margins_none}
-use Rattle.explain_kept.specs.Margins.{margins_after}
-use Rattle.explain_lines.specs.declared.values.ControlLine.{ControlLine}
-use Rattle.explain_lines.specs.declared.values.DataLine.{DataLine}
-use Rattle.explain_lines.specs.declared.values.ExplainLine.{ExplainLine}
-use Rattle.explain_lines.specs.declared.values.ExplainLine.TheVariants as line
-use Rattle.explain_lines.specs.declared.values.WholeAnswer.TheVariants as answer
+use Rattle.explain_units.proofs.KeptLemmas.{margins_more, margins_none}
+use Rattle.explain_units.specs.Margins.{margins_after}
+use Rattle.explain_model.specs.declared.values.ControlLine.{ControlLine}
+use Rattle.explain_model.specs.declared.values.DataLine.{DataLine}
+use Rattle.explain_model.specs.declared.values.ExplainLine.{ExplainLine}
+use Rattle.explain_model.specs.declared.values.ExplainLine.TheVariants as line
+use Rattle.explain_model.specs.declared.values.WholeAnswer.TheVariants as answer
 use Rattle.explain_model.specs.Judged.{accepted_in, last_place}
 use Rattle.explain_model.specs.Judged as judged
 use Rattle.explain_model.specs.Margins.{Dated, control_class, dated_by, dated_of, way_of}
@@ -28,10 +28,10 @@ use Rattle.explain_model.specs.Timings.{control_timing}
 use Rattle.explain_units.specs.Known.{IsKnown, Known, add_all, after_all, all_said, as_lines, clash_with, fresh_with, nothing_known, said, with_heard}
 use Rattle.explain_heard.proofs.KeptLemmas.{whole_is}
 use Rattle.explain_heard.specs.Built.{control_with, data_with, line_by, placed}
-use Rattle.unit_cells.specs.declared.heading.DataHeading.{DataHeading}
-use Rattle.unit_memory.specs.Judgements.{Judgement, Met, Commanded, Fragmented, Unread, Turned, Given}
+use Rattle.unit_model.specs.declared.heading.DataHeading.{DataHeading}
+use Rattle.unit_model.specs.Judgements.{Judgement, Met, Commanded, Fragmented, Unread, Turned, Given}
 use Rattle.unit_model.specs.Commands.{allocation_of, with_accepted}
-use Rattle.unit_model.specs.Lists.{onto}
+use Rattle.fh_base.specs.Lists.{onto}
 use Rattle.unit_model.specs.Meetings.{find_endpoint}
 use Rattle.unit_model.specs.declared.allocations.Allocation.{Allocation}
 use Rattle.unit_model.specs.declared.decoded.ControlSection.{ControlSection}

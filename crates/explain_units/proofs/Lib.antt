@@ -5,3 +5,11 @@ pub mod MarginLemmas
 pub mod EventLemmas
 pub mod TellLemmas
 pub mod EarLemmas
+pub mod ChainLemmas
+pub mod LinkLemmas
+pub mod BlockLemmas
+pub mod ClaimLemmas
+pub mod RestLemmas
+pub mod LawLemmas
+pub mod GiverLemmas
+pub mod KeptLemmas

@@ -1,16 +1,16 @@
 -- The lines of the margins that are kept are those of the sections.
 use Rattle.std.proofs.Common.{◌≡◌, ℕ, suc, Bool, true, false, List, [], ◌∷◌, ◌++◌, length, refl, sym, ap, ap₂, ◌∙◌, arith}
 use Rattle.std.specs.Prelude.{◌==◌, ◌||◌, not, if◌then◌else◌}
-use Rattle.fh_time.proofs.Orders.{not_none}
+use Rattle.fh_base.proofs.Orders.{not_none}
 use Rattle.air_source.specs.declared.events.Side.{Side}
-use Rattle.explain_kept.specs.Margins.{is_of_some, margins_after, margins_by}
-use Rattle.explain_kept.specs.declared.margins.EndpointMargins.{EndpointMargins}
-use Rattle.explain_lines.specs.declared.places.Timing.{Timing}
-use Rattle.explain_lines.specs.declared.values.ExplainLine.{ExplainLine}
-use Rattle.explain_lines.specs.declared.values.ExplainLine.TheVariants as line
-use Rattle.explain_lines.specs.declared.values.Margin.{Margin}
-use Rattle.explain_lines.specs.declared.values.MarginClass.{MarginClass}
-use Rattle.explain_lines.specs.declared.values.MarginClass.TheVariants.{Down, Up, Data}
+use Rattle.explain_units.specs.Margins.{is_of_some, margins_after, margins_by}
+use Rattle.explain_units.specs.declared.kept_margins.EndpointMargins.{EndpointMargins}
+use Rattle.explain_model.specs.declared.places.Timing.{Timing}
+use Rattle.explain_model.specs.declared.values.ExplainLine.{ExplainLine}
+use Rattle.explain_model.specs.declared.values.ExplainLine.TheVariants as line
+use Rattle.explain_model.specs.declared.values.Margin.{Margin}
+use Rattle.explain_model.specs.declared.values.MarginClass.{MarginClass}
+use Rattle.explain_model.specs.declared.values.MarginClass.TheVariants.{Down, Up, Data}
 use Rattle.explain_model.specs.Margins.{Dated, dated_at, margin_line, margin_of, margins_at, margins_of, timings}
 use Rattle.explain_units.specs.MarginLines.{class_said, margin_at, margin_said, margins_said}
 use Rattle.window_config.specs.declared.endpoints.EndpointConfig.{EndpointConfig}

@@ -2,8 +2,8 @@
 use Rattle.std.proofs.Common.{◌≡◌, ℕ, zero, suc, ◌+◌, ◌<◌, List, [], ◌∷◌, ◌++◌, length, get_or, take, take-suc, drop, refl, sym, ap, ◌∙◌, append_assoc, append-nil, arith}
 use Rattle.std.specs.List.{flat_map}
 use Rattle.std.proofs.lemmas.List.Concat.{flat_map-append}
-use Rattle.explain_lines.specs.declared.values.ExplainLine.{ExplainLine}
-use Rattle.line_runs.specs.Stops.{StopsBetween, StopsSome, Between, Within, StopsInLine}
+use Rattle.explain_model.specs.declared.values.ExplainLine.{ExplainLine}
+use Rattle.explain_heard.specs.Stops.{StopsBetween, StopsSome, Between, Within, StopsInLine}
 
 module _ {W : Type 0} (grew : W → List ExplainLine → W → Type 0) (stopped : W → ExplainLine → W → Type 0) where
   pub in_before : (xs ys : List ExplainLine) (a c : W) → StopsInLine grew stopped xs a c → StopsInLine grew stopped (xs ++ ys) a c

@@ -2,9 +2,9 @@
 use Rattle.std.proofs.Common.{◌≡◌, ℕ, ◌+◌, ◌<◌, List, [], ◌++◌, length, get_or, take, drop, sym, ap, subst, ◌∙◌}
 use Rattle.std.specs.List.{flat_map}
 use Rattle.explain_heard.specs.declared.heard.Heard.{Heard}
-use Rattle.explain_lines.specs.declared.values.ExplainLine.{ExplainLine}
+use Rattle.explain_model.specs.declared.values.ExplainLine.{ExplainLine}
 use Rattle.explain_units.specs.Known.{Known, after_all, all_said, as_lines, said, with_heard}
-use Rattle.line_runs.specs.Stops.{StopsSome, StopsInLine}
+use Rattle.explain_heard.specs.Stops.{StopsSome, StopsInLine}
 use Rattle.explain_units.proofs.KnownLemmas.{after_next, said_next, said_none, said_split}
 use Rattle.explain_units.proofs.StopLemmas.{each_next, each_split, in_after, in_before, some_after, some_before}
 

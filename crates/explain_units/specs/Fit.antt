@@ -2,9 +2,9 @@
 use Rattle.std.specs.Prelude.{◌≡◌, ℤ, ◌≤ℤ◌, false}
 use Rattle.explain_heard.specs.declared.heard.Heard.{Heard}
 use Rattle.explain_heard.specs.declared.heard.Heard.TheVariants as kept
-use Rattle.fh_time.specs.Carrier.{is_outside}
-use Rattle.unit_cells.specs.Headings.{IsSoundHeading}
-use Rattle.unit_memory.specs.Judgements.{Judgement, Met, Commanded, Fragmented, Unread, Turned, Given}
+use Rattle.fh_base.specs.Carrier.{is_outside}
+use Rattle.unit_model.specs.Headings.{IsSoundHeading}
+use Rattle.unit_model.specs.Judgements.{Judgement, Met, Commanded, Fragmented, Unread, Turned, Given}
 use Rattle.unit_model.specs.Proper.{IsTime}
 use Rattle.unit_model.specs.Sound.{IsSoundCommand}
 use Rattle.unit_model.specs.declared.decoded.ControlSection.{ControlSection}

@@ -1,24 +1,24 @@
 -- What lines say of earlier judgements of a unit, as they come.
 use Rattle.std.specs.Prelude.{◌≡◌, ℕ, List, [], ◌∷◌, ◌++◌, map, Option, Some, None}
 use Rattle.air_source.specs.declared.events.Side.{Side}
-use Rattle.earlier_sections.specs.Blocks.{fresh_count}
-use Rattle.earlier_sections.specs.Laws.{AreKept, kept_by, kept_of}
-use Rattle.earlier_sections.specs.declared.blocks.Given.{Given as Kept}
+use Rattle.explain_units.specs.Blocks.{fresh_count}
+use Rattle.explain_units.specs.Laws.{AreKept, kept_by, kept_of}
+use Rattle.explain_units.specs.declared.blocks.Given.{Given as Kept}
 use Rattle.explain_heard.specs.declared.heard.Heard.{Heard}
 use Rattle.explain_heard.specs.declared.heard.Heard.TheVariants as kept
-use Rattle.explain_kept.specs.Margins.{added, margins_after, no_margins}
-use Rattle.explain_kept.specs.declared.margins.EndpointMargins.{EndpointMargins}
-use Rattle.explain_lines.specs.declared.places.Clash.{Clash}
-use Rattle.explain_lines.specs.declared.values.ExplainLine.{ExplainLine}
-use Rattle.explain_lines.specs.declared.values.ExplainLine.TheVariants as line
-use Rattle.explain_lines.specs.declared.values.MarginClass.TheVariants.{Data}
+use Rattle.explain_units.specs.Margins.{added, margins_after, no_margins}
+use Rattle.explain_units.specs.declared.kept_margins.EndpointMargins.{EndpointMargins}
+use Rattle.explain_model.specs.declared.places.Clash.{Clash}
+use Rattle.explain_model.specs.declared.values.ExplainLine.{ExplainLine}
+use Rattle.explain_model.specs.declared.values.ExplainLine.TheVariants as line
+use Rattle.explain_model.specs.declared.values.MarginClass.TheVariants.{Data}
 use Rattle.explain_model.specs.Judged.{accepted_in, clash_in, last_place}
 use Rattle.explain_model.specs.Margins.{Dated, control_class, data_class_of, dated_by, way_of}
 use Rattle.explain_model.specs.Sections.{some_of}
 use Rattle.explain_model.specs.Timings.{control_timing, data_timing}
 use Rattle.explain_heard.specs.Built.{control_with, data_with, fragment_line, line_of_message, whole_line}
-use Rattle.unit_cells.specs.declared.heading.DataHeading.{DataHeading}
-use Rattle.unit_memory.specs.Judgements.{Judgement, Given}
+use Rattle.unit_model.specs.declared.heading.DataHeading.{DataHeading}
+use Rattle.unit_model.specs.Judgements.{Judgement, Given}
 use Rattle.unit_model.specs.Commands.{allocation_of, with_accepted}
 use Rattle.unit_model.specs.declared.allocations.Allocation.{Allocation}
 use Rattle.unit_model.specs.declared.decoded.ControlSection.{ControlSection}

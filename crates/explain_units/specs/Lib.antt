@@ -5,3 +5,9 @@ pub mod Judging
 pub mod Ears
 pub mod MarginLines
 pub mod Units
+pub mod Chains
+pub mod Blocks
+pub mod Claims
+pub mod Laws
+pub mod Margins
+pub mod Runs

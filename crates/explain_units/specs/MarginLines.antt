@@ -2,13 +2,13 @@
 use Rattle.std.specs.Prelude.{List, [], ◌∷◌, ◌++◌, if◌then◌else◌}
 use Rattle.std.specs.List.{flat_map}
 use Rattle.air_source.specs.declared.events.Side.{Side}
-use Rattle.explain_kept.specs.Margins.{is_of_some}
-use Rattle.explain_kept.specs.declared.margins.EndpointMargins.{EndpointMargins}
-use Rattle.explain_lines.specs.declared.values.ExplainLine.{ExplainLine}
-use Rattle.explain_lines.specs.declared.values.ExplainLine.TheVariants as line
-use Rattle.explain_lines.specs.declared.values.Margin.{Margin}
-use Rattle.explain_lines.specs.declared.values.MarginClass.{MarginClass}
-use Rattle.explain_lines.specs.declared.values.MarginClass.TheVariants.{Down, Up, Data}
+use Rattle.explain_units.specs.Margins.{is_of_some}
+use Rattle.explain_units.specs.declared.kept_margins.EndpointMargins.{EndpointMargins}
+use Rattle.explain_model.specs.declared.values.ExplainLine.{ExplainLine}
+use Rattle.explain_model.specs.declared.values.ExplainLine.TheVariants as line
+use Rattle.explain_model.specs.declared.values.Margin.{Margin}
+use Rattle.explain_model.specs.declared.values.MarginClass.{MarginClass}
+use Rattle.explain_model.specs.declared.values.MarginClass.TheVariants.{Down, Up, Data}
 
 abbrev pub margin_at : MarginClass → EndpointMargins → Margin
 margin_at Down m = m.down

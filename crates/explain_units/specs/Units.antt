@@ -4,8 +4,8 @@ use Rattle.air_source.specs.Units.{same_side}
 use Rattle.air_source.specs.declared.events.Event.{Event}
 use Rattle.air_source.specs.declared.events.Event.TheVariants as event
 use Rattle.air_source.specs.declared.events.Side.{Side}
-use Rattle.earlier_sections.specs.Laws.{kept_from}
-use Rattle.explain_lines.specs.declared.values.ExplainLine.{ExplainLine}
+use Rattle.explain_units.specs.Laws.{kept_from}
+use Rattle.explain_model.specs.declared.values.ExplainLine.{ExplainLine}
 use Rattle.explain_model.specs.Judged.{judged_before}
 use Rattle.explain_model.specs.Margins.{dated}
 use Rattle.explain_model.specs.Sections.{story_lines}
@@ -15,7 +15,7 @@ use Rattle.explain_units.specs.Known.{IsKnown}
 use Rattle.explain_units.specs.Knowing.{known_of}
 use Rattle.explain_units.specs.declared.units.UnitLines.{UnitLines}
 use Rattle.unit_model.specs.Heard.{arrivals_heard}
-use Rattle.unit_memory.specs.Judgements.{Judgement, judgements}
+use Rattle.unit_model.specs.Judgements.{Judgement, judgements}
 use Rattle.window_config.specs.declared.config.Config.{Config}
 
 -- after these events: its memory holds the arrivals of the unit, and what lines say of earlier judgements is what the unit judged

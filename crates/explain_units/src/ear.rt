@@ -5,7 +5,7 @@ ghost use Rattle.air_source.specs.declared.events.Side.{Side as SpecSide};
 ghost use Rattle.ecpri_frames.specs.Messages.{pdu};
 ghost use Rattle.explain_heard.specs.Heard.{HearsAll, all_heard};
 ghost use Rattle.explain_units.specs.Fit.{IsFit, IsNext};
-ghost use Rattle.unit_memory.specs.Judgements.{judgements};
+ghost use Rattle.unit_model.specs.Judgements.{judgements};
 ghost use Rattle.unit_memory.specs.Memory.{Holds, HoldsSome, arrival_at};
 ghost use Rattle.unit_model.specs.Meetings.{Arrival};
 ghost use Rattle.unit_model.specs.Proper.{IsTime};
@@ -15,8 +15,7 @@ ghost use Rattle.window_config.specs.declared.config.Config.{Config as SpecConfi
 use air_source::Side;
 use ecpri_frames::PduRefusal;
 use explain_heard::{Heard, Hearing};
-use fh_base::NoMemory;
-use fh_time::Ticks;
+use fh_base::{NoMemory, Ticks};
 use std::alloc::Global;
 use std::marker::Model;
 use unit_memory::UnitMemory;

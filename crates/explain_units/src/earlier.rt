@@ -1,30 +1,30 @@
 // What lines say of earlier judgements.
 ghost use Rattle.std.specs.Prelude.{◌≡◌, IfOk, OnOk};
 ghost use Rattle.explain_model.specs.Margins.{control_class, data_class_of, dated_by, way_of};
-ghost use Rattle.explain_lines.specs.declared.values.MarginClass.TheVariants.{Data as OfData};
+ghost use Rattle.explain_model.specs.declared.values.MarginClass.TheVariants.{Data as OfData};
 ghost use Rattle.explain_model.specs.Timings.{control_timing, data_timing};
 ghost use Rattle.explain_units.specs.Fit.{IsFit, IsFitCommand};
 ghost use Rattle.explain_units.specs.Known.{add_all, clash_with};
-ghost use Rattle.unit_cells.specs.Headings.{IsSoundHeading};
+ghost use Rattle.unit_model.specs.Headings.{IsSoundHeading};
 ghost use Rattle.unit_model.specs.Commands.{allocation_of, with_accepted};
 ghost use Rattle.unit_model.specs.Sound.{IsSoundCommand};
 ghost use Rattle.window_config.specs.Configs.{IsConfig};
 ghost use Rattle.window_config.specs.Limits.{IsWithinLimits};
 
+use crate::blocks::Blocks;
+use crate::claims::Claims;
 use crate::given::{fresh_by, keep_given};
+use crate::kept_margins::{EndpointMargins, Margins, control_class, data_class};
 use crate::windows::Windows;
 use air_source::{AirCell, Side};
-use earlier_sections::{Blocks, Claims};
 use explain_heard::{
     Heard, control_line, control_timing, data_line, data_timing, fragment_line, message_line,
     whole_line,
 };
-use explain_kept::{EndpointMargins, Margins, control_class, data_class};
-use explain_lines::{Clash, ExplainLine, MarginClass};
+use explain_model::{Clash, ExplainLine, MarginClass};
 use fh_base::NoMemory;
 use std::alloc::Global;
-use unit_cells::DataHeading;
-use unit_model::{CommandVerdict, ControlSection, DataVerdict, allocation_of};
+use unit_model::{CommandVerdict, ControlSection, DataHeading, DataVerdict, allocation_of};
 use window_config::{Config, Delays};
 
 // What a section of a command overlaps.
@@ -132,7 +132,7 @@ pub(crate) struct Earlier {
 
 impl Earlier {
     ghost use Rattle.std.specs.Prelude.{◌≡◌, [], IfOk, OnOk};
-    ghost use Rattle.earlier_sections.specs.Blocks.{giver_of};
+    ghost use Rattle.explain_units.specs.Blocks.{giver_of};
     ghost use Rattle.explain_units.specs.Knowing.{known_of};
     ghost use Rattle.explain_units.specs.Known.{nothing_known, said, with_command, with_data, with_heard};
 

@@ -1,17 +1,16 @@
 // What is kept of a section of data.
 ghost use Rattle.std.specs.Prelude.{◌≡◌, ◌+◌, ◌≤◌, ◌++◌, OnOk};
-ghost use Rattle.earlier_sections.specs.Laws.{kept_by, kept_of};
+ghost use Rattle.explain_units.specs.Laws.{kept_by, kept_of};
 ghost use Rattle.explain_model.specs.Judged.{is_timely};
 ghost use Rattle.explain_model.specs.Sections.{some_of};
 ghost use Rattle.explain_units.specs.Known.{fresh_with};
-ghost use Rattle.unit_cells.specs.Headings.{IsSoundHeading};
-ghost use Rattle.unit_memory.specs.Judgements.{Given as GivenData};
+ghost use Rattle.unit_model.specs.Headings.{IsSoundHeading};
+ghost use Rattle.unit_model.specs.Judgements.{Given as GivenData};
 
-use earlier_sections::{Blocks, Given};
+use crate::blocks::{Blocks, Given};
 use explain_heard::heading_slot;
 use fh_base::NoMemory;
-use unit_cells::DataHeading;
-use unit_model::DataVerdict;
+use unit_model::{DataHeading, DataVerdict};
 
 // Whether a section of data was on time.
 fn is_timely(verdict: DataVerdict) -> bool

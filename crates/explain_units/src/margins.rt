@@ -2,12 +2,12 @@
 ghost use Rattle.std.specs.Prelude.{◌≡◌, OnOk, IfErr};
 ghost use Rattle.air_source.specs.Causes.{HasAirCause};
 ghost use Rattle.explain_units.specs.MarginLines.{class_said, margin_at, margin_said, margins_said};
-ghost use Rattle.line_runs.specs.Stops.{StopsInLine};
+ghost use Rattle.explain_heard.specs.Stops.{StopsInLine};
 
+use crate::kept_margins::{EndpointMargins, is_of_some};
 use air_source::{AirFault, Side};
-use explain_kept::{EndpointMargins, is_of_some};
-use explain_lines::{ExplainLine, Margin, MarginClass};
-use line_runs::LineSink;
+use explain_heard::LineSink;
+use explain_model::{ExplainLine, Margin, MarginClass};
 
 // The margin of a class.
 fn margin_at(class: MarginClass, margins: &EndpointMargins) -> Margin

@@ -5,13 +5,12 @@ ghost use Rattle.air_source.specs.Causes.{HasAirCause};
 ghost use Rattle.explain_units.specs.Fit.{IsFit};
 ghost use Rattle.explain_units.specs.Known.{after_all, all_said, as_lines, said, with_heard};
 ghost use Rattle.explain_units.specs.Knowing.{known_of};
-ghost use Rattle.line_runs.specs.Stops.{StopsSome, StopsInLine};
+ghost use Rattle.explain_heard.specs.Stops.{StopsSome, StopsInLine};
 
 use crate::earlier::Earlier;
 use air_source::AirFault;
-use explain_heard::Heard;
-use explain_lines::ExplainLine;
-use line_runs::LineSink;
+use explain_heard::{Heard, LineSink};
+use explain_model::ExplainLine;
 
 // Tells a line, if there is one.
 fn tell_some<W: LineSink>(line: &Option<ExplainLine>, out: &mut W) -> Result<(), AirFault>

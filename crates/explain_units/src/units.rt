@@ -9,7 +9,7 @@ ghost use Rattle.explain_heard.specs.Heard.{all_heard};
 ghost use Rattle.explain_model.specs.Cells.{giver_in};
 ghost use Rattle.explain_model.specs.Margins.{dated, margins_at};
 ghost use Rattle.explain_model.specs.Stories.{arrival_count, stories};
-ghost use Rattle.line_runs.specs.Stops.{StopsInLine};
+ghost use Rattle.explain_heard.specs.Stops.{StopsInLine};
 ghost use Rattle.window_config.specs.Configs.{IsConfig};
 ghost use Rattle.window_config.specs.declared.config.Config.{Config as SpecConfig};
 
@@ -18,11 +18,9 @@ use crate::earlier::Earlier;
 use crate::margins::tell_all;
 use crate::telling::tell_frame;
 use air_source::{AirCell, AirFault, Side};
-use explain_heard::Heard;
-use explain_lines::ExplainLine;
-use fh_base::NoMemory;
-use fh_time::Ticks;
-use line_runs::LineSink;
+use explain_heard::{Heard, LineSink};
+use explain_model::ExplainLine;
+use fh_base::{NoMemory, Ticks};
 use std::alloc::Global;
 use window_config::Config;
 
@@ -36,7 +34,7 @@ pub struct UnitLines {
 
 impl UnitLines {
     ghost use Rattle.explain_units.specs.Fit.{IsFit};
-    ghost use Rattle.line_runs.specs.Stops.{StopsSome};
+    ghost use Rattle.explain_heard.specs.Stops.{StopsSome};
     ghost use Rattle.explain_units.specs.Units.{IsUnitAfter, frame_lines, judged_next};
 
     /// Takes the memory of a unit. Nothing came.

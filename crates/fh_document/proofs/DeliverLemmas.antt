@@ -24,7 +24,7 @@ use Rattle.fh_document.proofs.InjectLemmas.{way_is, way_visible}
 use Rattle.fh_document.proofs.LineLemmas.{line_is}
 use Rattle.fh_document.specs.declared.config_lines.TheConstants.{MOST_TRANSIT}
 use Rattle.fh_document.specs.declared.deliver_lines.TheConstants.{MOST_NUMBER}
-use Rattle.fh_time.proofs.Orders.{both_true}
+use Rattle.fh_base.proofs.Orders.{both_true}
 use Rattle.air_source.specs.Units.{way_text}
 use Rattle.fh_document.specs.Laws.{DeliveriesAreRead}
 

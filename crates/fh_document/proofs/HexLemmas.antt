@@ -14,7 +14,7 @@ use Rattle.fh_document.specs.Laws.{AreBytes, FramesAreRead, IdsAreRead}
 use Rattle.fh_document.specs.LineWords.{hex_text, frame_word}
 use Rattle.fh_document.proofs.Tests.{if_true}
 use Rattle.fh_base.specs.declared.source.TheConstants.{FRAME_LIMIT}
-use Rattle.fh_time.proofs.Orders.{and_false_3 as and_false, both_true, if_not}
+use Rattle.fh_base.proofs.Orders.{and_false_3 as and_false, both_true, if_not}
 
 digit_is : (d : ℕ) → d < 16 → digit_value (digit_char d) ≡ d
 digit_is d small = digit_value-digit_char d (omega arith)

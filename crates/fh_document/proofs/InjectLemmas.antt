@@ -27,8 +27,8 @@ use Rattle.fh_document.proofs.JoinLemmas.{words_text, lines_are}
 use Rattle.fh_document.proofs.NumberLemmas.{number_is, signed_word}
 use Rattle.fh_document.proofs.HexLemmas.{frame_is, frame_visible}
 use Rattle.fh_document.proofs.LineLemmas.{line_is}
-use Rattle.fh_time.specs.declared.nanoseconds.TheConstants.{LAST_TIME}
-use Rattle.fh_time.proofs.Orders.{not_none as not_zero, both_true, if_not}
+use Rattle.fh_base.specs.declared.nanoseconds.TheConstants.{LAST_TIME}
+use Rattle.fh_base.proofs.Orders.{not_none as not_zero, both_true, if_not}
 use Rattle.air_source.specs.Units.{way_text}
 
 pub way_is : (side : Side) → side_of (way_text side) ≡ Some side
@@ -86,7 +86,7 @@ inject_texts : (is : List Injection) → All IsFrame is → list_all is_text (ma
 inject_texts [] h = refl
 inject_texts (i ∷ is) h = both_true _ _ (words_text (inject_words i) (inject_visible i (All-head IsFrame i is h))) (inject_texts is (All-tail IsFrame i is h))
 
-first_read : (lines : List (List ℕ)) → read_from 1 start (codes "fronthaul 1" ∷ lines) ≡ read_from 2 start lines
+pub first_read : (lines : List (List ℕ)) → read_from 1 start (codes "fronthaul 1" ∷ lines) ≡ read_from 2 start lines
 unfolding line_of
 first_read lines = refl
 

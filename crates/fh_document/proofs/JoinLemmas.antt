@@ -11,7 +11,7 @@ use Rattle.std.proofs.Math.Seq.{get_or-append_seam}
 use Rattle.fh_document.specs.Words.{words_of, is_text, without_last_feed}
 use Rattle.fh_document.specs.Joined.{is_word, joined, spaced, fed}
 use Rattle.fh_document.proofs.Tests.{if_true, all_weaker, filter_all}
-use Rattle.fh_time.proofs.Orders.{left_true, right_true, both_true, nat_own}
+use Rattle.fh_base.proofs.Orders.{left_true, right_true, both_true, nat_own}
 use Rattle.fh_document.specs.Laws.{LinesAreRead, WordsAreRead}
 
 -- no byte of the part is the separator

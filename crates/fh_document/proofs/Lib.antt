@@ -16,3 +16,4 @@ pub mod LineLemmas
 pub mod InjectLemmas
 pub mod PlanLemmas
 pub mod DeliverLemmas
+pub mod WrittenLemmas

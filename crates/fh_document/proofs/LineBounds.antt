@@ -6,7 +6,7 @@ use Rattle.std.proofs.lemmas.List.{length-drop}
 use Rattle.std.proofs.lemmas.List.Elements.{All-nil, All-cons}
 use Rattle.std.specs.Char.{digit_value}
 use Rattle.std.specs.Str.Parse.{digits_value}
-use Rattle.fh_time.specs.declared.values.Slot.{Slot}
+use Rattle.fh_base.specs.declared.values.Slot.{Slot}
 use Rattle.fh_document.specs.declared.delivered.Delivery.{Delivery}
 use Rattle.fh_document.specs.Words.{number_in}
 use Rattle.fh_document.specs.Hex.{is_hex, hex_of}
@@ -18,11 +18,11 @@ use Rattle.fh_document.specs.DeliverLines.{class_of, least_of, times_of, has_del
 use Rattle.fh_document.specs.MeasureLines.{unit_of, kind_of, measure_of}
 use Rattle.fh_document.specs.Proper.{IsFrom, IsPlanLine, IsDelivery, AreApart, IsMeasure}
 use Rattle.fh_document.proofs.Bounds.{some_if, some_then, some_any, Within, number_within, from_number}
-use Rattle.fh_time.specs.declared.nanoseconds.TheConstants.{LAST_TIME}
+use Rattle.fh_base.specs.declared.nanoseconds.TheConstants.{LAST_TIME}
 use Rattle.fh_document.specs.declared.config_lines.TheConstants.{MOST_TRANSIT}
 use Rattle.fh_document.specs.declared.deliver_lines.TheConstants.{MOST_NUMBER}
 use Rattle.window_config.specs.declared.plan.TheConstants.{LAST_FRAME}
-use Rattle.fh_time.proofs.Orders.{both as both_true}
+use Rattle.fh_base.proofs.Orders.{both as both_true}
 use Rattle.fh_base.specs.Numbers.{word_at}
 
 with_word : {B : Type 0} (Q : B → Type 0) (low high : ℕ) (w : List ℕ) (next : ℕ → Option B) → ((n : ℕ) → Within low high n → IfSome (next n) Q)

@@ -11,7 +11,7 @@ use Rattle.fh_document.specs.Words.{is_text}
 use Rattle.fh_document.specs.Joined.{is_word, spaced}
 use Rattle.fh_document.proofs.Tests.{if_true, then_some}
 use Rattle.fh_document.proofs.JoinLemmas.{words_are, words_text}
-use Rattle.fh_time.proofs.Orders.{if_not}
+use Rattle.fh_base.proofs.Orders.{if_not}
 
 other : (n : ℕ) → n ≢ 1 → (n == 1) ≡ false
 other n h = grind (arith, nat_tests)

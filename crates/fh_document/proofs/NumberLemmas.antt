@@ -12,7 +12,7 @@ use Rattle.fh_document.specs.Proper.{IsFrom}
 use Rattle.fh_document.specs.Words.{number_in}
 use Rattle.fh_document.specs.Joined.{is_word}
 use Rattle.fh_document.proofs.Tests.{if_true, all_weaker, took}
-use Rattle.fh_time.proofs.Orders.{both_true}
+use Rattle.fh_base.proofs.Orders.{both_true}
 use Rattle.fh_base.specs.Numbers.{is_decimal}
 use Rattle.fh_document.specs.Laws.{NumbersAreRead}
 

@@ -20,7 +20,7 @@ use Rattle.fh_document.proofs.NumberLemmas.{number_is, decimal_word, signed_word
 use Rattle.fh_document.proofs.HexLemmas.{id_is, mask_is, id_word, mask_word}
 use Rattle.fh_document.proofs.LineLemmas.{line_is}
 use Rattle.window_config.specs.declared.plan.TheConstants.{LAST_FRAME}
-use Rattle.fh_time.proofs.Orders.{both_true}
+use Rattle.fh_base.proofs.Orders.{both_true}
 use Rattle.fh_document.specs.Laws.{PlansAreRead}
 
 kind_is : (kind : PlanKind) → plan_kind_of (plan_kind_word kind) ≡ Some kind

@@ -52,12 +52,12 @@ use Rattle.fh_document.specs.Proper.{IsFrom, IsTone, AreComps, AreTransits, IsPl
 use Rattle.fh_document.proofs.LineBounds.{id_in, plan_in, delivery_in, apart_more, measure_in}
 use Rattle.fh_document.proofs.Bounds.{ok_if, ok_then, ok_or, ok_any, ok_weaker, some_if, some_then, some_any, Within, number_within, number_at_within, time_at_within, ordered_within, counted_within, with_number, with_time, from_number}
 use Rattle.window_config.specs.declared.delays.TheConstants.{MOST_DELAY}
-use Rattle.fh_time.specs.declared.nanoseconds.TheConstants.{LAST_TIME}
+use Rattle.fh_base.specs.declared.nanoseconds.TheConstants.{LAST_TIME}
 use Rattle.fh_document.specs.declared.config_lines.TheConstants.{MOST_TRANSIT}
 use Rattle.delay_measure.specs.declared.stamps.TheConstants.{MOST_COMPENSATION}
 use Rattle.window_config.specs.declared.config.TheConstants.{MESSAGE_SECTIONS, MOST_FRAGMENT, LEAST_FRAGMENT}
 use Rattle.fh_base.specs.Numbers.{word_at}
-use Rattle.fh_time.specs.declared.carrier.TheConstants.{CARRIER_PRBS}
+use Rattle.fh_base.specs.declared.carrier.TheConstants.{CARRIER_PRBS}
 
 -- ---- the settings
 

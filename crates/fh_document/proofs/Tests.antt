@@ -5,7 +5,7 @@ use Rattle.std.specs.List.{list_all}
 use Rattle.fh_document.specs.declared.refusals.DocWhy.{DocWhy}
 use Rattle.fh_document.specs.EndpointLines.{taking}
 use Rattle.fh_document.specs.Refusals.{or_refuse, ◌>>=◌}
-use Rattle.fh_time.proofs.Orders.{left_true, right_true, both_true}
+use Rattle.fh_base.proofs.Orders.{left_true, right_true, both_true}
 
 pub if_true : {A : Type 0} (b : Bool) (x y : A) → b ≡ true → (if b then x else y) ≡ x
 if_true true x y e = refl

@@ -6,8 +6,8 @@ use Rattle.std.specs.List.{list_any}
 use Rattle.std.specs.Str.{bytes_eq}
 use Rattle.bfp_codec.specs.declared.methods.Method.{Method}
 use Rattle.bfp_codec.specs.declared.methods.Method.TheVariants.{Plain, Bfp}
-use Rattle.fh_time.specs.declared.numerology.Numerology.{Numerology}
-use Rattle.fh_time.specs.Numbering.{ordinary_of, offset_of, extended_of}
+use Rattle.fh_base.specs.declared.numerology.Numerology.{Numerology}
+use Rattle.fh_base.specs.Numbering.{ordinary_of, offset_of, extended_of}
 use Rattle.window_config.specs.declared.endpoints.EndpointConfig.{EndpointConfig}
 use Rattle.fh_document.specs.declared.document.Reading.{Reading}
 use Rattle.fh_document.specs.declared.document.Version.{Version}
@@ -18,7 +18,7 @@ use Rattle.fh_document.specs.Words.{number_in}
 use Rattle.fh_document.specs.Hex.{hex_of}
 use Rattle.fh_document.specs.Keywords.{is_after_one}
 use Rattle.fh_base.specs.Numbers.{word_at}
-use Rattle.fh_time.specs.declared.carrier.TheConstants.{CARRIER_PRBS}
+use Rattle.fh_base.specs.declared.carrier.TheConstants.{CARRIER_PRBS}
 
 -- what follows on a value, and nothing where there is none
 abbrev pub taking : {A B : Type 0} → Option A → (A → Option B) → Option B

@@ -10,7 +10,7 @@ use Rattle.fh_document.specs.declared.refusals.DocWhy.TheVariants as why
 use Rattle.fh_document.specs.Refusals.{or_refuse, ◌>>=◌}
 use Rattle.fh_document.specs.Hex.{frame_of}
 use Rattle.fh_document.specs.ConfigLines.{counted, time_at}
-use Rattle.fh_time.specs.declared.nanoseconds.TheConstants.{LAST_TIME}
+use Rattle.fh_base.specs.declared.nanoseconds.TheConstants.{LAST_TIME}
 use Rattle.fh_base.specs.Numbers.{word_at}
 
 -- downlink frames arrive at the radio unit, uplink frames at the distributed unit

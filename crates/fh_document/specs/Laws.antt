@@ -16,7 +16,7 @@ use Rattle.fh_document.specs.Words.{is_text, words_of, number_in, without_last_f
 use Rattle.fh_document.specs.Joined.{is_word, spaced, fed}
 use Rattle.fh_document.specs.LineWords.{frame_word, plan_words, deliver_words}
 use Rattle.fh_document.specs.WrittenLines.{injections_text, document_with}
-use Rattle.fh_time.specs.declared.nanoseconds.TheConstants.{LAST_TIME}
+use Rattle.fh_base.specs.declared.nanoseconds.TheConstants.{LAST_TIME}
 use Rattle.fh_base.specs.declared.source.TheConstants.{FRAME_LIMIT}
 
 -- words that are joined by single spaces are the words of a line, and the line is text

@@ -20,3 +20,4 @@ pub mod Joined
 pub mod LineWords
 pub mod WrittenLines
 pub mod Laws
+pub mod Written

@@ -14,7 +14,7 @@ use Rattle.fh_document.specs.Refusals.{or_refuse, ◌>>=◌}
 use Rattle.fh_document.specs.Words.{number_in}
 use Rattle.fh_document.specs.ConfigLines.{counted}
 use Rattle.fh_document.specs.EndpointLines.{taking}
-use Rattle.fh_time.specs.declared.nanoseconds.TheConstants.{LAST_TIME}
+use Rattle.fh_base.specs.declared.nanoseconds.TheConstants.{LAST_TIME}
 use Rattle.fh_base.specs.Numbers.{word_at}
 
 -- the unit that begins the measurement

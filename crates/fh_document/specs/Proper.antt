@@ -16,7 +16,7 @@ use Rattle.fh_base.specs.declared.source.TheConstants.{FRAME_LIMIT}
 use Rattle.window_config.specs.declared.plan.TheConstants.{PLAN_LINES, LAST_FRAME}
 use Rattle.fh_document.specs.Delivered.{has_like}
 use Rattle.fh_document.specs.DeliverLines.{least_of}
-use Rattle.fh_time.specs.declared.nanoseconds.TheConstants.{LAST_TIME}
+use Rattle.fh_base.specs.declared.nanoseconds.TheConstants.{LAST_TIME}
 use Rattle.fh_document.specs.declared.config_lines.TheConstants.{MOST_TRANSIT}
 use Rattle.fh_document.specs.declared.deliver_lines.TheConstants.{MOST_NUMBER}
 use Rattle.delay_measure.specs.declared.stamps.TheConstants.{MOST_COMPENSATION}

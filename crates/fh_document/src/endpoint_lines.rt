@@ -10,7 +10,7 @@ use crate::keywords::is_after_one;
 use crate::refusals::DocWhy;
 use crate::words::{number_in, short_in};
 use bfp_codec::{Format, Method};
-use fh_time::{CARRIER_PRBS, Numerology};
+use fh_base::{CARRIER_PRBS, Numerology};
 use line_words::Words;
 use window_config::EndpointConfig;
 

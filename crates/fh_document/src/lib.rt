@@ -7,6 +7,10 @@
 //!
 //! Beside the grammar stand the lines of a report ([`cell_line`], [`delay_line`], [`count_line`]) and the samples that a [`Tone`]
 //! gives, of `air_source`.
+//!
+//! What the text of a document gives beside its limits: which spacings its endpoints have, and how great the numbers of its lines are.
+//!
+//! There are no functions: the law is stated in `specs/` and proved as a lemma in `proofs/`.
 #![tactic(auto)]
 
 mod config_lines;
@@ -25,11 +29,12 @@ mod reading;
 mod refusals;
 mod words;
 
-pub use air_source::{Line, Tone, ToneSteps, cell_line, count_line, delay_line, tone};
+pub use air_source::{Tone, ToneSteps, cell_line, count_line, delay_line, tone};
 pub use config_lines::MOST_TRANSIT;
 pub use deliver_lines::MOST_NUMBER;
 pub use delivered::{Copies, Delivery, ListFull, TrafficClass, frame_number};
 pub use document::{Comps, Document, Injection, Measure, Transits};
+pub use fh_base::Line;
 pub use generating::write;
 pub use measure_lines::FIRST_MEASURE;
 pub use reading::read;

@@ -9,8 +9,7 @@ use crate::refusals::{DocWhy, LineFault};
 use crate::words::{byte_in, number_in};
 use air_source::Side;
 use delay_measure::Kind;
-use fh_base::List;
-use fh_time::LAST_TIME;
+use fh_base::{LAST_TIME, List};
 use line_words::Words;
 
 /// The first nanosecond at which a measurement may begin, so that no stamp is below 0.

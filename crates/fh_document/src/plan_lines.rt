@@ -7,7 +7,7 @@ use crate::document::Reading;
 use crate::hex::{hex3, hex4};
 use crate::refusals::{DocWhy, LineFault};
 use crate::words::{byte_in, number_in, short_in};
-use fh_time::Slot;
+use fh_base::Slot;
 use line_words::Words;
 use window_config::{LAST_FRAME, PLAN_LINES, PlanKind, PlanLine};
 

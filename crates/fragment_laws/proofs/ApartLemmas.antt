@@ -3,8 +3,9 @@ use Rattle.std.proofs.Common.{◌≡◌, ℕ, ℤ, ◌+ℤ◌, ◌≤ℤ◌, ◌
 use Rattle.std.proofs.lemmas.Int.{ints}
 use Rattle.std.proofs.lemmas.Bool.{cases_order, cases_Bool, eq-eqb, eqb-true, and_parts, and_from}
 use Rattle.ecpri_fragments.specs.Generations.{Fragment, Generation, is_of, begun, joined, with_fragment, held_in, generations_of, seen}
-use Rattle.fragment_laws.specs.Apart.{IsIn, Numbers, number_of, of_message, AreApart, GenerationsAreMessages}
-use Rattle.fh_time.proofs.Orders.{true_le as le_true, and_false}
+use Rattle.fragment_laws.specs.Apart.{Numbers, number_of, of_message, AreApart, GenerationsAreMessages}
+use Rattle.fh_base.proofs.Orders.{true_le as le_true, and_false}
+use Rattle.fh_base.specs.Members.{IsIn}
 
 pub lt_false : (a b : ℤ) → b <ℤ a → int_le a b ≡ false
 lt_false a b lt = grind (arith, ints)

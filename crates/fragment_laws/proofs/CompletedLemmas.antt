@@ -5,11 +5,12 @@ use Rattle.ecpri_fragments.specs.Generations.{Fragment}
 use Rattle.ecpri_fragments.specs.declared.verdict.Verdict.{Verdict}
 use Rattle.ecpri_fragments.specs.Verdicts.{Message, message, standing_before, verdict_on, whole_of, whole_now}
 use Rattle.ecpri_fragments.specs.declared.verdict.Verdict.TheVariants.{Stored, Whole, Repeat, Stray, TooLong}
-use Rattle.fragment_laws.specs.Apart.{IsIn, Numbers, number_of}
+use Rattle.fragment_laws.specs.Apart.{Numbers, number_of}
 use Rattle.fragment_laws.specs.Flow.{numbers_of}
 use Rattle.fragment_laws.specs.Once.{Answered, answers, Completed, with_whole, wholes, numbered, WholesAreTheSent}
 use Rattle.fragment_laws.proofs.FlowLemmas.{copy}
 use Rattle.fragment_laws.proofs.OnceLemmas.{once_whole}
+use Rattle.fh_base.specs.Members.{IsIn}
 
 -- of answers, what became whole
 abbrev kept : Verdict → Message → Option Message

@@ -3,9 +3,10 @@ use Rattle.std.proofs.Common.{◌≡◌, ℕ, zero, suc, ℤ, ◌≤ℤ◌, ◌<
 use Rattle.std.proofs.lemmas.Int.{ints}
 use Rattle.std.proofs.lemmas.Bool.{cases_eq, eq-eqb, ne_eqb}
 use Rattle.ecpri_fragments.specs.Generations.{Fragment}
-use Rattle.fragment_laws.specs.Apart.{IsIn, IsFalling}
+use Rattle.fragment_laws.specs.Apart.{IsFalling}
 use Rattle.fragment_laws.specs.Flow.{IsSound, IsCopyOf, IsDelivered}
 use Rattle.fragment_laws.specs.Example.{example_bounds, example_flow, long_flow, frame, came, IsExample}
+use Rattle.fh_base.specs.Members.{IsIn}
 
 few : (ep : ℕ) → (example_flow ep).count ≤ 2
 few ep = elim (cases_eq ep 0) [

@@ -3,10 +3,11 @@ use Rattle.std.proofs.Common.{◌≡◌, ℕ, zero, suc, ℤ, pos, ◌+ℤ◌, �
 use Rattle.std.proofs.lemmas.Int.{ints}
 use Rattle.std.proofs.lemmas.Bool.{cases_eq, eq-eqb, ne_eqb, and_from}
 use Rattle.ecpri_fragments.specs.Generations.{Fragment}
-use Rattle.fragment_laws.specs.Apart.{IsIn, number_of, AreApart}
+use Rattle.fragment_laws.specs.Apart.{number_of, AreApart}
 use Rattle.fragment_laws.specs.Flow.{Flow, Bounds, sent_at, IsSound, search_from, numbers_of, IsCopyOf, IsDelivered, DeliveredAreApart, NumbersAreTold}
-use Rattle.fh_time.proofs.Orders.{true_le as le_true}
+use Rattle.fh_base.proofs.Orders.{true_le as le_true}
 use Rattle.fragment_laws.proofs.ApartLemmas.{lt_false}
+use Rattle.fh_base.specs.Members.{IsIn}
 
 module _ (b : Bounds) (t : Flow) (v : IsSound b t) where
   pub sent_from : (j sub : ℕ) → t.low j ≤ℤ sent_at t j sub

@@ -4,12 +4,13 @@ use Rattle.std.proofs.lemmas.Int.{ints}
 use Rattle.std.proofs.lemmas.Bool.{cases_Bool, eq-eqb, eqb-true, and_parts, and_from}
 use Rattle.ecpri_fragments.specs.Generations.{Fragment, seen}
 use Rattle.ecpri_fragments.specs.Verdicts.{stands, all_stand, verdict, standing, verdict_on, first_of}
-use Rattle.fragment_laws.specs.Apart.{IsIn, Numbers, number_of, of_message, IsFalling, AreApart}
+use Rattle.fragment_laws.specs.Apart.{Numbers, number_of, of_message, IsFalling, AreApart}
 use Rattle.fragment_laws.specs.Flow.{Flow, Bounds, sent_at, IsSound, numbers_of, IsCopyOf, IsDelivered}
 use Rattle.fragment_laws.specs.Once.{Answered, answered, answers, IsOnceWhole, told, EachIsWholeOnce, EachIsTold}
 use Rattle.fragment_laws.proofs.ApartLemmas.{apart_before, seen_is}
 use Rattle.fragment_laws.proofs.FlowLemmas.{number_is, copy, delivered_apart}
 use Rattle.fragment_laws.proofs.PieceLemmas.{IsPiece, stands-own, stands-more, all_stand-from, verdict_is, oldest, answers_in, Once, Made, once, not_yet, made}
+use Rattle.fh_base.specs.Members.{IsIn}
 
 -- the arrivals of a message are what they are among those of the message alone
 pub answers_are : (hold fast slow : ℤ) (first : ℕ → ℕ → ℤ) (num : Numbers) (ep j : ℕ) (xs : List Fragment) → AreApart hold fast slow first num xs

@@ -7,11 +7,12 @@ use Rattle.ecpri_fragments.specs.Generations.{Fragment}
 use Rattle.ecpri_fragments.specs.declared.verdict.Verdict.{Verdict}
 use Rattle.ecpri_fragments.specs.Verdicts.{piece_at, stands, end_of, all_stand, whole_to, is_whole, is_past_end, has_greater, is_stray, size, refused, answer, with_one, verdict, standing, first_of, pieces_below, pieces_to}
 use Rattle.ecpri_fragments.specs.declared.verdict.Verdict.TheVariants.{Stored, Whole, Repeat, Stray, TooLong}
-use Rattle.fragment_laws.specs.Apart.{IsIn, IsFalling}
+use Rattle.fragment_laws.specs.Apart.{IsFalling}
 use Rattle.fragment_laws.specs.Flow.{size_to}
 use Rattle.fragment_laws.specs.Once.{Answered, answered, texts}
 use Rattle.fragment_laws.proofs.SumLemmas.{sum_to, sum_to-same, sum_to-add, sum_to-one, sum_to-zero}
 use Rattle.ecpri_fragments.specs.declared.place.TheConstants.{MESSAGE_BYTES}
+use Rattle.fh_base.specs.Members.{IsIn}
 
 -- a copy of a fragment of a message with n of them, whose bytes are these
 pub record IsPiece (n : ℕ) (text : ℕ → List ℕ) (a : Fragment) : Type 0 where

@@ -1,8 +1,9 @@
 -- The data messages of one endpoint and direction, as functions of their numbers; times in ticks.
 use Rattle.std.specs.Prelude.{◌≡◌, ◌==◌, ◌&&◌, ◌⊎◌, ℕ, zero, suc, ℤ, pos, ◌+ℤ◌, ◌-ℤ◌, ◌≤ℤ◌, ◌<ℤ◌, ◌+◌, ◌*◌, ◌%◌, ◌<◌, ◌≤◌, min, int_le, if◌then◌else◌, List, length}
 use Rattle.ecpri_fragments.specs.Generations.{Fragment}
-use Rattle.fragment_laws.specs.Apart.{IsIn, Numbers, number_of, IsFalling, AreApart}
+use Rattle.fragment_laws.specs.Apart.{Numbers, number_of, IsFalling, AreApart}
 use Rattle.ecpri_fragments.specs.declared.place.TheConstants.{MESSAGE_BYTES}
+use Rattle.fh_base.specs.Members.{IsIn}
 
 pub record Flow : Type 0 where
   -- how many messages there are, and how many fragments each has

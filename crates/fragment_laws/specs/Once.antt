@@ -4,8 +4,9 @@ use Rattle.ecpri_fragments.specs.Generations.{Fragment}
 use Rattle.ecpri_fragments.specs.declared.verdict.Verdict.{Verdict}
 use Rattle.ecpri_fragments.specs.Verdicts.{stands, all_stand, Message, verdict, verdict_on, message, standing_before, first_of, whole_now}
 use Rattle.ecpri_fragments.specs.declared.verdict.Verdict.TheVariants.{Stored, Whole, Repeat}
-use Rattle.fragment_laws.specs.Apart.{IsIn, Numbers, number_of, of_message}
+use Rattle.fragment_laws.specs.Apart.{Numbers, number_of, of_message}
 use Rattle.fragment_laws.specs.Flow.{Flow, Bounds, sent_at, IsSound, numbers_of, IsDelivered}
+use Rattle.fh_base.specs.Members.{IsIn}
 
 -- a fragment that came, what it was then, and the message that it makes with what stood
 pub record Answered : Type 0 where

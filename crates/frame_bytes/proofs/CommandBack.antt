@@ -4,7 +4,7 @@ use Rattle.std.proofs.lemmas.Bool.{cases_eq}
 use Rattle.std.proofs.lemmas.Bool.Decides.{nat_tests}
 use Rattle.std.proofs.lemmas.List.{take_all}
 use Rattle.bfp_codec.specs.Field.{field, signed, flag}
-use Rattle.fh_time.specs.declared.values.Shape.{Shape}
+use Rattle.fh_base.specs.declared.values.Shape.{Shape}
 use Rattle.bfp_codec.specs.Layout.{twos}
 use Rattle.bfp_codec.specs.Exponent.{Within}
 use Rattle.bfp_codec.proofs.Twos.{signed_twos, twos_fits}

@@ -1,6 +1,6 @@
 -- Sections of a message, one after the other.
 use Rattle.std.proofs.Common.{◌≡◌, ℕ, zero, suc, ◌+◌, ◌<◌, ◌≤◌, List, [], ◌∷◌, ◌++◌, length, take, get_or, refl, sym, ap, ◌∙◌, arith, add-zero, add-one, append-nil, append_assoc, length-append}
-use Rattle.fh_time.specs.Carrier.{first_of, count_of}
+use Rattle.fh_base.specs.Carrier.{first_of, count_of}
 use Rattle.bfp_codec.specs.declared.samples.Iq.{Iq}
 use Rattle.uplane_sections.specs.declared.values.UHead.{UHead}
 use Rattle.uplane_sections.specs.Section.{header_size}

@@ -1,6 +1,6 @@
 -- A U-plane message with the samples of a source (O-RAN.WG4.CUS, clause 8.3.2).
 use Rattle.std.specs.Prelude.{◌≡◌, ℕ, zero, suc, ◌+◌, ◌*◌, ◌<◌, ◌≤◌, ◌^◌, List, [], ◌∷◌, ◌++◌, All, false, if◌then◌else◌}
-use Rattle.fh_time.specs.Carrier.{is_outside, first_of, count_of}
+use Rattle.fh_base.specs.Carrier.{is_outside, first_of, count_of}
 use Rattle.bfp_codec.specs.declared.samples.Iq.{Iq}
 use Rattle.bfp_codec.specs.declared.methods.Method.{Method}
 use Rattle.bfp_codec.specs.declared.methods.Format.{Format}

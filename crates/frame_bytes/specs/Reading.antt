@@ -1,7 +1,7 @@
 -- What the application bytes of a sent message are read as, by the endpoint's format.
 use Rattle.std.specs.Prelude.{ℕ, zero, suc, ◌+◌, ◌<◌, ◌^◌, List, [], ◌∷◌, ◌++◌, All, false}
-use Rattle.fh_time.specs.declared.values.Shape.{Shape}
-use Rattle.fh_time.specs.Carrier.{first_of, count_of}
+use Rattle.fh_base.specs.declared.values.Shape.{Shape}
+use Rattle.fh_base.specs.Carrier.{first_of, count_of}
 use Rattle.bfp_codec.specs.declared.samples.Iq.{Iq}
 use Rattle.bfp_codec.specs.declared.methods.Method.{Method}
 use Rattle.bfp_codec.specs.Shrunk.{shrunk, CanPack}

@@ -1,6 +1,6 @@
 //! C-plane frames.
 ghost use Rattle.std.specs.Prelude.{◌≡◌, ℕ, ◌+◌, ◌≤◌, ◌*◌, List, [], ◌∷◌, ◌++◌, length, take, drop};
-ghost use Rattle.fh_time.specs.declared.values.Shape.{Shape};
+ghost use Rattle.fh_base.specs.declared.values.Shape.{Shape};
 ghost use Rattle.cplane_sections.specs.Message.{HeadFits, SectionFits, Admits};
 ghost use Rattle.cplane_sections.specs.Header.{kind_of, size_of_head};
 ghost use Rattle.cplane_sections.specs.Section.{size_of_section};

@@ -4,7 +4,7 @@ ghost use Rattle.bfp_codec.specs.Layout.{HasWidth};
 ghost use Rattle.frame_bytes.specs.Messages.{section_size, message_size};
 
 use bfp_codec::{Format, Method, block_len};
-use fh_time::PrbSpan;
+use fh_base::PrbSpan;
 use uplane_sections::UHead;
 
 /// A section of a U-plane message that is to be written (O-RAN.WG4.CUS, clause 8.3.2), as its

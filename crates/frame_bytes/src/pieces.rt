@@ -2,7 +2,7 @@
 ghost use Rattle.std.specs.Prelude.{◌≡◌, ℕ, ◌+◌, ◌-◌, ◌*◌, ◌<◌, ◌≤◌, ◌^◌, List, ◌++◌, length, take, drop};
 ghost use Rattle.bfp_codec.specs.declared.samples.Iq.{Iq as SpecIq};
 ghost use Rattle.bfp_codec.specs.Layout.{HasWidth, length_of, packed_of};
-ghost use Rattle.fh_time.specs.Carrier.{first_of, count_of};
+ghost use Rattle.fh_base.specs.Carrier.{first_of, count_of};
 ghost use Rattle.uplane_sections.specs.Section.{header_size};
 ghost use Rattle.frame_bytes.specs.Spelled.{in_bytes};
 ghost use Rattle.frame_bytes.specs.Transport.{IsOneMessage};
@@ -16,7 +16,7 @@ use crate::parts::Part;
 use crate::transport::{TRANSPORT_LEN, transport};
 use bfp_codec::{Format, Iq, Method, block_len, pack, pack_into};
 use ecpri_fragments::SeqField;
-use fh_time::PrbSpan;
+use fh_base::PrbSpan;
 use uplane_sections::{USection, put_head, put_section};
 
 /// Bytes of a message: those from one place, from 0, up to another.

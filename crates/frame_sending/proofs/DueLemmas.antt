@@ -12,14 +12,12 @@ use Rattle.du_scheduler.proofs.PlanLemmas.{same_rest}
 use Rattle.du_scheduler.specs.Plans.{GivesSent, HasToSend, IsPlan, LeavesPlan, plane_of}
 use Rattle.du_scheduler.specs.declared.plans.Plan.{Plan}
 use Rattle.du_scheduler.specs.declared.plans.Sent.{Sent}
-use Rattle.fragment_laws.specs.Apart.{IsIn}
-use Rattle.frame_order.specs.Queues.{first_time}
+use Rattle.du_scheduler.specs.Queues.{first_time}
 use Rattle.plan_model.specs.Sent.{SentFrame}
-use Rattle.frame_order.specs.Runs.{turn_of}
-use Rattle.fh_time.specs.declared.values.Ticks.{Ticks}
-use Rattle.frame_deliveries.specs.Leaving.{Leaving}
+use Rattle.du_scheduler.specs.Runs.{turn_of}
+use Rattle.fh_base.specs.declared.values.Ticks.{Ticks}
+use Rattle.frame_ways.specs.Leaving.{Leaving}
 use Rattle.fh_document.specs.declared.delivered.TrafficClass.{TrafficClass}
-use Rattle.frame_ways.proofs.Ticks.{next_tick}
 use Rattle.frame_ways.specs.Ways.{OnWay, StandsFor, having_sent, having_sent_all, leaving_as}
 use Rattle.frame_ways.specs.declared.way.Way.{Way}
 use Rattle.window_config.specs.declared.config.Config.{Config}
@@ -27,6 +25,8 @@ use Rattle.window_config.specs.declared.plan.PlanLine.{PlanLine}
 use Rattle.frame_sending.specs.Due.{AreSentFrom, AreShort, HasSentDue, MaySend, class_for, leaving_by}
 use Rattle.frame_sending.proofs.MeasureLemmas.{frames_left, left_is}
 use Rattle.frame_sending.proofs.OrderLemmas.{IsSentTime, first_is_least, sent_less, sent_time}
+use Rattle.fh_base.specs.Members.{IsIn}
+use Rattle.plan_model.proofs.TickLemmas.{next_tick}
 
 -- ---- the frame that a plan gave
 

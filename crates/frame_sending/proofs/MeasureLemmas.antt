@@ -5,14 +5,14 @@ use Rattle.std.proofs.lemmas.List.{length-append, length-map}
 use Rattle.std.specs.BinaryHeap.{heap_items}
 use Rattle.du_scheduler.specs.Plans.{HasToSend}
 use Rattle.du_scheduler.specs.declared.plans.Plan.{Plan}
-use Rattle.frame_order.specs.Queues.{left_of}
-use Rattle.frame_order.specs.Turns.{is_turn, times}
-use Rattle.frame_order.specs.declared.turns.Turn.{Turn}
-use Rattle.frame_order.proofs.TurnOrder.{own, same_turn}
+use Rattle.du_scheduler.specs.Queues.{left_of}
+use Rattle.du_scheduler.specs.Turns.{is_turn, times}
+use Rattle.du_scheduler.specs.declared.turns.Turn.{Turn}
+use Rattle.du_scheduler.proofs.TurnOrder.{own, same_turn}
 use Rattle.plan_model.specs.Sent.{SentFrame}
 use Rattle.window_config.specs.declared.config.Config.{Config}
 use Rattle.window_config.specs.declared.plan.PlanLine.{PlanLine}
-use Rattle.frame_order.proofs.Left.{times-append}
+use Rattle.du_scheduler.proofs.Left.{times-append}
 
 -- a list with one of its frames taken out
 record TakenOut (t : Turn) (whole : List Turn) : Type 0 where

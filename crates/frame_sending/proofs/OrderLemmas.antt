@@ -7,29 +7,29 @@ use Rattle.std.proofs.lemmas.Int.{ints}
 use Rattle.std.proofs.lemmas.List.Elements.{All-head, All-tail}
 use Rattle.du_scheduler.specs.Plans.{HasToSend}
 use Rattle.du_scheduler.specs.declared.plans.Plan.{Plan}
-use Rattle.fragment_laws.specs.Apart.{IsIn}
-use Rattle.frame_order.proofs.TurnOrder.{own, same_turn}
-use Rattle.frame_order.specs.Turns.{is_turn, times}
-use Rattle.frame_order.specs.declared.turns.Turn.{Turn}
+use Rattle.du_scheduler.proofs.TurnOrder.{own, same_turn}
+use Rattle.du_scheduler.specs.Turns.{is_turn, times}
+use Rattle.du_scheduler.specs.declared.turns.Turn.{Turn}
 use Rattle.plan_model.specs.Lines.{planned}
 use Rattle.plan_model.specs.Sent.{SentFrame, frames_from, sent}
-use Rattle.schedule_laws.proofs.ListLemmas.{of_tick}
 use Rattle.schedule_laws.proofs.LeastLemmas.{leaving, sent_rising}
-use Rattle.schedule_laws.proofs.OrderLemmas.{IsRising, rising_behind}
-use Rattle.frame_order.specs.Runs.{turn_of}
+use Rattle.du_scheduler.specs.Runs.{turn_of}
 use Rattle.schedule_laws.proofs.SentTimeLemmas.{IsInTime, all_in_time}
 use Rattle.unit_model.specs.Radiated.{first_clock}
 use Rattle.unit_model.specs.Times.{end_of_time}
-use Rattle.unit_model.proofs.SweepLaws.{gap_is}
 use Rattle.window_config.specs.declared.config.Config.{Config}
 use Rattle.window_config.specs.declared.plan.PlanLine.{PlanLine}
-use Rattle.plan_model.proofs.ListLemmas.{in_right, of_filter, all_of}
 use Rattle.frame_sending.specs.Due.{AreSentFrom}
-use Rattle.fh_time.proofs.Orders.{at_most}
+use Rattle.fh_base.proofs.Orders.{at_most}
+use Rattle.fh_base.specs.Members.{IsIn}
+use Rattle.fh_base.proofs.MemberLemmas.{in_right, of_filter, all_of}
+use Rattle.fh_base.proofs.MadeLists.{of_tick}
+use Rattle.fh_base.proofs.EachLemmas.{gap_is}
+use Rattle.fh_base.proofs.RisingLemmas.{IsRising, rising_behind}
 
 -- ---- each is sent at a time that is gone over
 
-in_frames : (c : Config) (lines : List PlanLine) (f : SentFrame) → IsIn f (sent c (planned c.endpoints lines)) → IsIn f (frames_from c (planned c.endpoints lines) 0 c.endpoints)
+pub in_frames : (c : Config) (lines : List PlanLine) (f : SentFrame) → IsIn f (sent c (planned c.endpoints lines)) → IsIn f (frames_from c (planned c.endpoints lines) 0 c.endpoints)
 unfolding sent
 in_frames c lines f m =
     let all = frames_from c (planned c.endpoints lines) 0 c.endpoints in

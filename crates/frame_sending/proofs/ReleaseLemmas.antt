@@ -4,12 +4,12 @@ use Rattle.std.specs.Prelude.{map}
 use Rattle.std.proofs.lemmas.List.{map-append}
 use Rattle.std.proofs.lemmas.List.Elements.{All-head, All-tail}
 use Rattle.air_source.specs.declared.links.LinkFrame.{LinkFrame}
-use Rattle.frame_deliveries.specs.Leaving.{Leaving}
+use Rattle.frame_ways.specs.Leaving.{Leaving}
 use Rattle.fh_document.specs.declared.delivered.TrafficClass.TheVariants.{U}
 use Rattle.frame_ways.specs.Ways.{OnWay, StandsFor, having_sent, having_sent_all, leaving_as}
 use Rattle.frame_ways.specs.declared.way.Way.{Way}
-use Rattle.frame_network.specs.SendQueues.{AllHaveLeft, HasLeft, Leaves, WaitsFor}
-use Rattle.frame_network.proofs.SendQueueLemmas.{leaves_at_once}
+use Rattle.frame_ways.specs.SendQueues.{AllHaveLeft, HasLeft, Leaves, WaitsFor}
+use Rattle.frame_ways.proofs.SendQueueLemmas.{leaves_at_once}
 use Rattle.frame_sending.specs.Releasing.{HasReleased, IsShort, answer_as}
 
 -- these are gone, and went out

@@ -10,7 +10,7 @@ use Rattle.du_scheduler.specs.declared.plans.Plane.TheVariants.{C as OfC, U as O
 use Rattle.plan_model.specs.Sent.{SentFrame}
 use Rattle.sent_frames.specs.Frames.{sent_bytes}
 use Rattle.sent_frames.specs.Sources.{source_of}
-use Rattle.frame_deliveries.specs.Leaving.{Leaving}
+use Rattle.frame_ways.specs.Leaving.{Leaving}
 use Rattle.fh_document.specs.declared.delivered.TrafficClass.{TrafficClass}
 use Rattle.fh_document.specs.declared.delivered.TrafficClass.TheVariants.{C, U}
 use Rattle.frame_ways.specs.Ways.{OnWay, StandsFor, having_sent_all}

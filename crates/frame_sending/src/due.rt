@@ -4,9 +4,9 @@ ghost use Rattle.air_source.specs.Kept.{IsKept, closure_of};
 ghost use Rattle.air_source.specs.declared.places.RePlace.{RePlace as SpecPlace};
 ghost use Rattle.bfp_codec.specs.declared.samples.Wide.{Wide as SpecWide};
 ghost use Rattle.du_scheduler.specs.Plans.{HasToSend, IsPlan};
-ghost use Rattle.frame_order.specs.Queues.{first_time};
+ghost use Rattle.du_scheduler.specs.Queues.{first_time};
 ghost use Rattle.plan_model.specs.Sent.{SentFrame};
-ghost use Rattle.frame_order.specs.Runs.{turn_of};
+ghost use Rattle.du_scheduler.specs.Runs.{turn_of};
 ghost use Rattle.fh_document.specs.Proper.{IsDocument};
 ghost use Rattle.frame_ways.specs.Ways.{OnWay, StandsFor, document_of, having_sent};
 ghost use Rattle.window_config.specs.declared.config.Config.{Config};
@@ -16,11 +16,9 @@ ghost use Rattle.frame_sending.specs.Due.{AreSentFrom, HasSentDue, MaySend, clas
 use air_source::{RePlace, Samples};
 use bfp_codec::Wide;
 use du_scheduler::{Plan, Plane};
-use fh_base::NoMemory;
+use fh_base::{NoMemory, Ticks};
 use fh_document::TrafficClass;
-use fh_time::Ticks;
-use frame_network::FramePool;
-use frame_ways::Way;
+use frame_ways::{FramePool, Way};
 
 /// The class of the frames of a plane.
 fn class_of(plane: Plane) -> TrafficClass

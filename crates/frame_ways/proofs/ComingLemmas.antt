@@ -4,15 +4,15 @@ use Rattle.std.specs.Prelude.{map}
 use Rattle.std.proofs.lemmas.Int.{ints}
 use Rattle.std.proofs.lemmas.List.Elements.{All-cons, All-head, All-nil, All-tail}
 use Rattle.air_source.specs.declared.events.Side.{Side}
-use Rattle.frame_deliveries.specs.Landing.{copies_in, copy_at}
-use Rattle.frame_deliveries.specs.Leaving.{Leaving, SentCounts, counted, delayed}
+use Rattle.frame_ways.specs.Landing.{copies_in, copy_at}
+use Rattle.frame_ways.specs.Leaving.{Leaving, SentCounts, counted, delayed}
 use Rattle.fh_document.specs.Proper.{IsDocument, IsFrom}
 use Rattle.fh_document.specs.declared.document.Document.{Document}
 use Rattle.fh_document.specs.declared.config_lines.TheConstants.{MOST_TRANSIT}
 use Rattle.unit_model.specs.Meetings.{Arrival}
 use Rattle.frame_ways.specs.Ways.{LandsFrom}
 use Rattle.frame_ways.proofs.CountLemmas.{measured_within, times_within}
-use Rattle.fh_time.specs.declared.nanoseconds.TheConstants.{NANOSECOND}
+use Rattle.fh_base.specs.declared.nanoseconds.TheConstants.{NANOSECOND}
 
 at_least : (now at : ℤ) (least : ℕ) (ns : ℤ) → now ≤ℤ (at +ℤ pos least) → IsFrom least MOST_TRANSIT ns → now ≤ℤ (at +ℤ (ns *ℤ pos NANOSECOND))
 at_least now at least ns order h = let low = h.low in omega (arith, ints, low, order)

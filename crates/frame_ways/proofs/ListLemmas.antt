@@ -9,16 +9,16 @@ use Rattle.std.proofs.lemmas.List.{length-map, map-append, take_more}
 use Rattle.std.proofs.lemmas.List.Elements.{All-cons, All-head, All-nil, All-tail, All-filter, All-weaker, filter-append}
 use Rattle.std.proofs.lemmas.Option.{get_or_from_slice_get, slice_get-get_or, slice_get-map, slice_get_within}
 use Rattle.air_source.specs.declared.events.Side.{Side}
-use Rattle.frame_deliveries.specs.Landing.{injected_at, injected_to, is_to, landing_at, arrival_at}
+use Rattle.frame_ways.specs.Landing.{injected_at, injected_to, is_to, landing_at, arrival_at}
 use Rattle.fh_document.specs.Proper.{IsDocument}
 use Rattle.fh_document.specs.declared.document.Document.{Document}
 use Rattle.fh_document.specs.declared.document.Injection.{Injection}
-use Rattle.fh_time.specs.declared.values.Ticks.{Ticks}
-use Rattle.frame_network.specs.declared.landings.Landing.{Landing}
-use Rattle.frame_network.specs.Queues.{IsPlaced, at_time, enumerated, enumerated_from, landing_of as place_of}
+use Rattle.fh_base.specs.declared.values.Ticks.{Ticks}
+use Rattle.frame_ways.specs.declared.landings.Landing.{Landing}
+use Rattle.frame_ways.specs.Queues.{IsPlaced, at_time, enumerated, enumerated_from, landing_of as place_of}
 use Rattle.unit_model.specs.Meetings.{Arrival}
 use Rattle.frame_ways.specs.Listed.{AreFrom, HasTime, landing_arrival, injected_frame, injections_in, injections_to, landings_left, time_of}
-use Rattle.fh_time.specs.declared.nanoseconds.TheConstants.{NANOSECOND}
+use Rattle.fh_base.specs.declared.nanoseconds.TheConstants.{NANOSECOND}
 
 -- ---- those of a unit
 

@@ -1,8 +1,8 @@
 -- What lands once one frame more was sent.
 use Rattle.std.proofs.Common.{◌≡◌, ℤ, List, [], ◌∷◌, ◌++◌, refl, sym, ap, ◌∙◌, append_assoc, append-nil}
 use Rattle.air_source.specs.declared.events.Side.{Side}
-use Rattle.frame_deliveries.specs.Landing.{copies_among, copies_in, landing_at}
-use Rattle.frame_deliveries.specs.Leaving.{Delayed, Leaving, SentCounts, counted, counted_all, delayed, delayed_behind, none_sent}
+use Rattle.frame_ways.specs.Landing.{copies_among, copies_in, landing_at}
+use Rattle.frame_ways.specs.Leaving.{Delayed, Leaving, SentCounts, counted, counted_all, delayed, delayed_behind, none_sent}
 use Rattle.fh_document.specs.declared.document.Document.{Document}
 use Rattle.unit_model.specs.Meetings.{Arrival}
 use Rattle.frame_ways.specs.Ways.{OnWay, copies_on, counts_on, having_sent}

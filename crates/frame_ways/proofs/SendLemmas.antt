@@ -5,16 +5,16 @@ use Rattle.std.proofs.lemmas.List.Elements.{All-head, All-nil, All-tail}
 use Rattle.std.specs.Borrow.{Bor}
 use Rattle.std.specs.Int.Signed.{≤ℤ_refl}
 use Rattle.air_source.specs.declared.events.Side.{Side}
-use Rattle.frame_deliveries.specs.Copies.{DeliveriesTo, deliveries_to}
-use Rattle.frame_deliveries.specs.Landing.{arrival_at, copies_among, copies_in, injected_to, landing_at}
-use Rattle.frame_deliveries.specs.Leaving.{Delayed, Leaving, SentCounts, counted, delayed, none_sent}
+use Rattle.frame_ways.specs.Copies.{DeliveriesTo, deliveries_to}
+use Rattle.frame_ways.specs.Landing.{arrival_at, copies_among, copies_in, injected_to, landing_at}
+use Rattle.frame_ways.specs.Leaving.{Delayed, Leaving, SentCounts, counted, delayed, none_sent}
 use Rattle.fh_document.specs.Proper.{IsDocument}
 use Rattle.fh_document.specs.declared.document.Document.{Document}
 use Rattle.fh_document.specs.declared.document.Injection.{Injection}
-use Rattle.fh_time.specs.declared.values.Ticks.{Ticks}
-use Rattle.frame_network.specs.Network.{IsInOrder}
-use Rattle.frame_network.specs.Queues.{AreRising, IsPlaced, at_time, enumerated, first_time, landing_of}
-use Rattle.frame_network.specs.declared.arrivals.Arrival.{Arrival as Flying}
+use Rattle.fh_base.specs.declared.values.Ticks.{Ticks}
+use Rattle.frame_ways.specs.Network.{IsInOrder}
+use Rattle.frame_ways.specs.Queues.{AreRising, IsPlaced, at_time, enumerated, first_time, landing_of}
+use Rattle.frame_ways.specs.declared.arrivals.Arrival.{Arrival as Flying}
 use Rattle.unit_model.specs.Meetings.{Arrival}
 use Rattle.frame_ways.specs.declared.copies.Departure.{Departure}
 use Rattle.frame_ways.specs.declared.landed.Landed.{Landed}
@@ -31,8 +31,8 @@ use Rattle.frame_ways.proofs.LandLemmas.{flying_here, flying_later, flying_none,
 use Rattle.frame_ways.proofs.ListLemmas.{left_listed, lent_at, listed_from, short_at, times_to}
 use Rattle.frame_ways.proofs.MoreLemmas.{copies_more, counted_one, none_behind}
 use Rattle.frame_ways.proofs.Ticks.{next_is_later, same_tick}
-use Rattle.fh_time.proofs.Orders.{at_most}
-use Rattle.fh_time.specs.declared.nanoseconds.TheConstants.{NANOSECOND}
+use Rattle.fh_base.proofs.Orders.{at_most}
+use Rattle.fh_base.specs.declared.nanoseconds.TheConstants.{NANOSECOND}
 
 -- all but what is on its way, and how many were sent, is as it was
 pub record IsSameBut (w x : Way) : Type 0 where

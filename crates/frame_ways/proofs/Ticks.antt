@@ -2,7 +2,7 @@
 use Rattle.std.proofs.Common.{◌≡◌, ℤ, pos, ◌+ℤ◌, ◌≤ℤ◌, ◌<ℤ◌, false, arith}
 use Rattle.std.specs.Ordering.{int_eq}
 use Rattle.std.proofs.lemmas.Int.{ints}
-use Rattle.fh_time.proofs.Orders.{not_eq}
+use Rattle.fh_base.proofs.Orders.{not_eq}
 
 pub next_after : (a b : ℤ) → a <ℤ b → (a +ℤ pos 1) ≤ℤ b
 next_after a b h = omega (arith, ints)
@@ -18,6 +18,3 @@ int_below a b lt = not_eq a b (λ e. omega (arith, ints, lt, e))
 
 pub int_above : (a b : ℤ) → b <ℤ a → int_eq a b ≡ false
 int_above a b gt = not_eq a b (λ e. omega (arith, ints, gt, e))
-
-pub next_tick : (a b : ℤ) → a ≤ℤ b → (b ≡ a → ⊥) → (a +ℤ pos 1) ≤ℤ b
-next_tick a b le ne = grind (arith, ints)

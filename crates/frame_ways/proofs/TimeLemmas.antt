@@ -5,13 +5,13 @@ use Rattle.std.proofs.lemmas.List.Elements.{All-cons, All-head, All-nil, All-tai
 use Rattle.std.specs.Int.Signed.{<ℤ-≤ℤ_trans, ≤ℤ_refl}
 use Rattle.air_source.specs.declared.events.Side.{Side}
 use Rattle.fh_document.specs.declared.document.Document.{Document}
-use Rattle.fh_time.specs.declared.values.Ticks.{Ticks}
-use Rattle.frame_network.specs.declared.arrivals.Arrival.{Arrival as Flying}
-use Rattle.frame_network.specs.declared.landings.Landing.{Landing}
-use Rattle.frame_network.specs.Network.{first_time as first_flying}
-use Rattle.frame_network.specs.Queues.{AreRising, first_time}
+use Rattle.fh_base.specs.declared.values.Ticks.{Ticks}
+use Rattle.frame_ways.specs.declared.arrivals.Arrival.{Arrival as Flying}
+use Rattle.frame_ways.specs.declared.landings.Landing.{Landing}
+use Rattle.frame_ways.specs.Network.{first_time as first_flying}
+use Rattle.frame_ways.specs.Queues.{AreRising, first_time}
 use Rattle.unit_model.specs.Meetings.{Arrival}
-use Rattle.fh_time.specs.Least.{IsLeast, IsLeastOf, earlier_time}
+use Rattle.fh_base.specs.Least.{IsLeast, IsLeastOf, earlier_time}
 use Rattle.frame_ways.specs.Flying.{AreFlyingFrom, flying_at}
 use Rattle.frame_ways.specs.Listed.{AreFrom, landings_left}
 use Rattle.frame_ways.specs.Ways.{IsCalmTo, OnWay, StandsFor, landings_on}
@@ -19,7 +19,7 @@ use Rattle.frame_ways.specs.declared.way.Way.{Way}
 use Rattle.frame_ways.proofs.LandLemmas.{flying_here, flying_less, flying_none, flying_not, from_less, left_above, left_first, left_none}
 use Rattle.frame_ways.proofs.SendLemmas.{comes_at}
 use Rattle.frame_ways.proofs.Ticks.{int_above, next_after}
-use Rattle.fh_time.proofs.Orders.{at_most, later_than, under, not_under, weak}
+use Rattle.fh_base.proofs.Orders.{at_most, later_than, under, not_under, weak}
 
 -- ---- the earlier of two times
 

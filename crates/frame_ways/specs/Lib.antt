@@ -3,3 +3,17 @@ pub mod Flying
 pub mod Listed
 pub mod Landed
 pub mod Ways
+pub mod Copies
+pub mod Rows
+pub mod Leaving
+pub mod Landing
+pub mod Network
+pub mod Places
+pub mod Held
+pub mod Pool
+pub mod Queues
+pub mod Spare
+pub mod SendQueues
+pub mod Outboxes
+pub mod Lending
+pub mod Waiting

@@ -1,8 +1,8 @@
 // Times in their order.
 ghost use Rattle.std.specs.Prelude.{◌≡◌};
-ghost use Rattle.fh_time.specs.Least.{earlier_time};
+ghost use Rattle.fh_base.specs.Least.{earlier_time};
 
-use fh_time::Ticks;
+use fh_base::Ticks;
 
 /// The earlier of two times, where there are any.
 pub fn earlier_of(a: Option<Ticks>, b: Option<Ticks>) -> Option<Ticks>

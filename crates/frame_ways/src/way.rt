@@ -1,18 +1,19 @@
 // One direction of the fronthaul.
 ghost use Rattle.std.specs.Prelude.{◌<◌, All, length, vec_len};
-ghost use Rattle.frame_network.specs.declared.landings.Landing.{Landing};
+ghost use Rattle.frame_ways.specs.declared.landings.Landing.{Landing};
 
 use crate::copies::{Departure, put_copies};
+use crate::deliveries::FrameDeliveries;
+use crate::in_flight::Network;
 use crate::landed::Landed;
 use crate::listing::{injections_to, times_to};
+use crate::pool::FramePool;
+use crate::queue::LandingQueue;
 use crate::tally::Tally;
 use crate::times::earlier_of;
 use air_source::Side;
-use fh_base::{Bytes, NoMemory};
+use fh_base::{Bytes, NoMemory, Ticks};
 use fh_document::{Document, Injection, TrafficClass};
-use fh_time::Ticks;
-use frame_deliveries::FrameDeliveries;
-use frame_network::{FramePool, LandingQueue, Network};
 use std::alloc::Global;
 
 /// One direction of the fronthaul: what is on its way to a unit.
@@ -39,7 +40,7 @@ impl<'a> Way<'a> {
     ghost use Rattle.unit_model.specs.Meetings.{Arrival};
     ghost use Rattle.unit_model.specs.Radiated.{first_clock};
     ghost use Rattle.unit_model.specs.Times.{end_of_time};
-    ghost use Rattle.fh_time.specs.Least.{IsLeastOf};
+    ghost use Rattle.fh_base.specs.Least.{IsLeastOf};
     ghost use Rattle.frame_ways.specs.Ways.{HasLanded, IsCalmTo, Lands, LandsFrom, LandsNext, OnWay, StandsFor, document_of, frames_on_way, having_sent, landings_on, leaving_as, nothing_sent};
 
     /// The way to a unit: nothing was sent, and all frames that the document injects to the unit wait for their times.

@@ -1,6 +1,5 @@
 -- The radio unit's messages of one tick are given, and their frames wait.
 use Rattle.std.proofs.Common.{◌≡◌, ℤ, pos, ◌+ℤ◌, ◌-ℤ◌, ◌≤ℤ◌, List, [], ◌++◌, length, drop, refl, sym, ap, ap₂, ◌∙◌, subst, append_assoc}
-use Rattle.std.specs.Prelude.{Err, Ok, OnOk, Result}
 use Rattle.std.proofs.Math.Seq.{drop-length}
 use Rattle.std.specs.Int.Signed.{≤ℤ_refl}
 use Rattle.air_source.specs.Answers.{AnswersBy}
@@ -13,9 +12,9 @@ use Rattle.bfp_codec.specs.declared.samples.Wide.{Wide}
 use Rattle.document_traffic.specs.Landing.{antenna_for}
 use Rattle.document_traffic.specs.Sending.{Leaving}
 use Rattle.fh_document.specs.declared.document.Document.{Document}
-use Rattle.measured_traffic.specs.Replayed.{all_leaving, landings_for, leaving_with}
-use Rattle.measured_traffic.proofs.LeaveLemmas.{uplink_alike}
-use Rattle.measured_traffic.proofs.ReplayedLemmas.{landings_are_replayed}
+use Rattle.document_traffic.specs.Replayed.{all_leaving, landings_for, leaving_with}
+use Rattle.document_traffic.proofs.LeaveLemmas.{uplink_alike}
+use Rattle.document_traffic.proofs.ReplayedLemmas.{landings_are_replayed}
 use Rattle.frame_ways.specs.declared.way.Way.{Way}
 use Rattle.plan_model.specs.Packs.{Message}
 use Rattle.fronthaul_replay.proofs.BoxSteps.{arrivals_stay, cells_stay, intake_own, next_events}
@@ -23,18 +22,18 @@ use Rattle.fronthaul_replay.specs.BoxTurns.{AtRadioTurn, IsRadioInStep, IsRadioL
 use Rattle.unit_model.specs.Heard.{arrivals_heard, cells_heard}
 use Rattle.replay_laws.specs.Moments.{arrivals_before, end_of_time}
 use Rattle.ru_buffers.specs.Calls.{StandsFor}
-use Rattle.radio_laws.specs.Reporting.{due_of}
+use Rattle.ru_buffers.specs.Reporting.{due_of}
 use Rattle.ru_buffers.specs.declared.unit.Ru.{Ru}
-use Rattle.frame_network.specs.SendQueues.{LeaveFrom, WaitsFor}
-use Rattle.unit_model.proofs.OntoLemmas.{onto-append, onto_none}
-use Rattle.unit_model.specs.Lists.{onto}
+use Rattle.frame_ways.specs.SendQueues.{LeaveFrom, WaitsFor}
+use Rattle.fh_base.proofs.OntoLemmas.{onto-append, onto_none}
+use Rattle.fh_base.specs.Lists.{onto}
 use Rattle.unit_model.specs.Radiated.{first_clock}
 use Rattle.unit_model.specs.Reports.{accepted_of, ru_reported}
 use Rattle.unit_model.specs.Standing.{History, owed_until}
 use Rattle.unit_model.specs.Uplink.{jobs}
 use Rattle.unit_model.specs.declared.jobs.UplinkJob.{UplinkJob}
 use Rattle.unit_laws.proofs.HistoryTicks.{last_of_next}
-use Rattle.fh_time.proofs.Orders.{before_it, next_later, next_order}
+use Rattle.fh_base.proofs.Orders.{before_it, next_later, next_order}
 use Rattle.uplink_model.specs.Frames.{frames_behind}
 use Rattle.uplink_model.specs.Messages.{uplink_messages_of}
 use Rattle.uplink_model.specs.SentLaws.{AreOf}
@@ -52,10 +51,6 @@ use Rattle.fronthaul_replay.specs.Waiting.{Waits}
 use Rattle.fronthaul_replay.specs.Up.{AwaitsFrames, HasHanded, WaitsUp}
 
 -- ---- what two clauses say of a result
-
-pub ok_both : {T E P Q R : Type 0} (r : Result T E) → (P → Q → R) → OnOk r P → OnOk r Q → OnOk r R
-ok_both (Ok x) f p q = f p q
-ok_both (Err e) f p q = tt
 
 -- ---- the messages that are due
 

@@ -22,12 +22,12 @@ use Rattle.frame_ways.specs.declared.way.Way.{Way}
 use Rattle.fronthaul_replay.proofs.QuietLemmas.{AreSilent, quiet_until}
 use Rattle.fronthaul_replay.proofs.WayLemmas.{waits_until}
 use Rattle.fronthaul_replay.proofs.DownLemmas.{waits_at}
-use Rattle.measured_traffic.specs.Measured.{exchanges}
-use Rattle.measured_traffic.specs.Replayed.{begins_at, landings_for, leaving_with, traffic_of}
-use Rattle.measured_traffic.specs.Turns.{IsQuietBetween}
-use Rattle.measured_traffic.proofs.LeaveLemmas.{leaving_waits}
-use Rattle.measured_traffic.proofs.ReplayedLemmas.{landings_are_replayed}
-use Rattle.measured_traffic.proofs.TurnLemmas.{flights_wait}
+use Rattle.document_traffic.specs.Measured.{exchanges}
+use Rattle.document_traffic.specs.Replayed.{begins_at, landings_for, leaving_with, traffic_of}
+use Rattle.document_traffic.specs.Turns.{IsQuietBetween}
+use Rattle.document_traffic.proofs.LeaveLemmas.{leaving_waits}
+use Rattle.document_traffic.proofs.ReplayedLemmas.{landings_are_replayed}
+use Rattle.document_traffic.proofs.TurnLemmas.{flights_wait}
 use Rattle.frame_sending.proofs.OrderLemmas.{sent_less}
 use Rattle.frame_sending.specs.Due.{AreSentFrom}
 use Rattle.du_scheduler.specs.declared.plans.Plan.{Plan}
@@ -43,9 +43,9 @@ use Rattle.replay_laws.proofs.CameLemmas.{calm_adds_nothing}
 use Rattle.replay_laws.proofs.TickLemmas.{between}
 use Rattle.ru_buffers.specs.Calls.{IsQuietTo}
 use Rattle.ru_buffers.specs.declared.unit.Ru.{Ru}
-use Rattle.frame_network.specs.SendQueues.{IsSilentTo, LeaveFrom, WaitsFor, waiting_at}
-use Rattle.frame_network.proofs.SendQueueLemmas.{waits_on as queue_waits_on}
-use Rattle.unit_model.specs.Lists.{onto}
+use Rattle.frame_ways.specs.SendQueues.{IsSilentTo, LeaveFrom, WaitsFor, waiting_at}
+use Rattle.frame_ways.proofs.SendQueueLemmas.{waits_on as queue_waits_on}
+use Rattle.fh_base.specs.Lists.{onto}
 use Rattle.unit_model.specs.Radiated.{first_clock}
 use Rattle.unit_model.specs.Reports.{du_reported}
 use Rattle.unit_model.specs.Standing.{History, nothing_yet}
@@ -62,7 +62,7 @@ use Rattle.fronthaul_replay.specs.Up.{WaitsUp, answers_left, handed_by, left_for
 use Rattle.fronthaul_replay.specs.IntakeTurns.{AtIntakeTurn, IsIntakeInStep, planned_for}
 use Rattle.fronthaul_replay.proofs.UpLemmas.{answers_later}
 use Rattle.fronthaul_replay.proofs.IntakeTurnLemmas.{due_less, skip, start, unit_waits}
-use Rattle.fh_time.proofs.Orders.{at_most, more_differ, not_eq, weak}
+use Rattle.fh_base.proofs.Orders.{at_most, more_differ, not_eq, weak}
 
 -- ---- the start
 

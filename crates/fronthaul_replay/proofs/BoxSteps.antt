@@ -8,9 +8,9 @@ use Rattle.air_source.specs.declared.events.Event.TheVariants as event
 use Rattle.air_source.specs.declared.events.Side.{Side}
 use Rattle.air_source.specs.declared.events.Side.TheVariants.{Ru as AtRu, Du as AtDu}
 use Rattle.fh_document.specs.declared.document.Document.{Document}
-use Rattle.measured_traffic.specs.Replayed.{traffic_of}
+use Rattle.document_traffic.specs.Replayed.{traffic_of}
 use Rattle.replay_laws.proofs.EventLemmas.{events_go_on}
-use Rattle.unit_laws.proofs.HeardLemmas.{AreOf, arrivals-append, cells-append, tick_of_side}
+use Rattle.unit_laws.proofs.HeardLemmas.{AreOf, cells-append, tick_of_side}
 use Rattle.unit_model.proofs.ToldLemmas.{told_all}
 use Rattle.replay_laws.specs.Events.{arrivals_at, cells_reported_at, events_at, start_of}
 use Rattle.unit_model.specs.Heard.{arrivals_heard, cells_heard, is_of}
@@ -22,6 +22,7 @@ use Rattle.unit_model.specs.Meetings.{Arrival}
 use Rattle.unit_model.specs.Radiated.{first_clock}
 use Rattle.fronthaul_replay.specs.BoxTurns.{AtRadioTurn, IsRadioInStep, events_before, intake_events, radio_events}
 use Rattle.unit_laws.proofs.AddedLemmas.{in_front}
+use Rattle.unit_model.proofs.ArrivalLemmas.{arrivals-append}
 
 -- ---- events of one unit
 

@@ -8,26 +8,27 @@ use Rattle.air_source.specs.declared.events.Event.TheVariants.{Cell}
 use Rattle.air_source.specs.declared.events.Side.TheVariants.{Ru as AtRu}
 use Rattle.document_traffic.specs.Laws.{IsReplayable}
 use Rattle.fh_document.specs.declared.document.Document.{Document}
-use Rattle.measured_traffic.specs.Doings.{Doings}
-use Rattle.measured_traffic.specs.Replayed.{landings_for, results_at}
-use Rattle.unit_laws.proofs.HeardLemmas.{AreOf, arrivals-append, arrivals-cells, cells-append, cells-arrivals, cells-own, due_of_side}
+use Rattle.document_traffic.specs.Doings.{Doings}
+use Rattle.document_traffic.specs.Replayed.{landings_for, results_at}
+use Rattle.unit_laws.proofs.HeardLemmas.{AreOf, cells-append, cells-arrivals, cells-own, due_of_side}
 use Rattle.unit_model.specs.Events.{arrivals_told}
 use Rattle.unit_model.specs.Heard.{arrivals_heard, cells_heard}
 use Rattle.replay_laws.specs.Moments.{end_of_time, landing_at}
 use Rattle.ru_buffers.specs.Calls.{StandsFor, StopsAtDue, RadioMayTake}
-use Rattle.radio_laws.specs.Reporting.{due_of}
+use Rattle.ru_buffers.specs.Reporting.{due_of}
 use Rattle.ru_buffers.specs.declared.unit.Ru.{Ru}
 use Rattle.unit_model.specs.Meetings.{Arrival}
 use Rattle.unit_model.specs.Reports.{ru_known}
 use Rattle.unit_model.specs.Standing.{History, at_clock, heard}
 use Rattle.unit_laws.proofs.HistoryLists.{front_empty}
 use Rattle.unit_moments.specs.Landing.{HasTaken, told_of_frames}
-use Rattle.document_delays.specs.Settings.{compensation_of}
+use Rattle.document_traffic.specs.Settings.{compensation_of}
 use Rattle.unit_moments.specs.Stops.{HaltsBehind, StopsBehind}
 use Rattle.fronthaul_replay.specs.BoxTurns.{IsRadioInStep, IsRadioTurn, events_before, radio_events}
 use Rattle.unit_moments.proofs.StopLemmas.{halts_behind, halts_moved, stops_behind, stops_moved}
 use Rattle.fronthaul_replay.proofs.TurnLemmas.{due_here}
 use Rattle.unit_laws.proofs.AddedLemmas.{in_front}
+use Rattle.unit_model.proofs.ArrivalLemmas.{arrivals-append, arrivals-cells}
 
 -- ---- the radio unit's cells
 

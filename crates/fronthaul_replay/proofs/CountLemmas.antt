@@ -19,18 +19,18 @@ use Rattle.fault_counters.specs.declared.kinds.Counter.{Counter}
 use Rattle.fh_document.specs.declared.document.Document.{Document}
 use Rattle.fronthaul_replay.specs.IntakeTurns.{AtIntakeTurn, planned_for}
 use Rattle.fronthaul_replay.proofs.BoxNext.{intake_over}
-use Rattle.measured_traffic.specs.Replayed.{doings_at, landings_for, traffic_of}
-use Rattle.measured_traffic.specs.Doings.{Doings}
+use Rattle.document_traffic.specs.Replayed.{doings_at, landings_for, traffic_of}
+use Rattle.document_traffic.specs.Doings.{Doings}
 use Rattle.document_traffic.specs.Landing.{jobs_for}
 use Rattle.document_traffic.specs.Laws.{IsReplayable}
-use Rattle.measured_traffic.proofs.OverLemmas.{documents_are_over}
-use Rattle.measured_traffic.proofs.SentLemmas.{messages_are_owed}
+use Rattle.document_traffic.proofs.OverLemmas.{documents_are_over}
+use Rattle.document_traffic.proofs.SentLemmas.{messages_are_owed}
 use Rattle.fronthaul_replay.specs.BoxTurns.{AtRadioTurn, events_before}
 use Rattle.replay_laws.specs.Events.{all_counted, count_event, count_events, is_measured, number_of}
 use Rattle.unit_model.specs.Heard.{arrivals_heard, cells_heard}
 use Rattle.replay_laws.specs.Moments.{all_arrivals, end_of_time}
 use Rattle.replay_laws.specs.Traffic.{landings_at, reported_at}
-use Rattle.unit_laws.proofs.HeardLemmas.{arrivals-append, cells-append}
+use Rattle.unit_laws.proofs.HeardLemmas.{cells-append}
 use Rattle.ru_buffers.specs.Calls.{IsQuietTo}
 use Rattle.ru_buffers.specs.declared.unit.Ru.{Ru}
 use Rattle.unit_model.specs.Counts.{StandAt, cells_counted}
@@ -47,7 +47,8 @@ use Rattle.report_airs.proofs.Whole.{IsCount}
 use Rattle.fronthaul_replay.proofs.Counted.{one_count}
 use Rattle.fronthaul_replay.proofs.StepLemmas.{turn_in_step}
 use Rattle.fronthaul_replay.proofs.StopLemmas.{all_events}
-use Rattle.plan_model.proofs.ListLemmas.{all_join}
+use Rattle.fh_base.proofs.MemberLemmas.{all_join}
+use Rattle.unit_model.proofs.ArrivalLemmas.{arrivals-append}
 
 -- ---- their events, one after the other
 

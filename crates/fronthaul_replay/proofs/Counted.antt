@@ -10,7 +10,7 @@ use Rattle.air_source.specs.declared.events.Side.TheVariants.{Ru, Du}
 use Rattle.fault_counters.specs.Names.{all_counters}
 use Rattle.fault_counters.specs.declared.kinds.Counter.{Counter}
 use Rattle.window_config.specs.declared.config.Config.{Config}
-use Rattle.unit_model.specs.Lists.{each_tick}
+use Rattle.fh_base.specs.Lists.{each_tick}
 use Rattle.unit_model.specs.Meetings.{Arrival}
 use Rattle.unit_model.specs.Radiated.{first_clock}
 use Rattle.unit_model.proofs.ToldLemmas.{Results, told_kept}
@@ -20,10 +20,10 @@ use Rattle.replay_laws.specs.Moments.{end_of_time, landing_at}
 use Rattle.replay_laws.specs.Events.{arrivals_at, cells_reported_at, events_at, events_between, number_of, count_event, count_events, events}
 use Rattle.unit_model.specs.Events.{arrivals_told, result_event}
 use Rattle.fh_document.specs.declared.document.Document.{Document}
-use Rattle.measured_traffic.specs.Replayed.{traffic_of}
+use Rattle.document_traffic.specs.Replayed.{traffic_of}
 use Rattle.fronthaul_replay.specs.Replaying.{events_of}
 use Rattle.report_airs.proofs.Whole.{IsEarlier, IsCount, CountsLast, cells_earlier}
-use Rattle.plan_model.proofs.ListLemmas.{all_join}
+use Rattle.fh_base.proofs.MemberLemmas.{all_join}
 
 results_earlier : (side : Side) (at : ℤ) (results : List DelayResult) → AllByRecursion IsEarlier (map (result_event side at) results)
 results_earlier side at [] = tt

@@ -13,18 +13,18 @@ use Rattle.du_scheduler.specs.declared.plans.Plan.{Plan}
 use Rattle.plan_model.specs.Sent.{SentFrame}
 use Rattle.plan_model.specs.declared.streams.Stream.{Stream}
 use Rattle.plan_model.specs.declared.streams.Stream.TheVariants.{DownCommands, UpCommands, DownData, UpData}
-use Rattle.fh_time.proofs.Orders.{beyond_next}
-use Rattle.frame_deliveries.specs.Leaving.{Leaving}
+use Rattle.fh_base.proofs.Orders.{beyond_next}
+use Rattle.frame_ways.specs.Leaving.{Leaving}
 use Rattle.fh_document.specs.declared.delivered.TrafficClass.{TrafficClass}
 use Rattle.frame_sending.specs.Due as due
 use Rattle.frame_sending.specs.Due.{AreSentFrom, HasSentDue, MaySend, leaving_by}
 use Rattle.frame_ways.specs.Ways.{IsCalmTo, StandsFor, having_sent_all, landings_on}
 use Rattle.frame_ways.specs.declared.way.Way.{Way}
-use Rattle.measured_traffic.proofs.LeaveLemmas.{first_leaves, leaving_waits, measured_leave}
-use Rattle.measured_traffic.proofs.TurnLemmas.{flights_wait, made_leave}
-use Rattle.measured_traffic.specs.Measured.{exchanges}
-use Rattle.measured_traffic.specs.Replayed.{all_leaving, leaving_from, leaving_made, made_at}
-use Rattle.measured_traffic.specs.Turns.{IsQuietBetween}
+use Rattle.document_traffic.proofs.LeaveLemmas.{first_leaves, leaving_waits, measured_leave}
+use Rattle.document_traffic.proofs.TurnLemmas.{flights_wait, made_leave}
+use Rattle.document_traffic.specs.Measured.{exchanges}
+use Rattle.document_traffic.specs.Replayed.{all_leaving, leaving_from, leaving_made, made_at}
+use Rattle.document_traffic.specs.Turns.{IsQuietBetween}
 use Rattle.delay_laws.specs.Ticks.{Flight}
 use Rattle.document_traffic.specs.Laws.{IsReplayable}
 use Rattle.document_traffic.specs.Sending.{class_of, leaving_of, sent_for, source_for}

@@ -8,8 +8,8 @@ use Rattle.air_source.specs.declared.events.Side.TheVariants.{Du}
 use Rattle.du_intake.specs.Calls.{IntakeStandsFor}
 use Rattle.du_intake.specs.Units.{intake_due_of}
 use Rattle.du_intake.specs.declared.unit.Intake.{Intake}
-use Rattle.fh_time.proofs.Orders.{next_later}
-use Rattle.measured_traffic.specs.Replayed.{landings_for, traffic_of}
+use Rattle.fh_base.proofs.Orders.{next_later}
+use Rattle.document_traffic.specs.Replayed.{landings_for, traffic_of}
 use Rattle.document_traffic.specs.Laws.{IsReplayable}
 use Rattle.fh_document.specs.declared.document.Document.{Document}
 use Rattle.replay_laws.specs.Events.{arrivals_at, cells_reported_at}

@@ -6,7 +6,7 @@ use Rattle.air_source.specs.declared.events.AirCell.{AirCell}
 use Rattle.air_source.specs.declared.events.Event.{Event}
 use Rattle.air_source.specs.declared.events.Event.TheVariants.{Cell}
 use Rattle.air_source.specs.declared.events.Side.TheVariants.{Ru as AtRu, Du as AtDu}
-use Rattle.measured_traffic.specs.Replayed.{landings_for, results_at, traffic_of}
+use Rattle.document_traffic.specs.Replayed.{landings_for, results_at, traffic_of}
 use Rattle.du_intake.specs.Closing.{IntakeStopsAtDue}
 use Rattle.du_intake.specs.Units.{intake_due_of}
 use Rattle.du_intake.specs.declared.unit.Intake.{Intake}
@@ -19,19 +19,20 @@ use Rattle.fronthaul_replay.specs.BoxTurns.{events_before, intake_events, radio_
 use Rattle.replay_laws.specs.Events.{arrivals_at, cells_reported_at}
 use Rattle.unit_model.specs.Heard.{arrivals_heard, cells_heard}
 use Rattle.replay_laws.specs.Moments.{end_of_time, landing_at}
-use Rattle.unit_laws.proofs.HeardLemmas.{AreOf, arrivals-append, cells-append, cells-arrivals, due_of_side}
-use Rattle.unit_model.specs.Lists.{onto}
+use Rattle.unit_laws.proofs.HeardLemmas.{AreOf, cells-append, cells-arrivals, due_of_side}
+use Rattle.fh_base.specs.Lists.{onto}
 use Rattle.unit_model.specs.Meetings.{Arrival}
 use Rattle.unit_model.specs.Reports.{du_known}
 use Rattle.unit_model.specs.Standing.{History, due, heard}
 use Rattle.fronthaul_replay.specs.IntakeTurns.{heard_before, AtIntakeTurn, IsIntakeInStep, IsIntakeTurn, planned_for}
 use Rattle.du_intake.specs.Calls.{IntakeMayTake}
 use Rattle.unit_moments.specs.Landing.{HasTaken, told_of_frames}
-use Rattle.document_delays.specs.Settings.{compensation_of}
-use Rattle.measured_traffic.specs.Doings.{Doings}
+use Rattle.document_traffic.specs.Settings.{compensation_of}
+use Rattle.document_traffic.specs.Doings.{Doings}
 use Rattle.unit_laws.proofs.HistoryLists.{front_empty}
 use Rattle.fronthaul_replay.proofs.IntakeTurnLemmas.{arrivals_closed, cells_closed, due_here}
 use Rattle.unit_laws.proofs.AddedLemmas.{in_front}
+use Rattle.unit_model.proofs.ArrivalLemmas.{arrivals-append}
 
 -- ---- before its first event
 

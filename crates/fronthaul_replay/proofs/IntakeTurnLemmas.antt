@@ -10,8 +10,8 @@ use Rattle.du_intake.specs.Calls.{IntakeStandsFor}
 use Rattle.du_intake.specs.Units.{intake_due_of}
 use Rattle.du_intake.specs.declared.unit.Intake.{Intake}
 use Rattle.fh_document.specs.declared.document.Document.{Document}
-use Rattle.measured_traffic.specs.Replayed.{begun, landings_for, results_at, traffic_of}
-use Rattle.measured_traffic.proofs.ReplayedLemmas.{landings_are_replayed}
+use Rattle.document_traffic.specs.Replayed.{begun, landings_for, results_at, traffic_of}
+use Rattle.document_traffic.proofs.ReplayedLemmas.{landings_are_replayed}
 use Rattle.fronthaul_replay.specs.BoxTurns.{events_before, intake_events, radio_events}
 use Rattle.fronthaul_replay.proofs.BoxSteps.{AreEventsOf, arrivals_stay, cells_own, cells_stay, next_events, radio_own}
 use Rattle.replay_laws.specs.Events.{cells_reported_at}
@@ -21,19 +21,20 @@ use Rattle.replay_laws.specs.Moments.{arrivals_before, end_of_time, landing_at}
 use Rattle.replay_laws.specs.Passing.{IsCalm, IsNextMoment, IsUnitMoment, due_from}
 use Rattle.replay_laws.proofs.CameLemmas.{arrivals_go_on, calm_adds_nothing, none_yet}
 use Rattle.replay_laws.proofs.EventLemmas.{events_wait}
-use Rattle.unit_laws.proofs.HeardLemmas.{AreOf, arrivals-append, arrivals-cells, arrivals-none, arrivals-own, cells-append, cells-arrivals, cells-none, cells-own}
+use Rattle.unit_laws.proofs.HeardLemmas.{AreOf, cells-append, cells-arrivals, cells-none, cells-own}
 use Rattle.unit_model.specs.declared.results.DelayResult.{DelayResult}
 use Rattle.replay_laws.proofs.MomentLemmas.{due_at_moment, reported_at_moment, reported_before_moment}
-use Rattle.unit_model.specs.Lists.{onto}
+use Rattle.fh_base.specs.Lists.{onto}
 use Rattle.unit_model.specs.Meetings.{Arrival}
 use Rattle.unit_model.specs.Radiated.{first_clock}
 use Rattle.unit_model.specs.Reports.{du_known, du_reported}
 use Rattle.unit_model.specs.Standing.{History, due, nothing_yet}
 use Rattle.unit_laws.proofs.HistoryTicks.{clock_begins, last_of_next}
-use Rattle.fh_time.proofs.Orders.{at_most, next_later, next_order}
+use Rattle.fh_base.proofs.Orders.{at_most, next_later, next_order}
 use Rattle.fronthaul_replay.proofs.TurnLemmas as radio
 use Rattle.fronthaul_replay.proofs.TurnLemmas.{events_none, moment_here, none_reported}
 use Rattle.fronthaul_replay.specs.IntakeTurns.{IsIntakeTurn, planned_for}
+use Rattle.unit_model.proofs.ArrivalLemmas.{arrivals-append, arrivals-cells, arrivals-none, arrivals-own}
 
 -- ---- what an air heard of it in a moment: nothing of the radio unit's events, and of its own all
 

@@ -3,13 +3,13 @@ use Rattle.std.proofs.Common.{◌≡◌, ℤ, pos, ◌+ℤ◌, ◌≤ℤ◌, ◌
 use Rattle.air_source.specs.declared.events.Event.{Event}
 use Rattle.air_source.specs.declared.events.Side.{Side}
 use Rattle.air_source.specs.declared.events.Side.TheVariants.{Ru, Du}
-use Rattle.frame_deliveries.specs.Landing.{landing_at}
-use Rattle.frame_deliveries.specs.Leaving.{Leaving}
+use Rattle.frame_ways.specs.Landing.{landing_at}
+use Rattle.frame_ways.specs.Leaving.{Leaving}
 use Rattle.frame_ways.specs.Ways.{landings_on}
 use Rattle.frame_ways.specs.declared.way.Way.{Way}
-use Rattle.measured_traffic.specs.Doings.{with_frames}
-use Rattle.measured_traffic.specs.Replayed.{landings_for, made_at, results_at, traffic_of}
-use Rattle.document_delays.specs.Settings.{compensation_of}
+use Rattle.document_traffic.specs.Doings.{with_frames}
+use Rattle.document_traffic.specs.Replayed.{landings_for, made_at, results_at, traffic_of}
+use Rattle.document_traffic.specs.Settings.{compensation_of}
 use Rattle.document_traffic.specs.Laws.{IsReplayable}
 use Rattle.fh_document.specs.declared.document.Document.{Document}
 use Rattle.replay_laws.specs.Events.{arrivals_at}

@@ -15,7 +15,7 @@ use Rattle.delay_laws.proofs.Keeping.{IsKept, Keeps, all_kept}
 use Rattle.delay_laws.specs.Nodes.{Heard, time_of}
 use Rattle.delay_laws.specs.Ticks.{Begin, Flight, came_heard}
 use Rattle.delay_measure.specs.declared.message.DelayMessage.{DelayMessage}
-use Rattle.document_delays.specs.Settings.{begin_of, setting_of, ways_of}
+use Rattle.document_traffic.specs.Settings.{begin_of, setting_of, ways_of}
 use Rattle.document_traffic.proofs.AnswerLemmas.{sent_is_handed}
 use Rattle.document_traffic.proofs.CopyLemmas.{delayed_is, of_copies}
 use Rattle.document_traffic.proofs.LandingLemmas.{are_replayed}
@@ -28,11 +28,10 @@ use Rattle.fh_document.specs.Proper.{IsDocument, IsFrom, IsInjection, IsMeasure}
 use Rattle.fh_document.specs.declared.delivered.TrafficClass.TheVariants.{M}
 use Rattle.fh_document.specs.declared.document.Document.{Document}
 use Rattle.fh_document.specs.declared.document.Measure.{Measure}
-use Rattle.fragment_laws.specs.Apart.{IsIn}
-use Rattle.frame_deliveries.proofs.Within.{copies_within}
-use Rattle.frame_deliveries.specs.Copies.{copies_of}
-use Rattle.measured_traffic.specs.Measured.{delay_messages, exchanges, flights_then, others_of}
-use Rattle.measured_traffic.specs.Replayed.{all_leaving, landings_for, leaving_flight, leaving_from, leaving_then}
+use Rattle.frame_ways.proofs.Within.{copies_within}
+use Rattle.frame_ways.specs.Copies.{copies_of}
+use Rattle.document_traffic.specs.Measured.{delay_messages, exchanges, flights_then, others_of}
+use Rattle.document_traffic.specs.Replayed.{all_leaving, landings_for, leaving_flight, leaving_from, leaving_then}
 use Rattle.plan_model.specs.Departures.{departures_of, sending_window, sent_at, start_of_part}
 use Rattle.plan_model.specs.Lines.{planned}
 use Rattle.plan_model.specs.Packs.{Numbered}
@@ -43,8 +42,7 @@ use Rattle.plan_model.specs.declared.lines.PlannedLine.{PlannedLine}
 use Rattle.plan_model.specs.declared.streams.Stream.{Stream}
 use Rattle.replay_laws.proofs.CameLemmas.{calm_adds_nothing, none_yet}
 use Rattle.replay_laws.specs.Moments.{arrivals_before, end_of_time, landing_at}
-use Rattle.schedule_laws.proofs.ListLemmas.{in_all, of_map, of_tick}
-use Rattle.schedule_laws.proofs.SentLemmas.{IsSentStream, message_part, sent_is}
+use Rattle.plan_model.proofs.SentLemmas.{IsSentStream, message_part, sent_is}
 use Rattle.schedule_laws.proofs.SentTimeLemmas.{most_before, part_time}
 use Rattle.unit_model.specs.Meetings.{Arrival}
 use Rattle.unit_model.specs.Proper.{IsAt}
@@ -62,12 +60,14 @@ use Rattle.window_config.specs.Windows.{ticks_of_ns}
 use Rattle.window_config.specs.declared.config.Config.{Config}
 use Rattle.window_config.specs.declared.endpoints.EndpointConfig.{EndpointConfig}
 use Rattle.window_config.specs.declared.plan.PlanLine.{PlanLine}
-use Rattle.plan_model.proofs.ListLemmas.{in_either, of_filter, all_of}
 use Rattle.document_traffic.proofs.TimeLemmas.{from_is}
-use Rattle.measured_traffic.proofs.FlightLemmas.{none_at}
-use Rattle.fh_time.specs.declared.frames.TheConstants.{FRAME}
+use Rattle.document_traffic.proofs.FlightLemmas.{none_at}
+use Rattle.fh_base.specs.declared.frames.TheConstants.{FRAME}
 use Rattle.fh_document.specs.declared.config_lines.TheConstants.{MOST_TRANSIT}
 use Rattle.unit_model.specs.Times.{tick_count}
+use Rattle.fh_base.specs.Members.{IsIn}
+use Rattle.fh_base.proofs.MemberLemmas.{in_either, of_filter, all_of}
+use Rattle.fh_base.proofs.MadeLists.{in_all, of_map, of_tick}
 
 -- ---- the frames of a plan leave later than time 0
 

@@ -7,13 +7,12 @@ use Rattle.document_traffic.proofs.LineLemmas.{lines_fit}
 use Rattle.du_intake.specs.Planned.{IsPlanOf}
 use Rattle.du_intake.proofs.PlanLemmas.{plan_clear}
 use Rattle.fh_document.specs.declared.document.Document.{Document}
-use Rattle.fragment_laws.specs.Apart.{IsIn}
 use Rattle.fronthaul_replay.specs.IntakeTurns.{planned_for}
-use Rattle.measured_traffic.specs.Replayed.{traffic_of}
-use Rattle.measured_traffic.proofs.CountedLemmas.{counters_have_counted}
-use Rattle.measured_traffic.proofs.DelayLemmas.{events_are_exact, events_are_measured}
-use Rattle.measured_traffic.proofs.ExchangedLemmas.{delay_events_are_known}
-use Rattle.measured_traffic.proofs.OnceLemmas.{schedule_radiates, uplink_is_taken_in}
+use Rattle.document_traffic.specs.Replayed.{traffic_of}
+use Rattle.document_traffic.proofs.CountedLemmas.{counters_have_counted}
+use Rattle.document_traffic.proofs.DelayLemmas.{events_are_exact, events_are_measured}
+use Rattle.document_traffic.proofs.ExchangedLemmas.{delay_events_are_known}
+use Rattle.document_traffic.proofs.OnceLemmas.{schedule_radiates, uplink_is_taken_in}
 use Rattle.plan_model.specs.Validity.{share_bit, share_cell}
 use Rattle.replay_laws.specs.Moments.{all_arrivals}
 use Rattle.replay_laws.specs.Traffic.{landings_at}
@@ -26,7 +25,7 @@ use Rattle.replay_laws.proofs.RefusedLemmas.{each_refused_changes_nothing}
 use Rattle.replay_laws.proofs.ShownLemmas.{shown_only_in_time}
 use Rattle.replay_laws.proofs.SumLemmas.{sums_add_up}
 use Rattle.replay_laws.proofs.WithoutLemmas.{each_silent_changes_nothing}
-use Rattle.schedule_laws.proofs.ClashLemmas.{IsClear}
+use Rattle.plan_model.proofs.ScheduleClashLemmas.{IsClear}
 use Rattle.unit_model.specs.Claims.{covers}
 use Rattle.unit_model.specs.declared.allocations.Allocation.{Allocation}
 use Rattle.unit_model.specs.declared.cells.Cell.{Cell}
@@ -35,6 +34,7 @@ use Rattle.plan_model.proofs.ClashLemmas.{both_cover, claimed}
 use Rattle.fronthaul_replay.proofs.TurnLemmas.{lands_in_time}
 use Rattle.fronthaul_replay.specs.Laws.{IsSound, TellsResults}
 use Rattle.fronthaul_replay.specs.Replaying.{IsReplayable}
+use Rattle.fh_base.specs.Members.{IsIn}
 
 -- ---- what a plan claims of the uplink
 

@@ -6,14 +6,14 @@ use Rattle.std.specs.Ordering.{int_eq}
 use Rattle.std.proofs.lemmas.Bool.Decides.{Decides-int_eq}
 use Rattle.std.proofs.lemmas.List.Elements.{All-append, All-filter, All-map, All-nil, All-weaker, filter_passes}
 use Rattle.std.specs.Int.Signed.{≤ℤ_refl}
-use Rattle.fh_time.proofs.Orders.{at_most}
-use Rattle.frame_deliveries.specs.Leaving.{Leaving}
+use Rattle.fh_base.proofs.Orders.{at_most}
+use Rattle.frame_ways.specs.Leaving.{Leaving}
 use Rattle.frame_ways.proofs.Ticks.{next_is_later}
 use Rattle.delay_laws.specs.Ticks.{Flight}
-use Rattle.measured_traffic.specs.Measured.{flights_then}
-use Rattle.measured_traffic.specs.Replayed.{leaving_flight, leaving_from, leaving_then}
+use Rattle.document_traffic.specs.Measured.{flights_then}
+use Rattle.document_traffic.specs.Replayed.{leaving_flight, leaving_from, leaving_then}
 use Rattle.replay_laws.specs.Moments.{end_of_time}
-use Rattle.unit_model.specs.Lists.{each_tick}
+use Rattle.fh_base.specs.Lists.{each_tick}
 use Rattle.fronthaul_replay.specs.Waiting.{LandsAfter}
 
 ticks_all : {A : Type 0} (P : A → Type 0) (now from : ℤ) (n : ℕ) (g : ℤ → List A) → now ≤ℤ from → ((t : ℤ) → now ≤ℤ t → All P (g t)) → All P (each_tick from n g)

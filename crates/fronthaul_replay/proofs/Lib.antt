@@ -7,7 +7,6 @@ pub mod LawLemmas
 pub mod Counted
 pub mod Cuts
 pub mod Written
-pub mod CauseLemmas
 pub mod OrderLemmas
 pub mod LeavingLemmas
 pub mod WayLemmas

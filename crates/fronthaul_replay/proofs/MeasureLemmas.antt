@@ -5,12 +5,12 @@ use Rattle.std.proofs.lemmas.Int.{ints}
 use Rattle.air_source.specs.Units.{same_side}
 use Rattle.air_source.specs.declared.events.Side.{Side}
 use Rattle.air_source.specs.declared.events.Side.TheVariants.{Ru, Du}
-use Rattle.measured_traffic.proofs.TurnLemmas.{doings_begin, doings_go_on, doings_wait}
-use Rattle.measured_traffic.specs.Doings.{Doings, nothing, taken}
-use Rattle.measured_traffic.specs.Replayed.{begins_at, doings_at, made_at}
-use Rattle.measured_traffic.specs.Turns.{IsQuietBetween}
+use Rattle.document_traffic.proofs.TurnLemmas.{doings_begin, doings_go_on, doings_wait}
+use Rattle.document_traffic.specs.Doings.{Doings, nothing, taken}
+use Rattle.document_traffic.specs.Replayed.{begins_at, doings_at, made_at}
+use Rattle.document_traffic.specs.Turns.{IsQuietBetween}
 use Rattle.delay_laws.specs.Ticks.{Begin}
-use Rattle.document_delays.specs.Settings.{compensation_of}
+use Rattle.document_traffic.specs.Settings.{compensation_of}
 use Rattle.fh_document.specs.declared.document.Document.{Document}
 use Rattle.unit_laws.proofs.HistoryTicks.{last_before}
 use Rattle.unit_model.specs.Radiated.{first_clock}

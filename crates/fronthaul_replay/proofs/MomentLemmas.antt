@@ -3,14 +3,14 @@ use Rattle.std.proofs.Common.{ℤ, pos, ◌-ℤ◌, ◌<ℤ◌}
 use Rattle.air_source.specs.declared.events.Side.TheVariants.{Ru as AtRu}
 use Rattle.document_traffic.specs.Laws.{IsReplayable}
 use Rattle.fh_document.specs.declared.document.Document.{Document}
-use Rattle.measured_traffic.specs.Replayed.{landings_for, traffic_of}
+use Rattle.document_traffic.specs.Replayed.{landings_for, traffic_of}
 use Rattle.replay_laws.specs.Passing.{IsCalm, IsNextMoment, IsUnitMoment}
 use Rattle.ru_buffers.specs.Calls.{IsQuietTo}
 use Rattle.ru_buffers.specs.declared.unit.Ru.{Ru}
 use Rattle.unit_laws.proofs.HistoryTicks.{last_before}
 use Rattle.fronthaul_replay.specs.BoxTurns.{AtRadioTurn}
 use Rattle.fronthaul_replay.proofs.TurnLemmas.{quiet_less, skip, unit_moment}
-use Rattle.fh_time.proofs.Orders.{at_most}
+use Rattle.fh_base.proofs.Orders.{at_most}
 
 -- ---- before the next moment
 

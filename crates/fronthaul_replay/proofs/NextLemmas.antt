@@ -14,7 +14,7 @@ use Rattle.du_intake.specs.Calls.{IsIntakeDue}
 use Rattle.du_intake.specs.Units.{intake_due_of as intake_due}
 use Rattle.du_intake.specs.declared.unit.Intake.{Intake}
 use Rattle.fh_document.specs.declared.document.Document.{Document}
-use Rattle.fh_time.specs.declared.values.Ticks.{Ticks}
+use Rattle.fh_base.specs.declared.values.Ticks.{Ticks}
 use Rattle.frame_ways.proofs.TimeLemmas.{earlier_of_both}
 use Rattle.fronthaul_replay.specs.Up.{NoneComesUp}
 use Rattle.fronthaul_replay.specs.IntakeTurns.{planned_for}
@@ -23,29 +23,29 @@ use Rattle.fronthaul_replay.specs.Measuring.{begins_for}
 use Rattle.unit_meters.specs.Begins.{NoneBeginsTo}
 use Rattle.unit_meters.specs.declared.meters.Meters.{Meters}
 use Rattle.fronthaul_replay.proofs.MeasureLemmas.{measures_wait, none_begins}
-use Rattle.measured_traffic.specs.Replayed.{traffic_of}
-use Rattle.measured_traffic.specs.Turns.{IsQuietBetween}
+use Rattle.document_traffic.specs.Replayed.{traffic_of}
+use Rattle.document_traffic.specs.Turns.{IsQuietBetween}
 use Rattle.fronthaul_replay.specs.Down.{NoneComesDown}
 use Rattle.fronthaul_replay.specs.BoxTurns.{events_before}
 use Rattle.frame_sending.proofs.OrderLemmas.{sent_less}
 use Rattle.plan_model.specs.Sent.{SentFrame}
 use Rattle.air_source.specs.declared.links.LinkFrame.{LinkFrame}
-use Rattle.frame_deliveries.specs.Leaving.{Leaving}
+use Rattle.frame_ways.specs.Leaving.{Leaving}
 use Rattle.fronthaul_replay.proofs.MomentLemmas as radio
 use Rattle.replay_laws.specs.Events.{events_at}
 use Rattle.replay_laws.specs.Moments.{end_of_time}
 use Rattle.replay_laws.specs.Passing.{IsNextMoment, IsUnitMoment}
 use Rattle.replay_laws.proofs.EventLemmas.{events_go_on, events_wait}
 use Rattle.ru_buffers.specs.Calls.{IsDue, IsQuietTo}
-use Rattle.fh_time.specs.Least.{IsLeast, IsLeastOf, earlier_time}
+use Rattle.fh_base.specs.Least.{IsLeast, IsLeastOf, earlier_time}
 use Rattle.ru_buffers.specs.declared.unit.Ru.{Ru}
-use Rattle.unit_model.proofs.SweepLaws.{gap_is}
 use Rattle.unit_model.specs.Radiated.{first_clock}
 use Rattle.unit_model.specs.Standing.{History}
 use Rattle.unit_laws.proofs.HistoryTicks.{before_next, next_after}
 use Rattle.fronthaul_replay.specs.declared.coming.Coming.{Coming}
 use Rattle.fronthaul_replay.specs.Turns.{AtMoment, IsNextTick, IsStill, within_end}
-use Rattle.fh_time.proofs.Orders.{under, not_under, next_later as next_most, before_it}
+use Rattle.fh_base.proofs.Orders.{under, not_under, next_later as next_most, before_it}
+use Rattle.fh_base.proofs.EachLemmas.{gap_is}
 
 -- ---- the next moment
 

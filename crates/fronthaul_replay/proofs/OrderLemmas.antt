@@ -1,26 +1,20 @@
 -- The frames that a plan has still to send: each at its time, none before the first of them.
 use Rattle.std.proofs.Common.{ℤ, pos, ◌+ℤ◌, ◌≤ℤ◌, ◌<ℤ◌, ◌≡◌, ◌<◌, ◌^◌, List, [], ◌∷◌, Option, Some, None, length, sym, subst, arith}
-use Rattle.std.specs.Prelude.{map, filter}
-use Rattle.std.specs.Int.{int_gap}
-use Rattle.std.specs.Ordering.{int_eq}
+use Rattle.std.specs.Prelude.{map}
 use Rattle.std.proofs.lemmas.Int.{ints}
 use Rattle.std.proofs.lemmas.List.Elements.{All-cons, All-head, All-nil}
 use Rattle.std.proofs.lemmas.Option.{same_Some}
 use Rattle.air_source.specs.declared.events.Side.TheVariants.{Ru as AtRu}
-use Rattle.fh_time.specs.Least.{IsLeastOf}
-use Rattle.fh_time.specs.declared.values.Ticks.{Ticks}
-use Rattle.frame_deliveries.specs.Leaving.{Leaving}
+use Rattle.fh_base.specs.Least.{IsLeastOf}
+use Rattle.fh_base.specs.declared.values.Ticks.{Ticks}
+use Rattle.frame_ways.specs.Leaving.{Leaving}
 use Rattle.frame_sending.specs.Due.{AreSentFrom, AreShort, leaving_by}
 use Rattle.du_scheduler.specs.Plans.{HasToSend}
 use Rattle.du_scheduler.specs.declared.plans.Plan.{Plan}
-use Rattle.fragment_laws.specs.Apart.{IsIn}
-use Rattle.frame_order.specs.Queues.{first_time}
-use Rattle.plan_model.proofs.ListLemmas.{all_of, in_right, of_filter}
-use Rattle.plan_model.specs.Lines.{planned}
-use Rattle.plan_model.specs.Sent.{SentFrame, frames_from, sent}
-use Rattle.schedule_laws.proofs.ListLemmas.{in_all, in_map, of_tick}
+use Rattle.du_scheduler.specs.Queues.{first_time}
+use Rattle.plan_model.specs.Sent.{SentFrame}
 use Rattle.schedule_laws.proofs.SentTimeLemmas.{IsInTime, all_in_time}
-use Rattle.frame_order.specs.Runs.{turn_of}
+use Rattle.du_scheduler.specs.Runs.{turn_of}
 use Rattle.document_traffic.proofs.ShortLemmas.{are_short}
 use Rattle.document_traffic.specs.Landing.{leaving_to}
 use Rattle.document_traffic.specs.Laws.{IsReplayable}
@@ -29,25 +23,16 @@ use Rattle.fh_document.specs.declared.document.Document.{Document}
 use Rattle.unit_laws.proofs.HistoryTicks.{next_after}
 use Rattle.air_source.specs.Tones.{tone_of}
 use Rattle.unit_model.specs.Radiated.{first_clock}
-use Rattle.unit_model.specs.Times.{end_of_time}
 use Rattle.window_config.specs.declared.config.Config.{Config}
 use Rattle.window_config.specs.declared.plan.PlanLine.{PlanLine}
-use Rattle.frame_sending.proofs.OrderLemmas.{first_is_least, sent_less}
+use Rattle.frame_sending.proofs.OrderLemmas.{first_is_least, sent_less, in_frames, is_sent}
+use Rattle.fh_base.proofs.MemberLemmas.{all_of}
+use Rattle.fh_base.proofs.MadeLists.{in_all, in_map}
 
 -- ---- each is sent at a time that is gone over
 
-in_frames : (c : Config) (lines : List PlanLine) (f : SentFrame) → IsIn f (sent c (planned c.endpoints lines)) → IsIn f (frames_from c (planned c.endpoints lines) 0 c.endpoints)
-unfolding sent
-in_frames c lines f m =
-    let all = frames_from c (planned c.endpoints lines) 0 c.endpoints in
-    let w = of_tick f first_clock (int_gap first_clock (end_of_time +ℤ pos 1)) (λ (t : ℤ). filter (λ (g : SentFrame). int_eq g.at t) all) m in
-    (of_filter (λ (g : SentFrame). int_eq g.at w.0) f all w.1).0
-
 begun_time : (t : ℤ) → IsInTime t → first_clock ≤ℤ t
 begun_time t h = h.0
-
-is_sent : (c : Config) (lines : List PlanLine) (p : Plan) (f : SentFrame) (left : List SentFrame) → HasToSend c lines left p → IsIn f left → IsIn f (sent c (planned c.endpoints lines))
-is_sent c lines p f left h m = subst (λ (fs : List SentFrame). IsIn f fs) (sym h.all) (in_right f h.given left m)
 
 pub all_begun : (d : Document) (p : Plan) (left : List SentFrame) → HasToSend d.config d.plan left p → AreSentFrom first_clock left
 all_begun d p left h =

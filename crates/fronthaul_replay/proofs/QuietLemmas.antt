@@ -6,16 +6,16 @@ use Rattle.std.proofs.lemmas.Int.{ints}
 use Rattle.std.proofs.lemmas.List.Elements.{All-weaker}
 use Rattle.std.specs.Int.Signed.{<ℤ-≤ℤ_trans, clash_ℤ}
 use Rattle.air_source.specs.declared.events.Side.{Side}
-use Rattle.fh_time.proofs.Orders.{weak, at_most}
-use Rattle.frame_deliveries.specs.Landing.{landing_at}
-use Rattle.frame_deliveries.specs.Leaving.{Leaving}
+use Rattle.fh_base.proofs.Orders.{weak, at_most}
+use Rattle.frame_ways.specs.Landing.{landing_at}
+use Rattle.frame_ways.specs.Leaving.{Leaving}
 use Rattle.frame_ways.specs.Ways.{IsCalmTo, landings_on}
 use Rattle.frame_ways.specs.declared.way.Way.{Way}
 use Rattle.frame_ways.proofs.Ticks.{next_after}
-use Rattle.measured_traffic.proofs.LeaveLemmas.{leaving_waits}
-use Rattle.measured_traffic.specs.Measured.{exchanges}
-use Rattle.measured_traffic.specs.Replayed.{begins_at, landings_for, leaving_with}
-use Rattle.measured_traffic.specs.Turns.{FlightsWait, IsQuietBetween}
+use Rattle.document_traffic.proofs.LeaveLemmas.{leaving_waits}
+use Rattle.document_traffic.specs.Measured.{exchanges}
+use Rattle.document_traffic.specs.Replayed.{begins_at, landings_for, leaving_with}
+use Rattle.document_traffic.specs.Turns.{FlightsWait, IsQuietBetween}
 use Rattle.document_traffic.specs.Laws.{IsReplayable}
 use Rattle.fh_document.specs.declared.document.Document.{Document}
 use Rattle.replay_laws.proofs.TickLemmas.{between}

@@ -1,7 +1,7 @@
 -- The radio unit at the start of its moment, and once its cells were reported.
 use Rattle.std.proofs.Common.{◌≡◌, ℤ, pos, ◌-ℤ◌, ◌≤ℤ◌, ◌^◌, List, [], ap, ◌∙◌, arith}
 use Rattle.std.proofs.lemmas.Int.{ints}
-use Rattle.fh_time.specs.declared.values.Ticks.{Ticks}
+use Rattle.fh_base.specs.declared.values.Ticks.{Ticks}
 use Rattle.fh_document.specs.declared.document.Document.{Document}
 use Rattle.replay_laws.specs.Moments.{end_of_time}
 use Rattle.unit_laws.proofs.HistoryTicks.{last_order}
@@ -17,8 +17,8 @@ use Rattle.ru_buffers.specs.Calls.{RadioMayTake, HasGivenPast, StandsFor, radio_
 use Rattle.fronthaul_replay.specs.IntakeTurns.{AtIntakeTurn, planned_for}
 use Rattle.fronthaul_replay.specs.BoxTurns.{AtRadioTurn}
 use Rattle.ru_buffers.specs.declared.unit.Ru.{Ru}
-use Rattle.radio_laws.proofs.QuietLemmas.{left_less}
-use Rattle.radio_laws.specs.Reporting.{due_of}
+use Rattle.ru_buffers.proofs.QuietLemmas.{left_less}
+use Rattle.ru_buffers.specs.Reporting.{due_of}
 
 pub is_ready : (d : Document) (tick : ℤ) (u : Ru) → AtRadioTurn d tick u → HasGivenPast u
 is_ready d tick u a =

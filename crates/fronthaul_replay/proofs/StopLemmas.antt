@@ -7,7 +7,7 @@ use Rattle.du_intake.specs.Calls.{IntakeStandsFor}
 use Rattle.du_intake.specs.declared.unit.Intake.{Intake}
 use Rattle.fh_document.specs.declared.document.Document.{Document}
 use Rattle.fronthaul_replay.specs.IntakeTurns.{AtIntakeTurn, IsIntakeInStep, planned_for}
-use Rattle.measured_traffic.specs.Replayed.{traffic_of}
+use Rattle.document_traffic.specs.Replayed.{traffic_of}
 use Rattle.unit_moments.specs.Stops.{HaltsBehind, RestsBehind, StopsBehind}
 use Rattle.fronthaul_replay.specs.BoxTurns.{IsRadioInStep, events_before, intake_events, radio_events}
 use Rattle.fronthaul_replay.proofs.BoxSteps.{tick_events}
@@ -15,7 +15,7 @@ use Rattle.unit_moments.proofs.StopLemmas as stop
 use Rattle.replay_laws.specs.Events.{count_events, events, events_at, events_between}
 use Rattle.replay_laws.specs.Moments.{end_of_time}
 use Rattle.replay_laws.proofs.EventLemmas.{events_go_on}
-use Rattle.unit_laws.proofs.HeardLemmas.{arrivals-none, cells-none}
+use Rattle.unit_laws.proofs.HeardLemmas.{cells-none}
 use Rattle.replay_laws.proofs.TickLemmas.{ticks_append}
 use Rattle.ru_buffers.specs.Calls.{StandsFor}
 use Rattle.ru_buffers.specs.declared.unit.Ru.{Ru}
@@ -24,7 +24,8 @@ use Rattle.unit_model.specs.Standing.{nothing_yet}
 use Rattle.fronthaul_replay.specs.Replaying.{HaltsInStep, RestsInStep, StopsInStep, events_of}
 use Rattle.fronthaul_replay.specs.Turns.{AtTurn}
 use Rattle.fronthaul_replay.proofs.StepLemmas.{InStep, intake_in_step, radio_in_step, turn_in_step}
-use Rattle.fh_time.proofs.Orders.{next_later as next_most, next_order}
+use Rattle.fh_base.proofs.Orders.{next_later as next_most, next_order}
+use Rattle.unit_model.proofs.ArrivalLemmas.{arrivals-none}
 
 -- the events from a tick on
 ticks_after : (d : Document) (tick : ℤ) → first_clock ≤ℤ tick → tick ≤ℤ end_of_time

@@ -9,30 +9,29 @@ use Rattle.air_source.specs.declared.events.Side.{Side}
 use Rattle.air_source.specs.declared.events.Side.TheVariants.{Ru as AtRu, Du as AtDu}
 use Rattle.document_traffic.specs.Laws.{IsReplayable}
 use Rattle.fh_document.specs.declared.document.Document.{Document}
-use Rattle.measured_traffic.proofs.ReplayedLemmas.{landings_are_replayed}
-use Rattle.measured_traffic.specs.Replayed.{landings_for, results_at, traffic_of}
+use Rattle.document_traffic.proofs.ReplayedLemmas.{landings_are_replayed}
+use Rattle.document_traffic.specs.Replayed.{landings_for, results_at, traffic_of}
 use Rattle.replay_laws.proofs.CameLemmas.{arrivals_go_on, calm_adds_nothing, none_yet}
 use Rattle.replay_laws.proofs.EventLemmas.{events_wait}
-use Rattle.unit_laws.proofs.HeardLemmas.{AreOf, tick_of_side, arrivals-append, arrivals-cells, arrivals-none, arrivals-own, cells-append, cells-arrivals, cells-none, cells-own}
+use Rattle.unit_laws.proofs.HeardLemmas.{AreOf, cells-append, cells-arrivals, cells-none, cells-own}
 use Rattle.replay_laws.proofs.MomentLemmas.{due_at_moment, reported_at_moment, reported_before_moment}
 use Rattle.replay_laws.proofs.TickLemmas.{no_ticks}
 use Rattle.unit_model.proofs.ToldLemmas.{Results}
-use Rattle.replay_laws.specs.Events.{arrivals_at, cells_reported_at, events_at, start_of}
+use Rattle.replay_laws.specs.Events.{arrivals_at, cells_reported_at, events_at}
 use Rattle.unit_model.specs.Events.{arrivals_told}
 use Rattle.unit_model.specs.Heard.{arrivals_heard, cells_heard}
-use Rattle.replay_laws.specs.Moments.{all_arrivals, arrivals_before, end_of_time, landing_at}
+use Rattle.replay_laws.specs.Moments.{arrivals_before, end_of_time, landing_at}
 use Rattle.replay_laws.specs.Passing.{AreLandings, IsCalm, IsNextMoment, IsUnitMoment, due_from}
 use Rattle.replay_laws.specs.Traffic.{known_at, landings_at}
-use Rattle.unit_laws.proofs.DueLemmas.{all_is_due, due_in_pieces}
-use Rattle.radio_laws.proofs.QuietLemmas.{left_less, sweep_less}
+use Rattle.ru_buffers.proofs.QuietLemmas.{left_less, sweep_less}
 use Rattle.ru_buffers.specs.Calls.{IsQuietTo, StandsFor}
-use Rattle.radio_laws.specs.Reporting.{due_of}
-use Rattle.radio_laws.specs.Units.{left_up_to}
+use Rattle.ru_buffers.specs.Reporting.{due_of}
+use Rattle.ru_buffers.specs.Units.{left_up_to}
 use Rattle.ru_buffers.specs.declared.unit.Ru.{Ru}
 use Rattle.unit_symbols.specs.declared.cursor.JobCursor.{JobCursor}
 use Rattle.unit_cells.specs.Cells.{CellsValue}
 use Rattle.unit_model.proofs.SweepLaws.{sweep_quiet}
-use Rattle.unit_model.specs.Lists.{onto}
+use Rattle.fh_base.specs.Lists.{onto}
 use Rattle.unit_model.specs.Meetings.{Arrival}
 use Rattle.unit_model.specs.Radiated.{Known, first_clock, reported, wait_of}
 use Rattle.unit_model.specs.Reports.{ru_known}
@@ -41,20 +40,16 @@ use Rattle.uplink_laws.proofs.GivenLemmas.{owes_none}
 use Rattle.uplink_laws.proofs.TurnJobs.{no_jobs_before}
 use Rattle.uplink_laws.specs.Given.{HasSeen}
 use Rattle.uplink_laws.specs.Turns.{jobs_until}
-use Rattle.window_config.specs.Configs.{IsConfig}
 use Rattle.window_config.specs.declared.config.Config.{Config}
 use Rattle.window_config.specs.declared.delays.Delays.{Delays}
 use Rattle.window_config.specs.declared.endpoints.EndpointConfig.{EndpointConfig}
 use Rattle.unit_laws.proofs.HistoryTicks.{last_is_earlier, last_reached, clock_begins}
 use Rattle.fronthaul_replay.specs.BoxTurns.{AtRadioTurn, HasRadioLanded, IsRadioLanded, IsRadioTurn, events_before, radio_events}
 use Rattle.unit_moments.specs.Landing.{clock_behind, landed}
-use Rattle.fh_time.proofs.Orders.{at_most, before_it, up_to}
-
--- a unit's cells of a tick are its own
-pub cells_own : (side : Side) (d : Document) (tick : ℤ) → AreOf side (cells_reported_at side d.config (traffic_of d) tick)
-cells_own side d tick =
-    let t = traffic_of d in
-    tick_of_side side (known_at side d.config t.planned (all_arrivals (landings_at side t))) d.config.endpoints (start_of side d.config.delays tick)
+use Rattle.fh_base.proofs.Orders.{at_most, before_it, up_to}
+use Rattle.unit_model.proofs.ArrivalLemmas.{arrivals-append, arrivals-cells, arrivals-none, arrivals-own}
+use Rattle.fronthaul_replay.proofs.BoxSteps.{cells_own}
+use Rattle.replay_laws.proofs.EndLemmas.{no_cell_after_all as told_not_due}
 
 -- ---- what is quiet up to a time is quiet up to each earlier one
 
@@ -115,12 +110,6 @@ skip d now tick h doc turn next quiet =
     }
 
 -- ---- the moment itself
-
--- what was reported up to a time is due no more
-told_not_due : (side : Side) (c : Config) (k : Known) (to : ℤ) → IsConfig c → due side c.delays c.endpoints k (reported side c.delays c.endpoints k to) to ≡ []
-told_not_due side c k to config =
-    let told = reported side c.delays c.endpoints k to in
-    due_in_pieces side c.delays c.endpoints k [] told [] to config.endpoints.differ (all_is_due side c.delays c.endpoints k to ∙ sym (append-nil told))
 
 pub lands_in_time : (side : Side) (d : Document) → IsReplayable d → AreLandings (landings_at side (traffic_of d))
 lands_in_time AtRu d doc = landings_are_replayed d AtRu doc

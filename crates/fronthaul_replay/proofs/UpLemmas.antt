@@ -8,26 +8,23 @@ use Rattle.air_source.specs.declared.events.Side.TheVariants.{Ru, Du}
 use Rattle.air_source.specs.declared.links.LinkFrame.{LinkFrame}
 use Rattle.air_source.specs.declared.places.RePlace.{RePlace}
 use Rattle.bfp_codec.specs.declared.samples.Wide.{Wide}
-use Rattle.fh_time.proofs.Orders.{beyond_next, next_later, next_order}
-use Rattle.frame_deliveries.specs.Leaving.{Leaving}
+use Rattle.fh_base.proofs.Orders.{beyond_next, next_later, next_order}
+use Rattle.frame_ways.specs.Leaving.{Leaving}
 use Rattle.frame_sending.specs.Releasing.{HasReleased, IsShort}
 use Rattle.frame_ways.specs.Ways.{StandsFor, having_sent_all}
 use Rattle.frame_ways.specs.declared.way.Way.{Way}
-use Rattle.measured_traffic.proofs.LeaveLemmas.{measured_leave}
-use Rattle.measured_traffic.proofs.SentLemmas.{messages_are_owed}
-use Rattle.measured_traffic.proofs.TurnLemmas.{made_leave}
-use Rattle.measured_traffic.specs.Measured.{exchanges}
-use Rattle.measured_traffic.specs.Replayed.{landings_for, leaving_made, leaving_with, made_at}
+use Rattle.document_traffic.proofs.LeaveLemmas.{measured_leave}
+use Rattle.document_traffic.proofs.SentLemmas.{messages_are_owed}
+use Rattle.document_traffic.proofs.TurnLemmas.{made_leave}
+use Rattle.document_traffic.specs.Measured.{exchanges}
+use Rattle.document_traffic.specs.Replayed.{landings_for, leaving_made, leaving_with, made_at}
 use Rattle.document_traffic.proofs.AnswerLemmas.{handed_is_sent}
 use Rattle.document_traffic.proofs.ShortLemmas.{are_short}
 use Rattle.document_traffic.specs.Landing.{antenna_for, handed_for, leaving_answer, leaving_up}
 use Rattle.document_traffic.specs.Laws.{IsReplayable}
 use Rattle.fh_document.specs.declared.document.Document.{Document}
-use Rattle.plan_model.proofs.ListLemmas.{all_of, in_filter, in_left, of_filter}
-use Rattle.fragment_laws.specs.Apart.{IsIn}
 use Rattle.replay_laws.specs.Moments.{end_of_time}
 use Rattle.unit_laws.proofs.HistoryTicks.{last_of_next}
-use Rattle.schedule_laws.proofs.ListLemmas.{in_all, of_each}
 use Rattle.unit_model.specs.Radiated.{first_clock}
 use Rattle.unit_model.specs.declared.jobs.UplinkJob.{UplinkJob}
 use Rattle.uplink_laws.specs.Premise.{frames_of}
@@ -36,7 +33,7 @@ use Rattle.uplink_model.specs.Sent.{frames_leaving, leaves_at, leaving_at}
 use Rattle.uplink_laws.proofs.HandedLemmas.{handed_go_on_from}
 use Rattle.uplink_laws.proofs.LeavingLemmas.{left_goes_on, left_leave_later}
 use Rattle.uplink_laws.specs.Turns.{handed_between, handed_until}
-use Rattle.frame_network.specs.SendQueues.{WaitsFor}
+use Rattle.frame_ways.specs.SendQueues.{WaitsFor}
 use Rattle.unit_moments.specs.Made.{made_as}
 use Rattle.uplink_path.specs.declared.uplink.Uplink.{Uplink}
 use Rattle.du_intake.specs.declared.unit.Intake.{Intake}
@@ -47,6 +44,9 @@ use Rattle.fronthaul_replay.specs.Waiting.{LandsAfter, Waits, on_way}
 use Rattle.fronthaul_replay.proofs.DownLemmas.{first_all}
 use Rattle.fronthaul_replay.proofs.LeavingLemmas.{leaving_lands_after}
 use Rattle.fronthaul_replay.proofs.WayLemmas.{all_go_out}
+use Rattle.fh_base.specs.Members.{IsIn}
+use Rattle.fh_base.proofs.MemberLemmas.{all_of, in_filter, in_left, of_filter}
+use Rattle.fh_base.proofs.MadeLists.{in_all, of_each}
 
 pub is_due : (d : Document) (tick : ℤ) (u : Intake) → IsReplayable d → AtIntakeTurn d tick u → tick ≤ℤ end_of_time → IsDueAt d tick
 is_due d tick u doc a ended = record { replayable = doc; begun = a.turn.begun; ended = ended }

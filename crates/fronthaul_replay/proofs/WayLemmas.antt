@@ -6,9 +6,9 @@ use Rattle.std.proofs.lemmas.Int.{ints}
 use Rattle.std.proofs.lemmas.Bool.Decides.{Decides-int_eq}
 use Rattle.std.proofs.lemmas.List.Elements.{All-head, All-tail}
 use Rattle.air_source.specs.declared.events.Side.{Side}
-use Rattle.fh_time.proofs.Orders.{next_order}
-use Rattle.frame_deliveries.specs.Landing.{copies_among, copies_in, injected_to, landing_at, landing_with}
-use Rattle.frame_deliveries.specs.Leaving.{Delayed, Leaving, SentCounts, counted, counted_all, delayed, delayed_behind, none_sent}
+use Rattle.fh_base.proofs.Orders.{next_order}
+use Rattle.frame_ways.specs.Landing.{copies_among, copies_in, injected_to, landing_at, landing_with}
+use Rattle.frame_ways.specs.Leaving.{Delayed, Leaving, SentCounts, counted, counted_all, delayed, delayed_behind, none_sent}
 use Rattle.frame_ways.specs.Ways.{IsCalmTo, LandsFrom, StandsFor, document_of, having_sent_all, landings_on, nothing_sent}
 use Rattle.frame_ways.specs.declared.way.Way.{Way}
 use Rattle.frame_ways.proofs.ComingLemmas.{all_come}
@@ -16,7 +16,7 @@ use Rattle.frame_ways.proofs.FlightLemmas.{landing-append}
 use Rattle.frame_ways.proofs.MoreLemmas.{among-append, behind-append}
 use Rattle.frame_ways.proofs.Ticks.{next_after}
 use Rattle.frame_ways.proofs.TimeLemmas.{stands_until}
-use Rattle.measured_traffic.specs.Replayed.{all_leaving, landings_for}
+use Rattle.document_traffic.specs.Replayed.{all_leaving, landings_for}
 use Rattle.fh_document.specs.Proper.{IsDocument}
 use Rattle.fh_document.specs.declared.document.Document.{Document}
 use Rattle.unit_model.specs.Meetings.{Arrival}

@@ -38,10 +38,6 @@ some_end none = let empty : 4 ≡ 0 = ap length none in omega (arith, empty)
 
 -- ---- a clause of errors
 
-pub at_error : {T E : Type 0} (r : Result T E) (P : Type 0) → P → OnErr r P
-at_error (Ok x) P holds = tt
-at_error (Err e) P holds = holds
-
 -- where an answer is passed on
 pub error_passed : {T U D E : Type 0} (one : Result T D) (two : Result U E) (P : Type 0) → is_ok two ≡ is_ok one → OnErr one P → OnErr two P
 error_passed one (Ok y) P same holds = tt

@@ -3,7 +3,7 @@ use Rattle.std.specs.Prelude.{◌≡◌, ℤ, pos, ◌+ℤ◌, ◌-ℤ◌, ◌�
 use Rattle.air_source.specs.declared.events.Event.{Event}
 use Rattle.air_source.specs.declared.events.Event.TheVariants.{Cell}
 use Rattle.air_source.specs.declared.events.Side.TheVariants.{Ru as AtRu, Du as AtDu}
-use Rattle.measured_traffic.specs.Replayed.{landings_for, traffic_of}
+use Rattle.document_traffic.specs.Replayed.{landings_for, traffic_of}
 use Rattle.fh_document.specs.declared.document.Document.{Document}
 use Rattle.replay_laws.specs.Events.{arrivals_at, cells_reported_at, events_between}
 use Rattle.unit_model.specs.Heard.{arrivals_heard, cells_heard}

@@ -4,11 +4,11 @@ use Rattle.air_source.specs.declared.events.Side.TheVariants.{Ru}
 use Rattle.du_scheduler.specs.Plans.{HasToSend}
 use Rattle.du_scheduler.specs.declared.plans.Plan.{Plan}
 use Rattle.plan_model.specs.Sent.{SentFrame}
-use Rattle.frame_deliveries.specs.Leaving.{Leaving}
+use Rattle.frame_ways.specs.Leaving.{Leaving}
 use Rattle.frame_sending.specs.Due.{AreSentFrom}
 use Rattle.frame_ways.specs.Ways.{IsCalmTo, landings_on}
 use Rattle.frame_ways.specs.declared.way.Way.{Way}
-use Rattle.measured_traffic.specs.Replayed.{leaving_with}
+use Rattle.document_traffic.specs.Replayed.{leaving_with}
 use Rattle.document_traffic.specs.Sending.{leaving_of}
 use Rattle.fh_document.specs.declared.document.Document.{Document}
 use Rattle.fronthaul_replay.specs.Waiting.{Waits, on_way}

@@ -2,7 +2,7 @@
 use Rattle.std.specs.Prelude.{◌≡◌, ℤ, pos, ◌+ℤ◌, ◌-ℤ◌, ◌≤ℤ◌, List, [], ◌++◌}
 use Rattle.air_source.specs.declared.events.Event.{Event}
 use Rattle.air_source.specs.declared.events.Side.TheVariants.{Du as AtDu}
-use Rattle.measured_traffic.specs.Replayed.{landings_for, traffic_of}
+use Rattle.document_traffic.specs.Replayed.{landings_for, traffic_of}
 use Rattle.du_intake.specs.Calls.{IntakeStandsFor, intake_clock}
 use Rattle.du_intake.specs.Units.{intake_due_of}
 use Rattle.du_intake.specs.declared.unit.Intake.{Intake}

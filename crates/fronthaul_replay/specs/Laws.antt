@@ -4,9 +4,9 @@ use Rattle.air_source.specs.declared.events.Event.{Event}
 use Rattle.air_source.specs.declared.events.Side.{Side}
 use Rattle.document_traffic.specs.Undisturbed.{IsTakenInOnce, IsUndisturbed, IsUndisturbedBothWays, RadiatesOnce}
 use Rattle.fh_document.specs.declared.document.Document.{Document}
-use Rattle.measured_traffic.specs.Delays.{DelayIs, InjectsNone, IsOfRequest, IsTimeOfWay}
-use Rattle.measured_traffic.specs.Exchanged.{TellsExchanges}
-use Rattle.measured_traffic.specs.Replayed.{traffic_of}
+use Rattle.document_traffic.specs.Delays.{DelayIs, InjectsNone, IsOfRequest, IsTimeOfWay}
+use Rattle.document_traffic.specs.Exchanged.{TellsExchanges}
+use Rattle.document_traffic.specs.Replayed.{traffic_of}
 use Rattle.unit_model.specs.Events.{arrival_event, result_event}
 use Rattle.replay_laws.specs.Moments.{all_arrivals, end_of_time}
 use Rattle.replay_laws.specs.Traffic.{landings_at}

@@ -1,9 +1,9 @@
 -- How both units' meters stand to a document at a tick (this project's profile).
 use Rattle.std.specs.Prelude.{ℤ, pos, ◌+ℤ◌, List, map}
 use Rattle.air_source.specs.declared.events.Side.TheVariants.{Ru, Du}
-use Rattle.measured_traffic.specs.Replayed.{doings_at}
+use Rattle.document_traffic.specs.Replayed.{doings_at}
 use Rattle.delay_laws.specs.Ticks.{Begin}
-use Rattle.document_delays.specs.Settings.{begin_of, compensation_of}
+use Rattle.document_traffic.specs.Settings.{begin_of, compensation_of}
 use Rattle.fh_document.specs.declared.document.Document.{Document}
 use Rattle.unit_meters.specs.Begins.{MetersStand}
 use Rattle.unit_meters.specs.declared.meters.Meters.{Meters}

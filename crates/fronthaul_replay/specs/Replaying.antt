@@ -3,7 +3,7 @@ use Rattle.std.specs.Prelude.{◌≡◌, ℤ, List, [], ◌∷◌, ◌++◌, ◌
 use Rattle.air_source.specs.declared.events.Event.{Event}
 use Rattle.air_source.specs.declared.events.Side.TheVariants.{Ru as AtRu, Du as AtDu}
 use Rattle.document_traffic.specs.Landing.{jobs_for}
-use Rattle.measured_traffic.specs.Replayed.{landings_for, traffic_of}
+use Rattle.document_traffic.specs.Replayed.{landings_for, traffic_of}
 use Rattle.du_intake.specs.Calls.{IntakeStandsFor}
 use Rattle.du_intake.specs.Units.{intake_due_of as intake_due}
 use Rattle.du_intake.specs.declared.unit.Intake.{Intake}

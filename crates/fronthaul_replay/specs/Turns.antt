@@ -9,9 +9,9 @@ use Rattle.du_intake.specs.Units.{intake_due_of as intake_due}
 use Rattle.du_intake.specs.declared.unit.Intake.{Intake}
 use Rattle.plan_model.specs.Sent.{SentFrame}
 use Rattle.fh_document.specs.declared.document.Document.{Document}
-use Rattle.frame_deliveries.specs.Leaving.{Leaving}
-use Rattle.document_delays.specs.Settings.{compensation_of}
-use Rattle.fh_time.specs.declared.values.Ticks.{Ticks}
+use Rattle.frame_ways.specs.Leaving.{Leaving}
+use Rattle.document_traffic.specs.Settings.{compensation_of}
+use Rattle.fh_base.specs.declared.values.Ticks.{Ticks}
 use Rattle.fronthaul_replay.specs.Down.{HasLandedDown, NoneComesDown, WaitsDown}
 use Rattle.fronthaul_replay.specs.IntakeTurns.{AtIntakeTurn, planned_for}
 use Rattle.fronthaul_replay.specs.Measuring.{HaveBegun, MeasuresWait, begins_for}
@@ -20,7 +20,7 @@ use Rattle.fronthaul_replay.specs.Up.{HasLandedUp, NoneComesUp, WaitsUp}
 use Rattle.unit_meters.specs.Begins.{Awaits, NoneBeginsTo}
 use Rattle.unit_meters.specs.declared.meters.Meters.{Meters}
 use Rattle.delay_exchange.specs.Units.{HasDoings}
-use Rattle.measured_traffic.specs.Replayed.{made_at}
+use Rattle.document_traffic.specs.Replayed.{made_at}
 use Rattle.replay_laws.specs.Moments.{end_of_time}
 use Rattle.ru_buffers.specs.Calls.{IsQuietTo}
 use Rattle.ru_buffers.specs.declared.unit.Ru.{Ru as Unit}

@@ -6,15 +6,15 @@ use Rattle.air_source.specs.declared.events.Side.TheVariants.{Ru, Du}
 use Rattle.air_source.specs.declared.links.LinkFrame.{LinkFrame}
 use Rattle.air_source.specs.declared.places.RePlace.{RePlace}
 use Rattle.bfp_codec.specs.declared.samples.Wide.{Wide}
-use Rattle.frame_deliveries.specs.Leaving.{Leaving}
+use Rattle.frame_ways.specs.Leaving.{Leaving}
 use Rattle.frame_ways.specs.Ways.{IsCalmTo, landings_on}
 use Rattle.frame_ways.specs.declared.way.Way.{Way}
-use Rattle.measured_traffic.specs.Replayed.{landings_for, leaving_with}
+use Rattle.document_traffic.specs.Replayed.{landings_for, leaving_with}
 use Rattle.document_traffic.specs.Landing.{antenna_for, leaving_answer}
 use Rattle.fh_document.specs.declared.document.Document.{Document}
 use Rattle.uplink_laws.specs.Turns.{handed_until, left_from, messages_until}
-use Rattle.frame_network.specs.SendQueues.{IsSilentTo, WaitsFor}
-use Rattle.unit_model.specs.Lists.{onto}
+use Rattle.frame_ways.specs.SendQueues.{IsSilentTo, WaitsFor}
+use Rattle.fh_base.specs.Lists.{onto}
 use Rattle.uplink_path.specs.Emitting.{AreNumbered, kept_antenna}
 use Rattle.uplink_path.specs.declared.uplink.Uplink.{Uplink}
 use Rattle.fronthaul_replay.specs.Waiting.{Waits, on_way}

@@ -2,7 +2,7 @@
 ghost use Rattle.std.specs.Prelude.{IfOk};
 ghost use Rattle.air_source.specs.Answers.{AnswersBy};
 ghost use Rattle.air_source.specs.Kept.{IsKept, closure_of};
-ghost use Rattle.fh_time.specs.Least.{IsLeastOf};
+ghost use Rattle.fh_base.specs.Least.{IsLeastOf};
 ghost use Rattle.document_traffic.specs.Landing.{antenna_for};
 ghost use Rattle.document_traffic.specs.Laws.{IsReplayable};
 ghost use Rattle.unit_model.specs.Radiated.{first_clock};
@@ -10,11 +10,9 @@ ghost use Rattle.fronthaul_replay.specs.Up.{NoneComesUp, WaitsUp};
 
 use air_source::{RePlace, Samples, Side};
 use bfp_codec::Wide;
-use fh_base::NoMemory;
+use fh_base::{NoMemory, Ticks};
 use fh_document::Document;
-use fh_time::Ticks;
-use frame_network::{Outbox, SendQueue};
-use frame_ways::{Way, earlier_of};
+use frame_ways::{Outbox, SendQueue, Way, earlier_of};
 use std::alloc::Global;
 use uplink_path::Uplink;
 

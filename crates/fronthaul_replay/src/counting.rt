@@ -4,7 +4,7 @@ ghost use Rattle.air_source.specs.Causes.{HasAirCause};
 ghost use Rattle.air_source.specs.Stops.{StopsIn};
 ghost use Rattle.delay_exchange.specs.Units.{HasDoings};
 ghost use Rattle.delay_measure.specs.declared.edge.Compensation.{Compensation};
-ghost use Rattle.measured_traffic.specs.Doings.{Doings};
+ghost use Rattle.document_traffic.specs.Doings.{Doings};
 ghost use Rattle.replay_laws.specs.Events.{count_event};
 ghost use Rattle.fronthaul_replay.specs.Counting.{told_counts, told_number};
 

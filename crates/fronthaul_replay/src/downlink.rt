@@ -1,7 +1,7 @@
 // What is to come to the radio unit.
 ghost use Rattle.std.specs.Prelude.{IfOk};
 ghost use Rattle.du_scheduler.specs.Plans.{HasToSend, IsPlan};
-ghost use Rattle.fh_time.specs.Least.{IsLeastOf};
+ghost use Rattle.fh_base.specs.Least.{IsLeastOf};
 ghost use Rattle.document_traffic.specs.Laws.{IsReplayable};
 ghost use Rattle.document_traffic.specs.Sending.{sent_for};
 ghost use Rattle.unit_model.specs.Radiated.{first_clock};
@@ -9,11 +9,9 @@ ghost use Rattle.fronthaul_replay.specs.Down.{NoneComesDown, WaitsDown};
 
 use air_source::Side;
 use du_scheduler::Plan;
-use fh_base::NoMemory;
+use fh_base::{NoMemory, Ticks};
 use fh_document::Document;
-use fh_time::Ticks;
-use frame_network::FramePool;
-use frame_ways::{Way, earlier_of};
+use frame_ways::{FramePool, Way, earlier_of};
 use std::alloc::Global;
 
 /// What the distributed unit sends: the frames that its plan has still to send, and the way to the radio unit, with the memory of frames

@@ -1,6 +1,6 @@
 // Both units' meters.
 ghost use Rattle.std.specs.Prelude.{◌≡◌, IfOk};
-ghost use Rattle.document_delays.specs.Settings.{compensation_of};
+ghost use Rattle.document_traffic.specs.Settings.{compensation_of};
 ghost use Rattle.fh_document.specs.Proper.{IsDocument};
 ghost use Rattle.unit_model.specs.Radiated.{first_clock};
 ghost use Rattle.fronthaul_replay.specs.Measuring.{MeasuresWait};

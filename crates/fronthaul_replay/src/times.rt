@@ -3,7 +3,7 @@ ghost use Rattle.std.specs.Prelude.{◌≡◌, pos, ◌+ℤ◌, ◌≤ℤ◌, in
 ghost use Rattle.replay_laws.specs.Moments.{end_of_time};
 ghost use Rattle.fronthaul_replay.specs.Turns.{within_end};
 
-use fh_time::{END_OF_TIME, Ticks};
+use fh_base::{END_OF_TIME, Ticks};
 
 /// A time, if it is not after the end.
 pub(crate) fn up_to_end(time: Option<Ticks>) -> Option<Ticks>

@@ -3,15 +3,14 @@ use Rattle.std.proofs.Common.{◌≡◌, ℕ, zero, suc, ◌+◌, ◌/◌, ◌%�
 use Rattle.std.specs.List.{AllByRecursion, list_any}
 use Rattle.std.proofs.lemmas.Bool.{and_parts, cases_Bool, eqb-true}
 use Rattle.std.proofs.lemmas.Bool.Decides.{nat_tests}
-use Rattle.fh_time.specs.declared.values.Slot.{Slot}
-use Rattle.fh_time.proofs.Orders.{pos_same}
+use Rattle.fh_base.specs.declared.values.Slot.{Slot}
+use Rattle.fh_base.proofs.Orders.{pos_same}
 use Rattle.window_config.specs.declared.plan.PlanLine.{PlanLine}
 use Rattle.unit_model.specs.Claims.{same_slot, same_way}
 use Rattle.unit_model.specs.Commands.{is_full, is_uplink, uplink_in}
 use Rattle.unit_model.specs.declared.allocations.Allocation.{Allocation}
 use Rattle.unit_model.specs.declared.uplink.TheConstants.{SLOT_SECTIONS}
 use Rattle.unit_model.proofs.ClaimLemmas.{same_slot_is}
-use Rattle.fragment_laws.specs.Apart.{IsIn}
 use Rattle.plan_model.specs.Lines.{line_allocation, planned_at, planned_from}
 use Rattle.plan_model.specs.Streams.{has_part}
 use Rattle.plan_model.specs.Validity.{clash, is_out_of_range, refused_at, refused_from, share_cell, why_claimed, why_found, with_line}
@@ -22,6 +21,7 @@ use Rattle.plan_model.specs.declared.streams.Stream.{Stream}
 use Rattle.generated_laws.specs.Plans.{endpoint, four, line_of, lines_from, slot_of}
 use Rattle.generated_laws.specs.Sparse.{AreAlone}
 use Rattle.generated_laws.proofs.Sparse.{named}
+use Rattle.fh_base.specs.Members.{IsIn}
 
 -- the line of the slot n at the endpoint e, as the k-th
 abbrev pub placed : ℕ → ℕ → ℕ → PlannedLine

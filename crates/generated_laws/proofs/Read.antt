@@ -7,7 +7,7 @@ use Rattle.air_source.specs.declared.tones.Tone.{Tone}
 use Rattle.std.proofs.lemmas.Int.{ints}
 use Rattle.std.proofs.lemmas.List.Elements.{All-cons, All-head, All-nil, All-tail}
 use Rattle.std.proofs.lemmas.List.Folds.{list_all-append}
-use Rattle.fh_time.proofs.Orders.{both_true, if_not, not_none}
+use Rattle.fh_base.proofs.Orders.{both_true, if_not, not_none}
 use Rattle.window_config.specs.declared.plan.PlanLine.{PlanLine}
 use Rattle.fh_document.specs.declared.refusals.DocWhy.{DocWhy}
 use Rattle.fh_document.specs.declared.refusals.DocWhy.TheVariants as why
@@ -28,6 +28,7 @@ use Rattle.generated_laws.specs.Plans.{four, line_of as plan_line_of, lines_from
 use Rattle.generated_laws.specs.Documents.{deliveries_from, delivery_of, numbers_from, GeneratedAreRead}
 use Rattle.generated_laws.proofs.Steps.{AreRising, CanRead, deliveries_read, plans_read}
 use Rattle.generated_laws.proofs.Texts.{all_lines, deliver_line, endpoint_line, opening, plan_line, text_is, tone_line}
+use Rattle.fh_document.proofs.InjectLemmas.{first_read}
 
 -- ---- the lines of the plan
 
@@ -142,10 +143,6 @@ antenna_read seed small =
 endpoints_read : (seed : ℕ) (rest : List (List ℕ)) → read_from 4 (toned seed) (endpoint_line 0 ∷ endpoint_line 1 ∷ endpoint_line 2 ∷ endpoint_line 3 ∷ rest) ≡ read_from 8 (opened seed) rest
 unfolding line_of
 endpoints_read seed rest = refl
-
-first_read : (lines : List (List ℕ)) → read_from 1 start (codes "fronthaul 1" ∷ lines) ≡ read_from 2 start lines
-unfolding line_of
-first_read lines = refl
 
 opening_read : (seed : ℕ) (rest : List (List ℕ)) → seed < 2 ^ 32 → read_from 1 start (opening seed rest) ≡ read_from 8 (opened seed) rest
 opening_read seed rest small =

@@ -2,16 +2,15 @@
 use Rattle.std.proofs.Common.{◌≡◌, ℕ, ℤ, pos, ◌+◌, ◌*◌, ◌/◌, ◌<◌, ◌≤◌, ◌+ℤ◌, ◌*ℤ◌, ◌≤ℤ◌, ◌⊎◌, inl, inr, sym, ap, ◌∙◌, subst, true≢false, arith}
 use Rattle.std.proofs.lemmas.Int.{ints}
 use Rattle.std.proofs.lemmas.Bool.{cases_Bool, cases_eq, cases_lt}
-use Rattle.std.proofs.lemmas.Bool.Decides.{nat_tests}
-use Rattle.fh_time.specs.Air.{air_of, least_slot_of, span_of, AreApart}
-use Rattle.fh_time.specs.Numbering.{IsSlotOf, ordinary_at, symbols_of}
-use Rattle.fh_time.specs.Symbols.{longer_before, normal_start, ticks_of_ts}
-use Rattle.fh_time.specs.declared.frames.TheConstants.{FRAME}
-use Rattle.fh_time.specs.declared.numerology.Numerology.{Numerology}
-use Rattle.fh_time.specs.declared.spacing.Spacing.TheVariants.{Khz30}
-use Rattle.fh_time.specs.declared.symbols.TheConstants.{SUBFRAME}
-use Rattle.fh_time.specs.declared.values.Slot.{Slot}
-use Rattle.fh_time.proofs.Order.{slots_apart, symbol_in_span, symbols_in_order}
+use Rattle.fh_base.specs.Air.{air_of, least_slot_of, span_of, AreApart}
+use Rattle.fh_base.specs.Numbering.{IsSlotOf, ordinary_at, symbols_of}
+use Rattle.fh_base.specs.Symbols.{longer_before, normal_start, ticks_of_ts}
+use Rattle.fh_base.specs.declared.frames.TheConstants.{FRAME}
+use Rattle.fh_base.specs.declared.numerology.Numerology.{Numerology}
+use Rattle.fh_base.specs.declared.spacing.Spacing.TheVariants.{Khz30}
+use Rattle.fh_base.specs.declared.symbols.TheConstants.{SUBFRAME}
+use Rattle.fh_base.specs.declared.values.Slot.{Slot}
+use Rattle.fh_base.proofs.Order.{slots_apart, symbol_in_span, symbols_in_order, longer_order}
 use Rattle.unit_model.specs.Claims.{same_slot}
 use Rattle.unit_model.proofs.ClaimLemmas.{same_slot_is, slot_self}
 use Rattle.generated_laws.specs.Sparse.{IsSpaced}
@@ -52,9 +51,6 @@ module _ (n : Numerology) (least : ℕ) (spaced : IsSpaced n least) where
       ]
 
 -- ---- at 30 kHz
-
-longer_order : (symbol i j : ℕ) → i ≤ j → longer_before symbol i ≤ longer_before symbol j
-longer_order symbol i j o = grind (arith, nat_tests)
 
 start_later : (i j x y p q : ℕ) → i < j → x ≤ y → p ≤ q → ticks_of_ts (i * 2192) / 2 + x + p + 53200000 ≤ ticks_of_ts (j * 2192) / 2 + y + q
 start_later i j x y p q h a b = omega (arith, h, a, b)

@@ -5,21 +5,20 @@ use Rattle.std.specs.Int.{int_gap}
 use Rattle.std.proofs.lemmas.Bool.{and_parts, cases_Bool, eqb-true}
 use Rattle.std.proofs.lemmas.Int.{ints}
 use Rattle.std.proofs.lemmas.List.{drop-drop}
-use Rattle.fh_time.specs.Air.{air_of}
-use Rattle.fh_time.specs.declared.numerology.Numerology.{Numerology}
-use Rattle.fh_time.specs.declared.values.Slot.{Slot}
-use Rattle.fh_time.proofs.Orders.{le_true}
+use Rattle.fh_base.specs.Air.{air_of}
+use Rattle.fh_base.specs.declared.numerology.Numerology.{Numerology}
+use Rattle.fh_base.specs.declared.values.Slot.{Slot}
+use Rattle.fh_base.proofs.Orders.{le_true}
 use Rattle.window_config.specs.declared.config.Config.{Config}
 use Rattle.window_config.specs.declared.endpoints.EndpointConfig.{EndpointConfig}
 use Rattle.unit_model.specs.Claims.{same_slot}
 use Rattle.unit_model.specs.Commands.{is_uplink}
-use Rattle.unit_model.specs.Lists.{AreRelated, in_order, put_in}
+use Rattle.fh_base.specs.Lists.{AreRelated, in_order, put_in}
 use Rattle.unit_model.specs.Radiated.{first_clock}
 use Rattle.unit_model.specs.Terms.{MESSAGE_BYTES}
 use Rattle.unit_model.specs.Times.{end_of_time}
 use Rattle.unit_model.specs.declared.allocations.Allocation.{Allocation}
 use Rattle.unit_model.proofs.ClaimLemmas.{same_slot_is}
-use Rattle.fragment_laws.specs.Apart.{IsIn}
 use Rattle.plan_model.specs.Dense.{dense_from, dense_in, down_distance, first_near, is_near, lesser, sending_of, sendings, up_distance}
 use Rattle.plan_model.specs.Departures.{departures_of, start_of_part}
 use Rattle.plan_model.specs.Lines.{line_allocation}
@@ -30,10 +29,11 @@ use Rattle.plan_model.specs.declared.dense.Sending.{Sending}
 use Rattle.plan_model.specs.declared.lines.PlannedLine.{PlannedLine}
 use Rattle.plan_model.specs.declared.streams.Stream.{Stream}
 use Rattle.plan_model.specs.declared.streams.Stream.TheVariants.{DownCommands, UpCommands, DownData, UpData}
-use Rattle.plan_model.proofs.ListLemmas.{all_map, filter_none}
 use Rattle.generated_laws.specs.Sparse.{AreAlone, HasRoom, IsSpaced, SparsePlansAreNotDense}
 use Rattle.generated_laws.proofs.Rising.{AreSpaced, all_spaced}
 use Rattle.generated_laws.proofs.Told.{IsTold}
+use Rattle.fh_base.specs.Members.{IsIn}
+use Rattle.fh_base.proofs.MemberLemmas.{all_map, filter_none}
 
 -- ---- the part of a symbol
 

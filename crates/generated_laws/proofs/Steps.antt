@@ -4,11 +4,9 @@ use Rattle.std.specs.Prelude.{Ok, Err, All}
 use Rattle.std.proofs.lemmas.Bool.Decides.{nat_tests}
 use Rattle.std.proofs.lemmas.List.{length-append}
 use Rattle.std.proofs.lemmas.List.Elements.{All-head, All-tail}
-use Rattle.fh_time.proofs.Orders.{if_not}
+use Rattle.fh_base.proofs.Orders.{if_not}
 use Rattle.window_config.specs.declared.plan.PlanLine.{PlanLine}
 use Rattle.window_config.specs.declared.plan.TheConstants.{PLAN_LINES}
-use Rattle.fragment_laws.specs.Apart.{IsIn}
-use Rattle.plan_model.proofs.ListLemmas.{in_either}
 use Rattle.fh_document.specs.declared.delivered.Delivery.{Delivery}
 use Rattle.fh_document.specs.declared.refusals.DocWhy.TheVariants as why
 use Rattle.fh_document.specs.Delivered.{class_number, has_like, way_number}
@@ -19,6 +17,8 @@ use Rattle.fh_document.proofs.DeliverLemmas.{deliver_read}
 use Rattle.fh_document.proofs.PlanLemmas.{plan_read}
 use Rattle.generated_laws.specs.Documents.{numbers_from}
 use Rattle.generated_laws.proofs.Texts.{deliver_line, plan_line}
+use Rattle.fh_base.specs.Members.{IsIn}
+use Rattle.fh_base.proofs.MemberLemmas.{in_either}
 
 -- ---- lines of a plan
 

@@ -3,25 +3,20 @@ use Rattle.std.proofs.Common.{◌≡◌, ℕ, ℤ, pos, zero, suc, ◌+◌, ◌<
 use Rattle.std.specs.Ordering.{int_eq}
 use Rattle.std.proofs.lemmas.Bool.Decides.{Decides-int_eq}
 use Rattle.std.proofs.lemmas.Int.{ints}
-use Rattle.fh_time.specs.Air.{air_of, AreApart}
-use Rattle.fh_time.specs.Numbering.{IsSlotOf, slots_of, symbols_of}
-use Rattle.fh_time.specs.declared.numerology.Numerology.{Numerology}
-use Rattle.fh_time.specs.declared.values.Slot.{Slot}
+use Rattle.fh_base.specs.Air.{air_of, AreApart}
+use Rattle.fh_base.specs.Numbering.{IsSlotOf, slots_of, symbols_of}
+use Rattle.fh_base.specs.declared.numerology.Numerology.{Numerology}
+use Rattle.fh_base.specs.declared.values.Slot.{Slot}
 use Rattle.window_config.specs.declared.endpoints.EndpointConfig.{EndpointConfig}
-use Rattle.unit_model.specs.Lists.{each}
+use Rattle.fh_base.specs.Lists.{each}
 use Rattle.unit_model.specs.Sweeps.{first_swept, of_endpoint, of_frame, of_slot, of_subframe, of_symbol, slot_at}
 use Rattle.plan_model.specs.Departures.{start_of_part}
 use Rattle.plan_model.specs.Streams.{Part}
 use Rattle.generated_laws.specs.Sparse.{IsSpaced}
 use Rattle.generated_laws.proofs.Spaced.{apart}
+use Rattle.fh_base.proofs.CommonLemmas.{each_nothing}
 
 -- ---- of lists of which one at most has something
-
-pub each_nothing : {A : Type 0} (from n : ℕ) (f : ℕ → List A) → ((k : ℕ) → from ≤ k → k < from + n → f k ≡ []) → each from n f ≡ []
-unfolding each
-each_nothing from zero f none = refl
-each_nothing from (suc n) f none =
-    ap₂ (λ xs ys. xs ++ ys) (none from (omega arith) (omega arith)) (each_nothing (from + 1) n f (λ k a b. none k (omega (arith, a)) (omega (arith, b))))
 
 -- the one that has something
 pub record OneOf {A : Type 0} (T : ℕ → List A → Type 0) (from n : ℕ) (f : ℕ → List A) : Type 0 where
@@ -92,7 +87,7 @@ never t u v least some a b h = omega (arith, ints, some, a, b, h)
 moved_on : (v w t u : ℤ) (least : ℕ) → v ≡ t → w ≡ u → (v +ℤ pos least) ≤ℤ w → (t +ℤ pos least) ≤ℤ u
 moved_on v w t u least x y h = omega (arith, ints, x, y, h)
 
-first_few : (first : ℤ) (j k : ℕ) → first +ℤ pos j ≡ first +ℤ pos k → j ≡ k
+pub first_few : (first : ℤ) (j k : ℕ) → first +ℤ pos j ≡ first +ℤ pos k → j ≡ k
 first_few first j k h = omega (arith, ints, h)
 
 module _ (g : Slot → ℕ → List Part) (e : EndpointConfig) (least : ℕ) (spaced : IsSpaced e.numerology least) (told : IsTold g e.numerology) where

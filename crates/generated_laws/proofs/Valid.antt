@@ -1,12 +1,11 @@
 -- A generated plan is valid.
 use Rattle.std.proofs.Common.{◌≡◌, ℕ, inl, inr, List, [], Option, refl, ap₂, sym, ap, ◌∙◌, subst, arith}
 use Rattle.std.proofs.lemmas.Int.{ints}
-use Rattle.fh_time.specs.Numbering.{ordinary_at}
-use Rattle.fh_time.specs.declared.numerology.Numerology.{Numerology}
-use Rattle.fh_time.specs.declared.spacing.Spacing.TheVariants.{Khz30}
+use Rattle.fh_base.specs.Numbering.{ordinary_at}
+use Rattle.fh_base.specs.declared.numerology.Numerology.{Numerology}
+use Rattle.fh_base.specs.declared.spacing.Spacing.TheVariants.{Khz30}
 use Rattle.window_config.specs.declared.endpoints.EndpointConfig.{EndpointConfig}
-use Rattle.unit_model.specs.Lists.{or_else}
-use Rattle.fragment_laws.specs.Apart.{IsIn}
+use Rattle.fh_base.specs.Lists.{or_else}
 use Rattle.plan_model.specs.Dense.{dense, down_distance, up_distance}
 use Rattle.plan_model.specs.Valid.{dense_refused}
 use Rattle.plan_model.specs.declared.dense.Dense.{Dense}
@@ -18,6 +17,7 @@ use Rattle.generated_laws.specs.Sparse.{HasRoom, IsSpaced, IsSparse}
 use Rattle.generated_laws.proofs.Lines.{all_alone, none_refused, numerology_is, placed_from, planned_is}
 use Rattle.generated_laws.proofs.Spaced.{khz30_spaced}
 use Rattle.generated_laws.proofs.Sparse.{not_dense}
+use Rattle.fh_base.specs.Members.{IsIn}
 
 one_numerology : (e : EndpointConfig) → IsIn e four → e.numerology ≡ ordinary_at Khz30
 one_numerology e (inl here) = ap (λ (f : EndpointConfig). f.numerology) here

@@ -1,14 +1,13 @@
 -- Plans of which no two lines send data in one symbol of an endpoint and direction: their messages with one sequence id are 256
 -- symbols apart.
 use Rattle.std.specs.Prelude.{◌≡◌, ℕ, ℤ, pos, ◌+◌, ◌*◌, ◌<◌, ◌≤◌, ◌+ℤ◌, ◌≤ℤ◌, ◌<ℤ◌, true, List, None}
-use Rattle.fh_time.specs.Air.{air_of, least_slot_of, span_of}
-use Rattle.fh_time.specs.Numbering.{symbols_of}
-use Rattle.fh_time.specs.declared.numerology.Numerology.{Numerology}
-use Rattle.fh_time.specs.declared.values.Slot.{Slot}
+use Rattle.fh_base.specs.Air.{air_of, least_slot_of, span_of}
+use Rattle.fh_base.specs.Numbering.{symbols_of}
+use Rattle.fh_base.specs.declared.numerology.Numerology.{Numerology}
+use Rattle.fh_base.specs.declared.values.Slot.{Slot}
 use Rattle.window_config.specs.declared.config.Config.{Config}
 use Rattle.window_config.specs.declared.endpoints.EndpointConfig.{EndpointConfig}
-use Rattle.unit_model.specs.Lists.{AreRelated}
-use Rattle.fragment_laws.specs.Apart.{IsIn}
+use Rattle.fh_base.specs.Lists.{AreRelated}
 use Rattle.plan_model.specs.Dense.{dense, down_distance, up_distance}
 use Rattle.plan_model.specs.Departures.{departures_of}
 use Rattle.plan_model.specs.Lines.{line_allocation}
@@ -16,6 +15,7 @@ use Rattle.plan_model.specs.Streams.{has_part}
 use Rattle.plan_model.specs.declared.lines.PlannedLine.{PlannedLine}
 use Rattle.plan_model.specs.declared.streams.Stream.{Stream}
 use Rattle.plan_model.specs.declared.streams.Stream.TheVariants.{DownData, UpData}
+use Rattle.fh_base.specs.Members.{IsIn}
 
 -- any two symbols of an endpoint start so far apart: two of a slot, and the last of a slot and the first of the next
 pub record IsSpaced (n : Numerology) (least : ℕ) : Type 0 where

@@ -4,23 +4,23 @@ use Rattle.std.specs.Prelude.{nat_le, nat_lt}
 use Rattle.std.specs.List.{flat_map}
 use Rattle.std.proofs.lemmas.Bool.Decides.{nat_tests}
 use Rattle.std.proofs.lemmas.List.{map-append}
-use Rattle.fh_time.proofs.Order.{symbols_few}
-use Rattle.fh_time.specs.Numbering.{slots_of, symbols_of}
-use Rattle.fh_time.specs.declared.values.Slot.{Slot}
+use Rattle.fh_base.proofs.Order.{symbols_few}
+use Rattle.fh_base.specs.Numbering.{slots_of, symbols_of}
+use Rattle.fh_base.specs.declared.values.Slot.{Slot}
 use Rattle.window_config.specs.declared.endpoints.EndpointConfig.{EndpointConfig}
 use Rattle.window_config.specs.declared.plan.PlanLine.{PlanLine}
 use Rattle.air_source.specs.declared.events.AirCell.{AirCell}
-use Rattle.fragment_laws.specs.Apart.{IsIn}
-use Rattle.unit_model.specs.Lists.{each}
+use Rattle.fh_base.specs.Lists.{each}
 use Rattle.plan_model.specs.Validity.{is_out_of_range}
-use Rattle.plan_model.proofs.ListLemmas.{in_either}
-use Rattle.schedule_laws.proofs.ListLemmas.{of_each, of_map}
 use Rattle.idle_spans.proofs.NumberLemmas.{symbol_proper}
-use Rattle.idle_lines.specs.Lines.{idle_line}
-use Rattle.idle_slots.specs.Free.{free_slot, free_slots, is_free, slot_at, slot_count}
-use Rattle.idle_slots.specs.Listed.{Run, listed_runs}
-use Rattle.idle_slots.proofs.SlotLemmas.{slots_differ}
+use Rattle.idle_text.specs.Lines.{idle_line}
+use Rattle.idle_text.specs.Free.{free_slot, free_slots, is_free, slot_at, slot_count}
+use Rattle.idle_text.specs.Listed.{Run, listed_runs}
+use Rattle.idle_text.proofs.SlotLemmas.{slots_differ}
 use Rattle.idle_text.specs.Proposed.{proposed, proposed_at}
+use Rattle.fh_base.specs.Members.{IsIn}
+use Rattle.fh_base.proofs.MemberLemmas.{in_either}
+use Rattle.fh_base.proofs.MadeLists.{of_each, of_map}
 
 -- an idle line for a free slot of an endpoint
 pub record IsProposed (es : List EndpointConfig) (first last : ℕ) (cells : List AirCell) (min : ℕ) (lines : List PlanLine) (x : PlanLine) : Type 0 where

@@ -2,21 +2,21 @@
 use Rattle.std.proofs.Common.{◌≡◌, ℕ, ◌+◌, ◌-◌, ◌*◌, ◌/◌, ◌<◌, ◌≤◌, ◌^◌, sym, ap, subst, ◌∙◌, arith}
 use Rattle.std.proofs.lemmas.Int.{ints}
 use Rattle.std.proofs.lemmas.Nat.{div_below, mul-le}
-use Rattle.fh_time.proofs.Order.{slots_few, symbols_few}
-use Rattle.fh_time.specs.Numbering.{slots_of, symbols_of}
-use Rattle.fh_time.specs.declared.numerology.Numerology.{Numerology}
+use Rattle.fh_base.proofs.Order.{slots_few, symbols_few}
+use Rattle.fh_base.specs.Numbering.{slots_of, symbols_of}
+use Rattle.fh_base.specs.declared.numerology.Numerology.{Numerology}
 use Rattle.window_config.specs.declared.endpoints.EndpointConfig.{EndpointConfig}
 use Rattle.window_config.specs.declared.plan.PlanLine.{PlanLine}
 use Rattle.fh_document.specs.Proper.{IsPlanLine}
 use Rattle.fh_document.proofs.PlanLemmas.{plan_read}
-use Rattle.schedule_laws.proofs.ListLemmas.{in_all}
 use Rattle.idle_spans.specs.Symbols.{frame_symbols}
 use Rattle.idle_spans.specs.Tables.{AreFrames}
 use Rattle.idle_spans.proofs.NumberLemmas.{frame_at, frame_few, frame_is, symbol_proper}
-use Rattle.idle_lines.specs.Lines.{idle_line}
-use Rattle.idle_slots.specs.Free.{slot_at, slot_count}
+use Rattle.idle_text.specs.Lines.{idle_line}
+use Rattle.idle_text.specs.Free.{slot_at, slot_count}
 use Rattle.idle_laws.specs.Proposals.{ProposedAreRead}
 use Rattle.idle_laws.proofs.ProposedLemmas.{proposed_is}
+use Rattle.fh_base.proofs.MadeLists.{in_all}
 
 product : (a b c : ℕ) → a * (b * c) ≡ a * b * c
 product a b c = omega arith

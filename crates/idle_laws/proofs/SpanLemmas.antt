@@ -4,15 +4,15 @@ use Rattle.std.specs.Prelude.{nat_le}
 use Rattle.std.proofs.lemmas.Bool.{and_from, and_parts}
 use Rattle.window_config.specs.declared.endpoints.EndpointConfig.{EndpointConfig}
 use Rattle.air_source.specs.declared.events.AirCell.{AirCell}
-use Rattle.fragment_laws.specs.Apart.{IsIn}
-use Rattle.plan_model.proofs.ListLemmas.{among, any_in}
-use Rattle.schedule_laws.proofs.ListLemmas.{in_each, of_each}
 use Rattle.idle_spans.specs.Runs.{IsLongRun}
 use Rattle.idle_spans.specs.Silence.{is_of_symbol, is_shown, is_silent}
 use Rattle.idle_spans.specs.Symbols.{symbol_at, symbol_count}
-use Rattle.idle_slots.specs.Listed.{Run, begins, passing_from, run_at}
-use Rattle.idle_slots.proofs.RunLemmas.{listed_is, run_is}
+use Rattle.idle_text.specs.Listed.{Run, begins, passing_from, run_at}
+use Rattle.idle_text.proofs.RunLemmas.{listed_is, run_is}
 use Rattle.idle_laws.specs.Spans.{AreSpans, Radiates, SpanStands, SpansStand}
+use Rattle.fh_base.specs.Members.{IsIn}
+use Rattle.fh_base.proofs.MemberLemmas.{among, any_in}
+use Rattle.fh_base.proofs.MadeLists.{in_each, of_each}
 
 module _ (e : EndpointConfig) (first last : ℕ) (cells : List AirCell) (min : ℕ) where
   abbrev silent : ℕ → Bool

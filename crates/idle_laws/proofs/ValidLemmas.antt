@@ -1,37 +1,36 @@
 -- A plan stays valid with the proposed lines after it.
-use Rattle.std.proofs.Common.{◌≡◌, ℕ, zero, suc, ◌+◌, Bool, true, false, not, ◌&&◌, ◌==◌, if◌then◌else◌, List, [], ◌∷◌, ◌++◌, length, Option, Some, None, refl, sym, ap, ◌∙◌, inl, inr, true≢false, arith}
-use Rattle.std.specs.Prelude.{◌⊎◌, slice_index}
-use Rattle.std.specs.List.{slice_get}
+use Rattle.std.proofs.Common.{◌≡◌, ℕ, suc, ◌+◌, Bool, true, false, not, ◌&&◌, ◌==◌, if◌then◌else◌, List, [], ◌∷◌, ◌++◌, length, Option, Some, None, refl, sym, ap, ◌∙◌, inl, inr, true≢false, arith}
+use Rattle.std.specs.Prelude.{◌⊎◌}
 use Rattle.std.specs.Option.{option_to_list}
 use Rattle.std.proofs.lemmas.Bool.{and_from, and_parts, eq-eqb, eqb-true}
-use Rattle.fh_time.specs.declared.values.Slot.{Slot}
+use Rattle.fh_base.specs.declared.values.Slot.{Slot}
 use Rattle.eaxc_map.specs.Endpoints.{AppearOnce}
 use Rattle.window_config.specs.Endpoints.{ids_of}
 use Rattle.window_config.specs.declared.endpoints.EndpointConfig.{EndpointConfig}
 use Rattle.window_config.specs.declared.plan.PlanKind.TheVariants.{Idle}
 use Rattle.window_config.specs.declared.plan.PlanLine.{PlanLine}
 use Rattle.air_source.specs.declared.events.AirCell.{AirCell}
-use Rattle.fragment_laws.specs.Apart.{IsIn}
 use Rattle.unit_model.specs.Claims.{same_slot}
 use Rattle.unit_model.specs.Meetings.{find_endpoint, find_from}
-use Rattle.unit_model.specs.Proper.{IsAt}
 use Rattle.unit_model.specs.declared.allocations.Allocation.{Allocation}
 use Rattle.unit_model.proofs.ClaimLemmas.{slot_self}
-use Rattle.unit_laws.proofs.HistoryLemmas.{found_at}
 use Rattle.plan_model.specs.Lines.{is_down_kind, line_allocation, planned, planned_at, planned_from, planned_with}
 use Rattle.plan_model.specs.Validity.{is_out_of_range, with_line}
 use Rattle.plan_model.specs.declared.lines.PlannedLine.{PlannedLine}
-use Rattle.plan_model.proofs.ListLemmas.{any_in, get_in}
-use Rattle.schedule_laws.proofs.FoundLemmas.{found}
-use Rattle.schedule_laws.proofs.OrderLemmas.{below_get, get_map}
-use Rattle.idle_plans.specs.Enlarged.{AreFree, with_lines}
-use Rattle.idle_plans.specs.Radiated.{AreIdle}
-use Rattle.idle_plans.proofs.Enlarging.{are_valid, planned_append}
-use Rattle.idle_slots.specs.Free.{is_of_slot, is_touched, slot_at, slot_count}
-use Rattle.idle_slots.specs.Listed.{listed_runs}
+use Rattle.schedule_laws.proofs.FoundLemmas.{found, index_is}
+use Rattle.idle_laws.specs.Enlarged.{AreFree, with_lines}
+use Rattle.idle_laws.specs.Radiated.{AreIdle}
+use Rattle.idle_laws.proofs.Enlarging.{are_valid, planned_append}
+use Rattle.idle_text.specs.Free.{is_of_slot, is_touched, slot_at, slot_count}
+use Rattle.idle_text.specs.Listed.{listed_runs}
 use Rattle.idle_text.specs.Proposed.{proposed, proposed_at}
 use Rattle.idle_laws.specs.Proposals.{ProposedAreValid}
 use Rattle.idle_laws.proofs.ProposedLemmas.{AreApart, IsProposed, apart_append, line_inside, proposed_is, slots_apart}
+use Rattle.fh_base.specs.Members.{IsIn}
+use Rattle.fh_base.proofs.MemberLemmas.{any_in, get_in}
+use Rattle.fh_base.proofs.RisingLemmas.{below_get, get_map}
+use Rattle.unit_model.proofs.EndpointLemmas.{found_at}
+use Rattle.unit_laws.proofs.FarLemmas.{endpoints_equal as same_there}
 
 -- ---- endpoints by their ids
 
@@ -42,11 +41,6 @@ id_from start (f ∷ fs) id ep e h = go (f.id == id) refl h (id_from (start + 1)
     go : (b : Bool) → (f.id == id) ≡ b → (if b then Some (start, f) else find_from (start + 1) fs id) ≡ Some (ep, e) → (find_from (start + 1) fs id ≡ Some (ep, e) → e.id ≡ id) → e.id ≡ id
     go true is h rest = let same : (start, f) ≡ (ep, e) = cc h in ap (λ (o : ℕ × EndpointConfig). o.1.id) (sym same) ∙ eqb-true f.id id is
     go false is h rest = rest h
-
-same_there : (es : List EndpointConfig) (i j : ℕ) (e f : EndpointConfig) → IsAt es i e → IsAt es j f → i ≡ j → e ≡ f
-same_there es i j e f at there same =
-    let both : Some e ≡ Some f = sym at ∙ ap (λ (k : ℕ). slice_get es k) same ∙ there in
-    cc both
 
 -- two ids that are found at one place are one
 same_ids : (es : List EndpointConfig) (a b i j : ℕ) (e f : EndpointConfig) → find_endpoint es a ≡ Some (i, e) → find_endpoint es b ≡ Some (j, f) → i ≡ j → a ≡ b
@@ -186,11 +180,6 @@ module _ (es : List EndpointConfig) (once : AppearOnce (ids_of es)) (first last 
       in_left_one x m = in_front x (proposed_at first last cells min lines e) [] m
 
 -- ---- all of them
-
-index_is : (xs : List ℕ) (k x : ℕ) → slice_get xs k ≡ Some x → slice_index xs k ≡ x
-index_is [] k x h = absurd (cc h)
-index_is (y ∷ xs) zero x h = cc h
-index_is (y ∷ xs) (suc k) x h = index_is xs k x h
 
 are_others : (es : List EndpointConfig) → AppearOnce (ids_of es) → AreOthers es
 are_others [] once = tt

@@ -1,2 +1,4 @@
 pub mod Proposals
 pub mod Spans
+pub mod Enlarged
+pub mod Radiated

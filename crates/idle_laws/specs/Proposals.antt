@@ -5,7 +5,6 @@ use Rattle.window_config.specs.declared.config.Config.{Config}
 use Rattle.window_config.specs.declared.endpoints.EndpointConfig.{EndpointConfig}
 use Rattle.window_config.specs.declared.plan.PlanLine.{PlanLine}
 use Rattle.air_source.specs.declared.events.AirCell.{AirCell}
-use Rattle.fragment_laws.specs.Apart.{IsIn}
 use Rattle.plan_model.specs.Valid.{IsValid}
 use Rattle.fh_document.specs.Lines.{line_of, reached}
 use Rattle.fh_document.specs.PlanLines.{planned}
@@ -14,6 +13,7 @@ use Rattle.fh_document.specs.Joined.{spaced}
 use Rattle.fh_document.specs.LineWords.{plan_words}
 use Rattle.idle_spans.specs.Tables.{AreFrames}
 use Rattle.idle_text.specs.Proposed.{proposed}
+use Rattle.fh_base.specs.Members.{IsIn}
 
 -- a plan that is valid is so with the proposed lines after it
 abbrev pub ProposedAreValid : Type 0

@@ -2,11 +2,11 @@
 use Rattle.std.specs.Prelude.{◌≡◌, ℕ, ◌+◌, ◌<◌, ◌≤◌, true, is_some, List, None}
 use Rattle.window_config.specs.declared.endpoints.EndpointConfig.{EndpointConfig}
 use Rattle.air_source.specs.declared.events.AirCell.{AirCell}
-use Rattle.fragment_laws.specs.Apart.{IsIn}
 use Rattle.idle_spans.specs.Runs.{IsListed}
 use Rattle.idle_spans.specs.Silence.{is_of_symbol}
 use Rattle.idle_spans.specs.Symbols.{symbol_at, symbol_count}
-use Rattle.idle_slots.specs.Listed.{Run, listed_runs}
+use Rattle.idle_text.specs.Listed.{Run, listed_runs}
+use Rattle.fh_base.specs.Members.{IsIn}
 
 -- a cell of the symbol with this number was reported by the radio unit, with samples
 pub record Radiates (e : EndpointConfig) (first : ℕ) (cells : List AirCell) (k : ℕ) : Type 0 where

@@ -5,13 +5,13 @@ use Rattle.std.proofs.lemmas.Bool.{cases_order}
 use Rattle.std.proofs.lemmas.Int.{ints}
 use Rattle.std.proofs.lemmas.Nat.{mul-le, mul-add-lt, div-mul-add, mod-mul-add, div-add-mod', div_below, mod_below}
 use Rattle.std.proofs.Math.Nat.{div-le_self}
-use Rattle.fh_time.proofs.Order.{slots_few, symbols_few}
-use Rattle.fh_time.specs.declared.numerology.Numerology.{Numerology}
-use Rattle.fh_time.specs.Numbering.{slots_of, symbols_of}
+use Rattle.fh_base.proofs.Order.{slots_few, symbols_few}
+use Rattle.fh_base.specs.declared.numerology.Numerology.{Numerology}
+use Rattle.fh_base.specs.Numbering.{slots_of, symbols_of}
 use Rattle.idle_spans.specs.declared.places.Place.{Place}
 use Rattle.idle_spans.specs.Symbols.{frame_symbols, symbol_at, number_in_frame}
 use Rattle.idle_spans.specs.Places.{IsSymbol}
-use Rattle.fh_time.specs.declared.symbols.TheConstants.{SLOT_SYMBOLS}
+use Rattle.fh_base.specs.declared.symbols.TheConstants.{SLOT_SYMBOLS}
 
 -- ---- how many symbols a frame has
 

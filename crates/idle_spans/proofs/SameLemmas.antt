@@ -3,8 +3,8 @@ use Rattle.std.proofs.Common.{◌≡◌, ℕ, ℤ, pos, ◌+◌, ◌*◌, ◌<�
 use Rattle.std.proofs.lemmas.Bool.{and_parts, eqb-true, eq-eqb, ne_eqb, cases_eq, false_from_ne_true}
 use Rattle.std.proofs.lemmas.Bool.Decides.{Decides-int_eq}
 use Rattle.std.proofs.lemmas.Int.{ints}
-use Rattle.fh_time.proofs.Orders.{int_own}
-use Rattle.fh_time.specs.declared.numerology.Numerology.{Numerology}
+use Rattle.fh_base.proofs.Orders.{int_own}
+use Rattle.fh_base.specs.declared.numerology.Numerology.{Numerology}
 use Rattle.idle_spans.specs.declared.places.Place.{Place}
 use Rattle.idle_spans.specs.Symbols.{frame_symbols, symbol_at, symbol_count, number_in_frame}
 use Rattle.idle_spans.specs.Silence.{same_symbol}

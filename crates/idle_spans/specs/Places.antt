@@ -1,7 +1,7 @@
 -- Which symbols an endpoint has.
 use Rattle.std.specs.Prelude.{ℕ, ◌<◌, Bool, false, ◌==◌, Option, Some, None}
-use Rattle.fh_time.specs.declared.numerology.Numerology.{Numerology}
-use Rattle.fh_time.specs.Numbering.{slots_of, symbols_of}
+use Rattle.fh_base.specs.declared.numerology.Numerology.{Numerology}
+use Rattle.fh_base.specs.Numbering.{slots_of, symbols_of}
 use Rattle.idle_spans.specs.declared.places.Place.{Place}
 
 -- the place is one of an endpoint's symbols; its frame may be any

@@ -1,7 +1,7 @@
 -- The symbols of an endpoint in some frames, in the order of slot and symbol.
 use Rattle.std.specs.Prelude.{◌≡◌, ℕ, pos, ◌+◌, ◌-◌, ◌*◌, ◌/◌, ◌%◌, ◌<◌, ◌<ℤ◌, ◌⊎◌, Option, Some, None}
-use Rattle.fh_time.specs.declared.numerology.Numerology.{Numerology}
-use Rattle.fh_time.specs.Numbering.{slots_of, symbols_of}
+use Rattle.fh_base.specs.declared.numerology.Numerology.{Numerology}
+use Rattle.fh_base.specs.Numbering.{slots_of, symbols_of}
 use Rattle.idle_spans.specs.declared.places.Place.{Place}
 
 -- how many symbols a frame has

@@ -8,7 +8,7 @@ ghost use Rattle.idle_spans.specs.Laws.{heard_none, heard_more};
 use crate::spans::Spans;
 use air_source::{Air, AirCell, AirFault, Side};
 use fault_counters::Counter;
-use fh_time::Ticks;
+use fh_base::Ticks;
 
 impl Air for Spans {
     ghost faults = { λ _. 0 };

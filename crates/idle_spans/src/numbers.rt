@@ -1,11 +1,11 @@
 // Symbols by their numbers.
 ghost use Rattle.std.specs.Prelude.{◌≡◌, ℕ, pos, ◌+◌, ◌^◌, ◌<◌, ◌≤◌, ◌≤ℤ◌, ◌↔◌, IsTrue};
-ghost use Rattle.fh_time.specs.Numbering.{slots_of, symbols_of};
+ghost use Rattle.fh_base.specs.Numbering.{slots_of, symbols_of};
 ghost use Rattle.idle_spans.specs.Symbols.{frame_symbols, number_in_frame, symbol_at};
 ghost use Rattle.idle_spans.specs.Places.{IsSymbol};
 
 use crate::places::Place;
-use fh_time::{Numerology, Slot, shape};
+use fh_base::{Numerology, Slot, shape};
 
 /// How many symbols a frame has.
 pub(crate) fn frame_symbols(n: &Numerology) -> usize

@@ -1,6 +1,6 @@
 // What is told of spans.
 
-use fh_time::Slot;
+use fh_base::Slot;
 
 /// A symbol of an endpoint.
 #[derive(Clone, Copy, Debug, PartialEq, Eq)]

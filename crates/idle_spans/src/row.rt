@@ -11,8 +11,7 @@ ghost use Rattle.idle_spans.specs.Scans.{Begins, IsBegin, IsEnd, IsFirstRun, row
 use crate::numbers::{frame_symbols, frames_between, is_symbol, number_in_frame, symbol_at};
 use crate::places::{Mark, Place, Span};
 use air_source::{AirCell, Side};
-use fh_base::NoMemory;
-use fh_time::Slot;
+use fh_base::{NoMemory, Slot};
 use std::alloc::Global;
 use std::marker::Model;
 use window_config::EndpointConfig;

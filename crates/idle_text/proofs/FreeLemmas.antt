@@ -5,10 +5,10 @@ use Rattle.std.proofs.lemmas.Grind.{flat_map-append}
 use Rattle.std.proofs.lemmas.List.{map-append}
 use Rattle.std.proofs.lemmas.Nat.{div-mul-add}
 use Rattle.fh_base.specs.Told.{WritesFront}
-use Rattle.fh_time.proofs.Order.{symbols_few}
-use Rattle.fh_time.specs.Numbering.{slots_of, symbols_of}
-use Rattle.fh_time.specs.declared.numerology.Numerology.{Numerology}
-use Rattle.fh_time.specs.declared.values.Slot.{Slot}
+use Rattle.fh_base.proofs.Order.{symbols_few}
+use Rattle.fh_base.specs.Numbering.{slots_of, symbols_of}
+use Rattle.fh_base.specs.declared.numerology.Numerology.{Numerology}
+use Rattle.fh_base.specs.declared.values.Slot.{Slot}
 use Rattle.fh_base.specs.Owed.{Carried}
 use Rattle.fh_base.specs.CarriedLaws.{carried_more, carried_none}
 use Rattle.fh_base.proofs.Carrying.{front_behind}
@@ -16,19 +16,20 @@ use Rattle.fh_base.proofs.OwedTelling.{front_before}
 use Rattle.window_config.specs.declared.endpoints.EndpointConfig.{EndpointConfig}
 use Rattle.window_config.specs.declared.plan.PlanLine.{PlanLine}
 use Rattle.air_source.specs.declared.events.AirCell.{AirCell}
-use Rattle.unit_model.specs.Lists.{each}
-use Rattle.unit_model.proofs.SweepLaws.{each_more, each_zero}
+use Rattle.fh_base.specs.Lists.{each}
 use Rattle.idle_spans.specs.Symbols.{symbol_at, symbol_count}
 use Rattle.idle_spans.specs.Tables.{SpansValue, endpoints_of, symbols_in}
 use Rattle.idle_spans.specs.declared.places.Place.{Place}
 use Rattle.idle_spans.proofs.NumberLemmas.{frame_is}
-use Rattle.idle_lines.specs.Lines.{idle_line, plan_line_text}
-use Rattle.idle_slots.specs.Free.{free_slot, free_slots, has_slot, is_free, is_touched, slot_at, slot_count}
-use Rattle.idle_slots.specs.Listed.{listed_runs}
-use Rattle.idle_slots.specs.Tables.{IsTableOf}
-use Rattle.idle_slots.proofs.RunLemmas.{each_alike, each_parted}
+use Rattle.idle_text.specs.Lines.{idle_line, plan_line_text}
+use Rattle.idle_text.specs.Free.{free_slot, free_slots, has_slot, is_free, is_touched, slot_at, slot_count}
+use Rattle.idle_text.specs.Listed.{listed_runs}
+use Rattle.idle_text.specs.Tables.{IsTableOf}
+use Rattle.idle_text.proofs.RunLemmas.{each_parted}
 use Rattle.idle_text.specs.Text.{flagged, flagged_slot, flagged_text, lines_text}
 use Rattle.idle_text.proofs.TellLemmas.{count_is}
+use Rattle.fh_base.proofs.EachLemmas.{each_more, each_zero}
+use Rattle.fh_base.proofs.CommonLemmas.{each_same as each_alike}
 
 -- ---- the line of a slot whose flag is set
 

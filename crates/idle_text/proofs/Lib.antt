@@ -2,3 +2,8 @@ pub mod TellLemmas
 pub mod FreeLemmas
 pub mod EndLemmas
 pub mod TableLemmas
+pub mod SlotLemmas
+pub mod FlagLemmas
+pub mod RunLemmas
+pub mod NextLemmas
+pub mod JoinedLemmas

@@ -6,7 +6,7 @@ use Rattle.window_config.specs.declared.config.Config.{Config}
 use Rattle.window_config.specs.declared.endpoints.EndpointConfig.{EndpointConfig}
 use Rattle.air_source.specs.declared.events.AirCell.{AirCell}
 use Rattle.idle_spans.specs.Tables.{SpansValue, Stands}
-use Rattle.idle_slots.specs.Tables.{IsTableOf}
+use Rattle.idle_text.specs.Tables.{IsTableOf}
 
 pub table_at : (s : SpansValue) (config : Config) (es : List EndpointConfig) (ep : ℕ) (e : EndpointConfig) (first last : ℕ) (cells : List AirCell) → config.endpoints ≡ es
     → Stands s config first last cells → ep < length es → e ≡ get_or es ep e → IsTableOf s ep e first last cells

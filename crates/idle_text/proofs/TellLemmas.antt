@@ -12,8 +12,7 @@ use Rattle.fh_base.proofs.OwedTelling.{front_before}
 use Rattle.window_config.specs.Endpoints.{no_endpoint}
 use Rattle.window_config.specs.declared.endpoints.EndpointConfig.{EndpointConfig}
 use Rattle.air_source.specs.declared.events.AirCell.{AirCell}
-use Rattle.unit_model.specs.Lists.{each}
-use Rattle.unit_model.proofs.SweepLaws.{each_zero}
+use Rattle.fh_base.specs.Lists.{each}
 use Rattle.idle_spans.specs.Runs.{HasNoSpan, IsNextSpan, span_of}
 use Rattle.idle_spans.specs.Silence.{is_silent}
 use Rattle.idle_spans.specs.Symbols.{symbol_at, symbol_count}
@@ -21,11 +20,12 @@ use Rattle.idle_spans.specs.Tables.{RowValue, SpansValue, endpoint_at, endpoint_
 use Rattle.idle_spans.specs.declared.places.Place.{Place}
 use Rattle.idle_spans.specs.declared.places.Span.{Span}
 use Rattle.idle_spans.proofs.TableLemmas.{endpoint_is}
-use Rattle.idle_lines.specs.Lines.{span_line_text}
-use Rattle.idle_slots.specs.Listed.{Run, listed_runs, run_at}
-use Rattle.idle_slots.specs.Tables.{IsTableOf}
-use Rattle.idle_slots.proofs.NextLemmas.{IsAt, IsFound, all_found, found}
-use Rattle.idle_slots.proofs.RunLemmas.{each_parted}
+use Rattle.idle_text.specs.Lines.{span_line_text}
+use Rattle.idle_text.specs.Listed.{Run, listed_runs, run_at}
+use Rattle.idle_text.specs.Tables.{IsTableOf}
+use Rattle.idle_text.proofs.NextLemmas.{IsAt, IsFound, all_found, found}
+use Rattle.idle_text.proofs.RunLemmas.{each_parted}
+use Rattle.fh_base.proofs.EachLemmas.{each_zero}
 
 -- ---- the table of an endpoint
 

@@ -4,8 +4,8 @@ use Rattle.std.specs.List.{flat_map}
 use Rattle.window_config.specs.declared.endpoints.EndpointConfig.{EndpointConfig}
 use Rattle.window_config.specs.declared.plan.PlanLine.{PlanLine}
 use Rattle.air_source.specs.declared.events.AirCell.{AirCell}
-use Rattle.idle_lines.specs.Lines.{idle_line}
-use Rattle.idle_slots.specs.Free.{free_slots}
+use Rattle.idle_text.specs.Lines.{idle_line}
+use Rattle.idle_text.specs.Free.{free_slots}
 
 -- the lines that are proposed for an endpoint, one for each free slot, and for all endpoints
 abbrev pub proposed_at : ℕ → ℕ → List AirCell → ℕ → List PlanLine → EndpointConfig → List PlanLine

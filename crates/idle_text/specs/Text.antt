@@ -4,12 +4,12 @@ use Rattle.std.specs.List.{flat_map}
 use Rattle.window_config.specs.declared.endpoints.EndpointConfig.{EndpointConfig}
 use Rattle.window_config.specs.declared.plan.PlanLine.{PlanLine}
 use Rattle.air_source.specs.declared.events.AirCell.{AirCell}
-use Rattle.fh_time.specs.declared.values.Slot.{Slot}
-use Rattle.unit_model.specs.Lists.{each}
-use Rattle.idle_lines.specs.Lines.{idle_line, plan_line_text, span_line_text}
-use Rattle.idle_slots.specs.Free.{slot_at}
+use Rattle.fh_base.specs.declared.values.Slot.{Slot}
+use Rattle.fh_base.specs.Lists.{each}
+use Rattle.idle_text.specs.Lines.{idle_line, plan_line_text, span_line_text}
+use Rattle.idle_text.specs.Free.{slot_at}
 use Rattle.idle_text.specs.Proposed.{proposed_at}
-use Rattle.idle_slots.specs.Listed.{spans_of}
+use Rattle.idle_text.specs.Listed.{spans_of}
 
 -- the lines of an endpoint's listed spans
 abbrev pub spans_text : ℕ → ℕ → List AirCell → ℕ → EndpointConfig → List ℕ

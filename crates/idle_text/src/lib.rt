@@ -2,9 +2,26 @@
 //!
 //! [`idle_text`] writes for each endpoint its listed spans, and for each slot that lies in one of them and that no downlink line of the
 //! plan touches a plan line of section type 0; `end` stands at the end.
+//!
+//! The slots of an endpoint that lie in its listed spans and that no downlink line of the plan touches, as flags (this project's
+//! profile).
+//!
+//! The definitions stand in `specs/`: the listed spans of an endpoint as a list, and its free slots. The functions here are the steps by
+//! which a text that tells of them comes to the free slots.
+//!
+//! The lines that tell of idle endpoints (this project's profile): a span in which a transmitter is silent, and a plan line of section
+//! type 0 for a slot that nobody touches.
+//!
+//! Each line is built in a [`fh_base::Line`], without memory, and ends with a line feed.
 #![tactic(auto)]
 
 mod endpoints;
+mod flags;
+mod lines;
+mod numbers;
 mod telling;
 
 pub use endpoints::idle_text;
+pub use flags::{clear_touched, no_flags, set_slots};
+pub use lines::{idle_line, put_plan_line, put_span_line};
+pub use numbers::number_of;

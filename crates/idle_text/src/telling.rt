@@ -3,21 +3,21 @@ ghost use Rattle.std.specs.Prelude.{◌≡◌, ℕ, ◌+◌, ◌*◌, ◌<◌, �
 ghost use Rattle.std.specs.List.{flat_map, list_any};
 ghost use Rattle.fh_base.specs.Causes.{HasSinkCause};
 ghost use Rattle.fh_base.specs.Told.{WritesFront};
-ghost use Rattle.fh_time.specs.Numbering.{symbols_of};
+ghost use Rattle.fh_base.specs.Numbering.{symbols_of};
 ghost use Rattle.fh_base.specs.Owed.{Carried};
 ghost use Rattle.air_source.specs.declared.events.AirCell.{AirCell};
-ghost use Rattle.unit_model.specs.Lists.{each};
+ghost use Rattle.fh_base.specs.Lists.{each};
 ghost use Rattle.idle_spans.specs.Tables.{endpoints_of, symbols_in};
-ghost use Rattle.idle_lines.specs.Lines.{idle_line, plan_line_text, span_line_text};
-ghost use Rattle.idle_slots.specs.Free.{has_slot, slot_at};
-ghost use Rattle.idle_slots.specs.Listed.{listed_runs};
-ghost use Rattle.idle_slots.specs.Tables.{IsTableOf, StandsAt};
+ghost use Rattle.idle_text.specs.Lines.{idle_line, plan_line_text, span_line_text};
+ghost use Rattle.idle_text.specs.Free.{has_slot, slot_at};
+ghost use Rattle.idle_text.specs.Listed.{listed_runs};
+ghost use Rattle.idle_text.specs.Tables.{IsTableOf, StandsAt};
 ghost use Rattle.idle_text.specs.Text.{flagged_slot, flagged_text, lines_text, spans_text};
 
-use fh_base::{Line, OwedBytes, Sink, SinkFault};
-use fh_time::shape;
-use idle_lines::{idle_line, put_plan_line, put_span_line};
-use idle_slots::{number_of, set_slots};
+use crate::flags::set_slots;
+use crate::lines::{idle_line, put_plan_line, put_span_line};
+use crate::numbers::number_of;
+use fh_base::{Line, OwedBytes, Sink, SinkFault, shape};
 use idle_spans::{Span, Spans};
 use window_config::{EndpointConfig, PlanLine};
 

@@ -2,11 +2,12 @@
 ghost use Rattle.std.specs.Prelude.{◌<◌, ◌^◌};
 ghost use Rattle.window_config.specs.Plans.{IsPlanLine};
 
+use crate::sample_plans::{line, one, two};
 use crate::samples::{DATA, Data, FIRST, LAST, READ, at_30_khz, block, cell, has_counted, heard};
+use crate::steps::{close, made, step};
 use air_source::MemoryAir;
 use fault_counters::Counter;
 use fh_base::List;
-use intake_samples::{close, line, made, one, step, two};
 use std::test::Fail;
 use window_config::{Delays, PlanLine};
 

@@ -2,14 +2,14 @@
 // each, so the moments of symbol 1 come 55,600,000 ticks later. All is worked out by hand.
 ghost use Rattle.window_config.specs.Plans.{IsPlanLine};
 
+use crate::sample_plans::{line, one};
 use crate::samples::{
     COMMAND, DATA, Data, FIRST, LAST, READ, at_30_khz, block, cell, has_counted, heard,
 };
+use crate::steps::{close, made, step};
 use air_source::{AirCell, AirFault, MemoryAir};
 use fault_counters::Counter;
-use fh_base::List;
-use fh_time::Ticks;
-use intake_samples::{close, line, made, one, step};
+use fh_base::{List, Ticks};
 use std::test::Fail;
 use window_config::{Delays, PlanLine};
 

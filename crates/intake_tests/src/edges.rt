@@ -1,14 +1,14 @@
 // The edges of Ta4, at 30 kHz.
 ghost use Rattle.window_config.specs.Limits.{IsWithinLimits};
 
+use crate::sample_plans::{line, one};
 use crate::samples::{
     COMMAND, DATA, Data, EARLY, FIRST, LAST, READ, at_30_khz, block, cell, has_counted, heard,
 };
+use crate::steps::{close, made, step};
 use air_source::MemoryAir;
 use fault_counters::Counter;
-use fh_base::List;
-use fh_time::Ticks;
-use intake_samples::{close, line, made, one, step};
+use fh_base::{List, Ticks};
 use std::test::Fail;
 use window_config::{Delays, Range};
 

@@ -1,4 +1,7 @@
 //! The distributed unit's intake over its public calls: worked frames, with moments and counters worked out by hand.
+//!
+//! What tests and a bench do with the distributed unit's intake: make one for the lines of a plan, deliver a frame and report cells
+//! where the intake's own `clock` and `due` say that it may be done.
 #![tactic(auto)]
 
 #[cfg(test)]
@@ -15,9 +18,14 @@ mod offsets;
 mod pieces;
 #[cfg(test)]
 mod plans;
+mod sample_plans;
 #[cfg(test)]
 mod samples;
+mod steps;
 #[cfg(test)]
 mod tables;
 #[cfg(test)]
 mod windows;
+
+pub use sample_plans::{config, endpoint, line, one, two};
+pub use steps::{close, close_before, made, made_of, step};

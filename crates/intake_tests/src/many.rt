@@ -5,13 +5,13 @@ ghost use Rattle.du_intake.specs.Closing.{IntakeStandsForSome};
 ghost use Rattle.unit_model.specs.Proper.{IsTime};
 ghost use Rattle.window_config.specs.Plans.{IsPlanLine};
 
+use crate::sample_plans::line;
 use crate::samples::{DATA, Data, READ, at_30_khz, block, cell, has_counted, heard};
+use crate::steps::{close, made, step};
 use air_source::{AirCell, MemoryAir};
 use du_intake::Intake;
 use fault_counters::Counter;
-use fh_base::{List, NoMemory};
-use fh_time::{Slot, Ticks};
-use intake_samples::{close, line, made, step};
+use fh_base::{List, NoMemory, Slot, Ticks};
 use std::alloc::Global;
 use std::test::Fail;
 use window_config::{Delays, PlanLine};

@@ -4,14 +4,14 @@ ghost use Rattle.std.specs.Prelude.{◌≡◌, ◌<◌, ◌^◌, pos, IfSome};
 ghost use Rattle.window_config.specs.Configs.{IsConfig};
 ghost use Rattle.window_config.specs.Plans.{IsPlanLine};
 
+use crate::sample_plans::{config, endpoint, line, one, two};
 use crate::samples::{DATA, Data, READ, block, has_counted, heard};
+use crate::steps::{close, made, step};
 use air_source::{AirCell, MemoryAir, Side};
 use bfp_codec::Wide;
 use eaxc_map::Widths;
 use fault_counters::Counter;
-use fh_base::List;
-use fh_time::{Numerology, Slot, Ticks};
-use intake_samples::{close, config, endpoint, line, made, one, step, two};
+use fh_base::{List, Numerology, Slot, Ticks};
 use std::test::Fail;
 use window_config::{Config, Delays, PlanLine};
 

@@ -1,12 +1,12 @@
 // Messages in two fragments: which are whole, and which are on time. All is worked out by hand.
 ghost use Rattle.window_config.specs.Limits.{IsTime, IsWithinLimits};
 
+use crate::sample_plans::{line, one};
 use crate::samples::{DATA, Data, FIRST, LAST, READ, at_30_khz, block, cell, has_counted, heard};
+use crate::steps::{close, made, step};
 use air_source::MemoryAir;
 use fault_counters::Counter;
-use fh_base::List;
-use fh_time::Ticks;
-use intake_samples::{close, line, made, one, step};
+use fh_base::{List, Ticks};
 use std::test::Fail;
 use window_config::{Delays, PlanLine, Range};
 

@@ -3,11 +3,11 @@
 ghost use Rattle.std.specs.Prelude.{◌<◌, ◌^◌};
 ghost use Rattle.window_config.specs.Plans.{IsPlanLine};
 
+use crate::sample_plans::{line, two};
 use crate::samples::{at_30_khz, heard};
+use crate::steps::{close, made};
 use air_source::MemoryAir;
-use fh_base::List;
-use fh_time::{Slot, Ticks};
-use intake_samples::{close, line, made, two};
+use fh_base::{List, Slot, Ticks};
 use std::test::Fail;
 use window_config::{Delays, PlanLine};
 

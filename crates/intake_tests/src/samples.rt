@@ -5,13 +5,13 @@ ghost use Rattle.std.specs.Prelude.{IfSome};
 ghost use Rattle.window_config.specs.Configs.{IsConfig};
 ghost use Rattle.window_config.specs.Limits.{IsWithinLimits};
 
+use crate::sample_plans::{config, endpoint};
 use air_source::{AirCell, Event, MemoryAir, Side};
 use bfp_codec::Wide;
 use du_intake::Delivered;
 use eaxc_map::Widths;
 use fault_counters::{Counter, Counters};
-use fh_time::{Numerology, Slot, Ticks};
-use intake_samples::{config, endpoint};
+use fh_base::{Numerology, Slot, Ticks};
 use window_config::{Config, Delays};
 
 /// The start of symbol 0 of frame 1 at 30 kHz.

@@ -8,13 +8,13 @@ ghost use Rattle.unit_model.specs.Proper.{IsProperAllocation, IsTime};
 ghost use Rattle.window_config.specs.Configs.{IsConfig};
 ghost use Rattle.window_config.specs.Plans.{IsPlanLine};
 
+use crate::sample_plans::{line, two};
 use crate::samples::{COMMAND, DATA, Data, EARLY, FIRST, LAST, at_30_khz, heard};
+use crate::steps::{close, close_before, made, step};
 use air_source::{AirFault, MemoryAir};
 use du_intake::Intake;
 use fault_counters::{Counter, Counters};
-use fh_base::{Bytes, List, NoMemory};
-use fh_time::Ticks;
-use intake_samples::{close, close_before, line, made, step, two};
+use fh_base::{Bytes, List, NoMemory, Ticks};
 use plain_units::{Report, TimedFrame, plain_du};
 use plan_model::{PlannedLine, is_out_of_range, line_allocation};
 use std::alloc::Global;

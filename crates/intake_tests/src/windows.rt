@@ -1,8 +1,9 @@
 // Which data are taken: before frame 0, and by their direction. All is worked out by hand.
+use crate::sample_plans::{line, one};
 use crate::samples::{COMMAND, DATA, Data, FIRST, READ, at_30_khz, has_counted};
+use crate::steps::{made, step};
 use fault_counters::Counter;
-use fh_time::Ticks;
-use intake_samples::{line, made, one, step};
+use fh_base::Ticks;
 use std::test::Fail;
 use window_config::Delays;
 

@@ -5,14 +5,11 @@ use Rattle.std.specs.List.{onto_first, slice_split}
 use Rattle.std.proofs.lemmas.List.Elements.{All-cons, All-head, All-tail}
 use Rattle.std.proofs.lemmas.List.Splits.{slice_split-cons_no, slice_split-cons_yes}
 use Rattle.line_words.specs.Words.{are_texts, is_text}
+use Rattle.fh_base.proofs.Orders.{both_true}
 
 -- each of these lines is printable
 abbrev pub AreTexts : List (List ℕ) → Type 0
 AreTexts = All (λ line. is_text line ≡ true)
-
-both_true : (a b : Bool) → a ≡ true → b ≡ true → (a && b) ≡ true
-both_true true b h k = k
-both_true false b h k = absurd (cc h)
 
 second_true : (a b : Bool) → (a && b) ≡ true → b ≡ true
 second_true true b h = h

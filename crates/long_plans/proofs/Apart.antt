@@ -2,12 +2,11 @@
 use Rattle.std.proofs.Common.{◌≡◌, ℕ, zero, suc, ◌+◌, ◌<◌, ◌≤◌, inl, inr, List, [], ◌∷◌, length, map, Option, None, refl, ap, ap₂, sym, ◌∙◌, subst, arith}
 use Rattle.std.specs.List.{AllByRecursion}
 use Rattle.std.proofs.lemmas.Int.{ints}
-use Rattle.fh_time.specs.declared.values.Slot.{Slot}
-use Rattle.fh_time.proofs.Orders.{pos_same}
+use Rattle.fh_base.specs.declared.values.Slot.{Slot}
+use Rattle.fh_base.proofs.Orders.{pos_same}
 use Rattle.window_config.specs.declared.endpoints.EndpointConfig.{EndpointConfig}
 use Rattle.window_config.specs.declared.plan.TheConstants.{LAST_FRAME}
-use Rattle.unit_model.specs.Lists.{or_else}
-use Rattle.fragment_laws.specs.Apart.{IsIn}
+use Rattle.fh_base.specs.Lists.{or_else}
 use Rattle.plan_model.specs.Dense.{dense, down_distance, up_distance}
 use Rattle.plan_model.specs.Examples.{usual}
 use Rattle.plan_model.specs.Lines.{planned}
@@ -26,6 +25,7 @@ use Rattle.generated_laws.proofs.Sparse.{each_alone, not_dense as sparse_not_den
 use Rattle.long_plans.specs.Lines.{frame_lines, long_config, LongPlansAreLong, LongPlansAreValid}
 use Rattle.long_plans.proofs.Lines.{line_at, lines_from, none_refused, planned_is}
 use Rattle.long_plans.proofs.Ticks.{parts_are, parts_from}
+use Rattle.fh_base.specs.Members.{IsIn}
 
 -- ---- no two lines have data in one symbol
 

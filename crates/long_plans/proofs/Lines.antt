@@ -2,8 +2,7 @@
 use Rattle.std.proofs.Common.{◌≡◌, ℕ, ℤ, pos, zero, suc, ◌+◌, ◌<ℤ◌, inl, inr, Bool, false, ◌==◌, if◌then◌else◌, List, [], ◌∷◌, Option, Some, None, refl, ap, sym, ◌∙◌, subst, arith}
 use Rattle.std.proofs.lemmas.Bool.{cases_Bool, and_parts}
 use Rattle.std.proofs.lemmas.Int.{ints}
-use Rattle.fh_time.specs.declared.values.Slot.{Slot}
-use Rattle.fragment_laws.specs.Apart.{IsIn}
+use Rattle.fh_base.specs.declared.values.Slot.{Slot}
 use Rattle.unit_model.specs.Claims.{same_slot, same_way}
 use Rattle.unit_model.specs.Commands.{is_full}
 use Rattle.unit_model.specs.declared.allocations.Allocation.{Allocation}
@@ -16,7 +15,8 @@ use Rattle.plan_model.specs.declared.refusals.PlanWhy.TheVariants.{Overlap, TooM
 use Rattle.generated_laws.proofs.Lines.{none_any}
 use Rattle.long_plans.specs.Lines.{frame_line, frame_lines}
 use Rattle.unit_model.proofs.ClaimLemmas.{same_slot_is as slots_equal}
-use Rattle.fh_time.proofs.Orders.{more_differ as other_frame}
+use Rattle.fh_base.proofs.Orders.{more_differ as other_frame}
+use Rattle.fh_base.specs.Members.{IsIn}
 
 -- the line of a frame at the endpoint
 abbrev pub line_at : ℕ → ℕ → PlannedLine

@@ -6,23 +6,23 @@ use Rattle.std.specs.Ordering.{int_eq}
 use Rattle.std.proofs.lemmas.Bool.{and_from, and_parts, cases_Bool, cases_eq}
 use Rattle.std.proofs.lemmas.Bool.Decides.{Decides-int_eq}
 use Rattle.std.proofs.lemmas.Int.{ints}
-use Rattle.fh_time.specs.Air.{air_of}
-use Rattle.fh_time.specs.declared.values.Slot.{Slot}
-use Rattle.fh_time.proofs.Euclid.{frame_floor}
+use Rattle.fh_base.specs.Air.{air_of}
+use Rattle.fh_base.specs.declared.values.Slot.{Slot}
+use Rattle.fh_base.proofs.Euclid.{frame_floor}
 use Rattle.unit_model.specs.Claims.{is_from, same_slot}
-use Rattle.unit_model.specs.Lists.{each}
+use Rattle.fh_base.specs.Lists.{each}
 use Rattle.unit_model.specs.Sweeps.{first_swept, of_endpoint, of_frame, of_slot, of_subframe, of_symbol, slot_at}
-use Rattle.unit_laws.proofs.SweepLemmas.{none_kept, of_endpoint_related, of_frame_related, of_slot_related, of_subframe_related, of_symbol_related}
+use Rattle.unit_model.proofs.SweepLemmas.{none_kept, of_endpoint_related, of_frame_related, of_slot_related, of_subframe_related, of_symbol_related}
 use Rattle.plan_model.specs.Examples.{usual}
 use Rattle.plan_model.specs.Lines.{line_allocation}
 use Rattle.plan_model.specs.Streams.{Part, has_part, part_in, symbol_parts}
 use Rattle.plan_model.specs.declared.lines.PlannedLine.{PlannedLine}
 use Rattle.plan_model.specs.declared.streams.Stream.TheVariants.{DownData}
-use Rattle.generated_laws.proofs.Told.{each_nothing}
 use Rattle.long_plans.proofs.Lines.{line_at, lines_from}
-use Rattle.fh_time.specs.declared.frames.TheConstants.{FRAME}
+use Rattle.fh_base.specs.declared.frames.TheConstants.{FRAME}
 use Rattle.unit_model.proofs.ClaimLemmas.{same_slot_is as slots_equal, from_within as from_high}
-use Rattle.fh_time.proofs.Orders.{pos_same}
+use Rattle.fh_base.proofs.Orders.{pos_same}
+use Rattle.fh_base.proofs.CommonLemmas.{each_nothing}
 
 -- of numbers of which one alone tells something, what it tells
 pub each_only : {A : Type 0} (from n j : ℕ) (f : ℕ → List A) → from ≤ j → j < from + n → ((k : ℕ) → from ≤ k → k < from + n → k ≢ j → f k ≡ []) → each from n f ≡ f j

@@ -17,8 +17,8 @@ use Rattle.window_config.specs.declared.plan.PlanLine.{PlanLine}
 use Rattle.window_config.proofs.Usual.{usual_within}
 use Rattle.unit_model.specs.Proper.{IsAt}
 use Rattle.plan_model.specs.Examples.{usual}
-use Rattle.sent_laws.specs.Sent.{IsSendable}
-use Rattle.sent_laws.proofs.RadiatedLemmas.{least_come}
+use Rattle.uplink_laws.specs.Sent.{IsSendable}
+use Rattle.uplink_laws.proofs.RadiatedLemmas.{least_come}
 use Rattle.long_plans.specs.Lines.{frame_line, frame_lines, long_config}
 use Rattle.long_plans.specs.Sent.{LongPlansAreSent, silence, silent}
 use Rattle.long_plans.proofs.Apart.{are_valid}

@@ -3,17 +3,17 @@ use Rattle.std.proofs.Common.{◌≡◌, ℕ, ℤ, pos, zero, suc, ◌+◌, ◌<
 use Rattle.std.specs.Int.{int_gap}
 use Rattle.std.proofs.lemmas.Bool.{cases_lt}
 use Rattle.std.proofs.lemmas.Int.{ints}
-use Rattle.unit_model.specs.Lists.{each_tick}
+use Rattle.fh_base.specs.Lists.{each_tick}
 use Rattle.unit_model.specs.Radiated.{first_clock}
 use Rattle.unit_model.specs.Sweeps.{of_endpoint}
 use Rattle.unit_model.specs.Times.{end_of_time}
-use Rattle.unit_model.proofs.SweepLaws.{gap_is, gap_parts, ticks_none, ticks_split}
 use Rattle.plan_model.specs.Examples.{usual}
 use Rattle.plan_model.specs.Streams.{Part, part_in, parts_in}
 use Rattle.plan_model.specs.declared.streams.Stream.TheVariants.{DownData}
 use Rattle.long_plans.proofs.Lines.{line_at, lines_from}
 use Rattle.long_plans.proofs.Parts.{part_at, quiet, start, told}
 use Rattle.window_config.specs.declared.plan.TheConstants.{LAST_FRAME}
+use Rattle.fh_base.proofs.EachLemmas.{gap_is, gap_parts, ticks_none, ticks_split}
 
 unfoldable pub parts_from : ℕ → ℕ → ℕ → List Part
 parts_from i frame zero = []

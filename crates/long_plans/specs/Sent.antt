@@ -6,8 +6,8 @@ use Rattle.plan_model.specs.Lines.{planned}
 use Rattle.schedule_laws.specs.Least.{with_least_delay}
 use Rattle.sent_frames.specs.Frames.{sent_bytes}
 use Rattle.sent_frames.specs.Messages.{Source}
-use Rattle.sent_laws.specs.Radiated.{CopiesArrive}
-use Rattle.sent_laws.specs.Sent.{IsSendable}
+use Rattle.uplink_laws.specs.Radiated.{CopiesArrive}
+use Rattle.uplink_laws.specs.Sent.{IsSendable}
 use Rattle.long_plans.specs.Lines.{frame_lines, long_config}
 use Rattle.window_config.specs.declared.plan.TheConstants.{LAST_FRAME}
 

@@ -21,10 +21,10 @@ use Rattle.pcap_frames.specs.Wanted.{Wanted, side_of, wanted_by, wanted_of, one_
 use Rattle.pcap_frames.specs.Checked.{frame_fault, fault_of, passed_by, tested, checked_by, checked}
 use Rattle.pcap_frames.specs.Frames.{Timed, timed_as, frames_of}
 use Rattle.pcap_frames.proofs.Steps.{next}
-use Rattle.pcapng_blocks.specs.Blocks.{Block, shows}
+use Rattle.pcap_frames.specs.Blocks.{Block, shows}
 use Rattle.pcap_export.specs.Packets.{address_of, file_head, ethernet_head, nanoseconds_of, ns_of, record_head, packet_bytes}
 use Rattle.pcap_export.specs.ReadBack.{IsUsual, AreUsual, IsReading, side_by, timed_at, start_of, IsReadBack}
-use Rattle.fh_time.specs.declared.nanoseconds.TheConstants.{LAST_TIME, NANOSECOND}
+use Rattle.fh_base.specs.declared.nanoseconds.TheConstants.{LAST_TIME, NANOSECOND}
 use Rattle.fh_base.specs.declared.source.TheConstants.{FRAME_LIMIT}
 
 -- ---- one record

@@ -8,7 +8,7 @@ use Rattle.capture_records.specs.Records.{Arrived}
 use Rattle.pcap_export.specs.declared.ways.Ways.{Ways}
 use Rattle.pcap_export.specs.Ways.{is_wanted}
 use Rattle.air_source.specs.Units.{other}
-use Rattle.fh_time.specs.declared.nanoseconds.TheConstants.{NANOSECOND}
+use Rattle.fh_base.specs.declared.nanoseconds.TheConstants.{NANOSECOND}
 
 -- the head of the file: the magic of nanoseconds, version 2.4, two numbers that are 0, records of at most 262,144 bytes, Ethernet
 abbrev pub file_head : List ℕ

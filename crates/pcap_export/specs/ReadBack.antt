@@ -10,7 +10,7 @@ use Rattle.pcap_frames.specs.Checked.{checked}
 use Rattle.pcap_frames.specs.Frames.{Timed, frames_of}
 use Rattle.pcap_export.specs.Packets.{address_of, ns_of}
 use Rattle.fh_base.specs.declared.source.TheConstants.{FRAME_LIMIT}
-use Rattle.fh_time.specs.declared.nanoseconds.TheConstants.{NANOSECOND}
+use Rattle.fh_base.specs.declared.nanoseconds.TheConstants.{NANOSECOND}
 
 -- an arrival from 0 to 1,000 s with a frame of at most 9,216 bytes
 pub record IsUsual (a : Arrived) : Type 0 where

@@ -3,7 +3,7 @@ ghost use Rattle.std.specs.Prelude.{◌≡◌, ◌≤◌, ◌<◌, ◌^◌, ◌*
 ghost use Rattle.pcap_export.specs.Packets.{ethernet_head, nanoseconds_of, record_head};
 
 use air_source::Side;
-use fh_time::{NANOSECOND, Ticks};
+use fh_base::{NANOSECOND, Ticks};
 
 /// The head of a file of nanoseconds, highest byte first: the magic, version 2.4, records of at most 262,144 bytes, and Ethernet.
 pub const HEAD: [u8; 24] = [

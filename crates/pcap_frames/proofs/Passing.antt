@@ -9,8 +9,8 @@ use Rattle.pcap_frames.specs.Wanted.{Wanted, wanted_of, one_before, wanted_from,
 use Rattle.pcap_frames.specs.Checked.{frame_fault, fault_of, passed_by, tested}
 use Rattle.pcap_frames.specs.Passes.{first_or, found_or, found_by, Passes}
 use Rattle.pcap_frames.proofs.Steps.{next, last, ended}
-use Rattle.pcapng_blocks.specs.declared.values.Interface.{Interface}
-use Rattle.pcapng_blocks.specs.Blocks.{Block}
+use Rattle.pcap_frames.specs.declared.pcapng_values.Interface.{Interface}
+use Rattle.pcap_frames.specs.Blocks.{Block}
 
 -- ---- the first time, and the fault, behind what a part may have of a wanted frame
 

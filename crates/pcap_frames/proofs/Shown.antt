@@ -10,10 +10,10 @@ use Rattle.pcap_frames.specs.Parts.{Opened, opened, parts_of}
 use Rattle.pcap_frames.specs.Wanted.{Wanted, wanted_of, one_before, wanted_from, wanted_through, wanted_frames, first_time}
 use Rattle.pcap_frames.specs.Checked.{in_range, frame_fault, fault_of, passed_by, tested, checked_by, checked}
 use Rattle.pcap_frames.specs.Frames.{timed_as, all_fine, AreShown}
-use Rattle.pcapng_blocks.specs.Blocks.{Block}
-use Rattle.fh_time.specs.declared.nanoseconds.TheConstants.{LAST_TIME}
+use Rattle.pcap_frames.specs.Blocks.{Block}
+use Rattle.fh_base.specs.declared.nanoseconds.TheConstants.{LAST_TIME}
 use Rattle.fh_base.specs.declared.source.TheConstants.{FRAME_LIMIT}
-use Rattle.fh_time.proofs.Orders.{left_true as and_left, right_true as and_right, both_true as and_both}
+use Rattle.fh_base.proofs.Orders.{left_true as and_left, right_true as and_right, both_true as and_both}
 
 tests : (b c : Bool) → is_none (cond b (Some LongFrame) (cond c None (Some TimeRange))) ≡ true → (b ≡ false) × (c ≡ true)
 tests true c e = absurd cc

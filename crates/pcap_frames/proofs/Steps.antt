@@ -3,7 +3,7 @@ use Rattle.std.proofs.Common.{◌≡◌, ℕ, zero, suc, ◌-◌, ◌<◌, ◌�
 use Rattle.std.proofs.lemmas.List.{drop_all, nil_from_length}
 use Rattle.pcap_frames.specs.declared.refusals.PcapWhy.{PcapWhy}
 use Rattle.pcap_frames.specs.Parts.{Reading, part_of, after, after_part, behind_first, parts_from}
-use Rattle.pcapng_blocks.specs.Blocks.{Block}
+use Rattle.pcap_frames.specs.Blocks.{Block}
 
 -- the first bytes belong to a part that was read
 pub skip : (r : Reading) (n : ℕ) (bytes : List ℕ) → n ≤ length bytes → parts_from r n bytes ≡ parts_from r 0 (drop n bytes)

@@ -12,8 +12,8 @@ use Rattle.pcap_frames.specs.Wanted.{wanted_of, one_before, wanted_from, wanted_
 use Rattle.pcap_frames.specs.Walks.{reading_of, left_in, later_in, IsWalk, Expects, IsBehind}
 use Rattle.pcap_frames.proofs.Steps.{next, last, ended}
 use Rattle.pcap_frames.proofs.Passing.{wanted_cons, wanted_end, interfaces_cons, interfaces_end}
-use Rattle.pcapng_blocks.specs.declared.values.Interface.{Interface}
-use Rattle.pcapng_blocks.specs.Blocks.{Block, Held, begins, adds, shows, nothing}
+use Rattle.pcap_frames.specs.declared.pcapng_values.Interface.{Interface}
+use Rattle.pcap_frames.specs.Blocks.{Block, Held, begins, adds, shows, nothing}
 
 -- the interfaces that are to come begin with that which a part adds
 later_is : (w : Walk) (part : Block) → IsWalk w → part_of (reading_of w) w.rest.now ≡ Ok part → 0 < part.size → part.size ≤ length w.rest.now

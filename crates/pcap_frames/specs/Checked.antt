@@ -6,8 +6,8 @@ use Rattle.pcap_frames.specs.declared.refusals.PcapWhy.TheVariants.{LongFrame, T
 use Rattle.pcap_frames.specs.declared.values.Whose.{Whose}
 use Rattle.pcap_frames.specs.Parts.{Opened, opened, parts_of}
 use Rattle.pcap_frames.specs.Wanted.{Wanted, wanted_of, wanted_from, first_time}
-use Rattle.pcapng_blocks.specs.Blocks.{Block}
-use Rattle.fh_time.specs.declared.nanoseconds.TheConstants.{LAST_TIME}
+use Rattle.pcap_frames.specs.Blocks.{Block}
+use Rattle.fh_base.specs.declared.nanoseconds.TheConstants.{LAST_TIME}
 use Rattle.fh_base.specs.declared.source.TheConstants.{FRAME_LIMIT}
 
 -- a time within 0 to 10^12 ns, START counted from the first frame that is wanted

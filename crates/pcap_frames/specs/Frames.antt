@@ -6,7 +6,7 @@ use Rattle.pcap_frames.specs.declared.values.PcapFrame.{PcapFrame}
 use Rattle.pcap_frames.specs.declared.values.Whose.{Whose}
 use Rattle.pcap_frames.specs.Wanted.{Wanted, wanted_frames, first_time}
 use Rattle.pcap_frames.specs.Checked.{frame_fault}
-use Rattle.fh_time.specs.declared.nanoseconds.TheConstants.{LAST_TIME}
+use Rattle.fh_base.specs.declared.nanoseconds.TheConstants.{LAST_TIME}
 use Rattle.fh_base.specs.declared.source.TheConstants.{FRAME_LIMIT}
 
 -- a frame, the unit that it goes to, and when it was seen, in nanoseconds

@@ -11,3 +11,9 @@ pub mod Passes
 pub mod Walks
 pub mod Finding
 pub mod Left
+pub mod Numbers
+pub mod Times
+pub mod Interfaces
+pub mod PcapngPackets
+pub mod Blocks
+pub mod Values

@@ -10,10 +10,10 @@ use Rattle.pcap_frames.specs.declared.wanted.Wanted.{Wanted}
 use Rattle.pcap_frames.specs.Files.{Recorded}
 use Rattle.pcap_frames.specs.Parts.{Reading, records, blocks, Opened}
 use Rattle.pcap_frames.specs.Wanted.{Wanted as Known}
-use Rattle.pcapng_blocks.specs.declared.values.Block.{Block}
-use Rattle.pcapng_blocks.specs.declared.values.Interface.{Interface}
-use Rattle.pcapng_blocks.specs.Blocks.{Block as Part}
-use Rattle.pcapng_blocks.specs.Values.{block_as}
+use Rattle.pcap_frames.specs.declared.pcapng_values.Block.{Block}
+use Rattle.pcap_frames.specs.declared.pcapng_values.Interface.{Interface}
+use Rattle.pcap_frames.specs.Blocks.{Block as Part}
+use Rattle.pcap_frames.specs.Values.{block_as}
 
 abbrev pub record_as : Record → Recorded
 record_as r = record { seconds = r.seconds; fraction = r.fraction; packet = r.bytes.now }

@@ -6,9 +6,9 @@ use Rattle.pcap_frames.specs.declared.refusals.PcapWhy.TheVariants.{Cut}
 use Rattle.pcap_frames.specs.declared.values.Format.{Format}
 use Rattle.pcap_frames.specs.Files.{Recorded, record_size, record_of, time_of, head_of}
 use Rattle.pcap_frames.specs.Refusals.{why_of}
-use Rattle.pcapng_blocks.specs.declared.refusals.BlockWhy.{BlockWhy}
-use Rattle.pcapng_blocks.specs.declared.values.Interface.{Interface}
-use Rattle.pcapng_blocks.specs.Blocks.{Block, Held, begins, adds, shows, nothing, is_section, block_of}
+use Rattle.pcap_frames.specs.declared.pcapng_refusals.BlockWhy.{BlockWhy}
+use Rattle.pcap_frames.specs.declared.pcapng_values.Interface.{Interface}
+use Rattle.pcap_frames.specs.Blocks.{Block, Held, begins, adds, shows, nothing, is_section, block_of}
 
 -- how what is left of a file is read: the order of bytes of a classic file and its unit of time, or the order of bytes of a section
 -- and the interfaces that it has so far

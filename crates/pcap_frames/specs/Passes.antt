@@ -7,7 +7,7 @@ use Rattle.pcap_frames.specs.Parts.{Reading, Opened, parts_from, parts_of, inter
 use Rattle.pcap_frames.specs.Packets.{reading_as}
 use Rattle.pcap_frames.specs.Wanted.{Wanted, wanted_from, first_time}
 use Rattle.pcap_frames.specs.Checked.{frame_fault, tested}
-use Rattle.pcapng_blocks.specs.declared.values.Interface.{Interface}
+use Rattle.pcap_frames.specs.declared.pcapng_values.Interface.{Interface}
 
 -- the first time, where one was found, or else this
 abbrev pub first_or : Option ℕ → ℕ → ℕ

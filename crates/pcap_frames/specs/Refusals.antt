@@ -3,8 +3,8 @@ use Rattle.std.specs.Prelude.{ℕ, List, codes}
 use Rattle.pcap_frames.specs.declared.refusals.PcapWhy.{PcapWhy}
 use Rattle.pcap_frames.specs.declared.refusals.PcapWhy.TheVariants.{Magic, Cut, OldPacket, NoInterface, LinkType, LongFrame, TimeRange}
 use Rattle.pcap_frames.specs.declared.refusals.PcapWhy.TheVariants as why
-use Rattle.pcapng_blocks.specs.declared.refusals.BlockWhy.{BlockWhy}
-use Rattle.pcapng_blocks.specs.declared.refusals.BlockWhy.TheVariants as block
+use Rattle.pcap_frames.specs.declared.pcapng_refusals.BlockWhy.{BlockWhy}
+use Rattle.pcap_frames.specs.declared.pcapng_refusals.BlockWhy.TheVariants as block
 
 -- the name under which a reason is printed
 abbrev pub name_of : PcapWhy → List ℕ

@@ -7,9 +7,9 @@ use Rattle.pcap_frames.specs.declared.walks.Step.{Step}
 use Rattle.pcap_frames.specs.Parts.{Reading, after, parts_from, added, interfaces_in, interfaces_of}
 use Rattle.pcap_frames.specs.Packets.{reading_as}
 use Rattle.pcap_frames.specs.Wanted.{wanted_of, one_before, wanted_from, wanted_frames}
-use Rattle.pcapng_blocks.specs.declared.values.Interface.{Interface}
-use Rattle.pcapng_blocks.specs.Blocks.{Block, Held, begins, adds, shows, nothing}
-use Rattle.pcapng_blocks.specs.Values.{held_as}
+use Rattle.pcap_frames.specs.declared.pcapng_values.Interface.{Interface}
+use Rattle.pcap_frames.specs.Blocks.{Block, Held, begins, adds, shows, nothing}
+use Rattle.pcap_frames.specs.Values.{held_as}
 
 -- how what is left is read, and the parts that are left
 abbrev pub reading_of : Walk → Reading

@@ -8,8 +8,8 @@ use Rattle.pcap_frames.specs.declared.values.Whose.{Whose}
 use Rattle.pcap_frames.specs.declared.values.Whose.TheVariants.{All, Port}
 use Rattle.pcap_frames.specs.Ethernet.{stands_at, ecpri_in}
 use Rattle.pcap_frames.specs.Parts.{Opened, opened, parts_of}
-use Rattle.pcapng_blocks.specs.Blocks.{Block, Held, begins, adds, shows, nothing}
-use Rattle.pcapng_blocks.specs.Packets.{Seen}
+use Rattle.pcap_frames.specs.Blocks.{Block, Held, begins, adds, shows, nothing}
+use Rattle.pcap_frames.specs.PcapngPackets.{Seen}
 
 -- a frame that is wanted: the unit that it goes to, and when its packet was seen
 pub record Wanted : Type 0 where

@@ -6,11 +6,12 @@ ghost use Rattle.pcap_frames.specs.Packets.{opened_as, wanted_as};
 ghost use Rattle.pcap_frames.specs.Parts.{opened};
 ghost use Rattle.pcap_frames.specs.Passes.{found_by};
 ghost use Rattle.pcap_frames.specs.Wanted.{wanted_of};
-ghost use Rattle.pcapng_blocks.specs.Values.{held_as};
+ghost use Rattle.pcap_frames.specs.Values.{held_as};
 
 use crate::heads::PcapHead;
 use crate::opening::{Opening, opening_of};
 use crate::parts::part;
+use crate::pcapng_values::Content;
 use crate::ranges::is_in_range;
 use crate::refusals::{PcapFault, PcapRefusal, PcapWhy};
 use crate::sections::Sections;
@@ -18,7 +19,6 @@ use crate::values::Whose;
 use crate::wanted::Wanted;
 use crate::wanting::wanted;
 use fh_base::FRAME_LIMIT;
-use pcapng_blocks::Content;
 use std::alloc::Global;
 
 // The fault of a frame that is wanted.

@@ -1,5 +1,5 @@
 // What the tests of a file found.
-use pcapng_blocks::Interface;
+use crate::pcapng_values::Interface;
 
 /// What the tests of a file found, with which its frames are read.
 #[derive(Drop)]

@@ -3,10 +3,10 @@ ghost use Rattle.std.specs.Prelude.{◌≡◌, ◌≤◌, length, IfOk};
 ghost use Rattle.pcap_frames.specs.Parts.{opened};
 ghost use Rattle.pcap_frames.specs.Packets.{opened_or_refused};
 
+use crate::blocks::SECTION;
 use crate::files::{HEAD, head};
 use crate::refusals::PcapRefusal;
 use crate::values::Layout;
-use pcapng_blocks::SECTION;
 
 /// How a file is read, and from which byte on.
 #[derive(Clone, Copy)]

@@ -4,10 +4,12 @@ ghost use Rattle.pcap_frames.specs.Files.{record_of};
 ghost use Rattle.pcap_frames.specs.Parts.{part_of, recorded};
 ghost use Rattle.pcap_frames.specs.Packets.{part_or_refused, reading_as};
 
+use crate::blocks::block;
+use crate::packet::Packet;
 use crate::packets::{RECORD, record_in, time};
+use crate::pcapng_values::{Block, Content, Interface};
 use crate::refusals::{PcapWhy, why_of};
 use crate::values::{Format, Layout};
-use pcapng_blocks::{Block, Content, Interface, Packet, block};
 
 // The record that the bytes begin with.
 #[inline(always)]

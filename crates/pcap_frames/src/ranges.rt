@@ -1,9 +1,9 @@
 // The range of times.
 ghost use Rattle.std.specs.Prelude.{◌≡◌, ◌≤◌, ◌<◌, ◌^◌, ◌+◌, ◌-◌, IsTrue};
 ghost use Rattle.pcap_frames.specs.Checked.{in_range};
-ghost use Rattle.fh_time.specs.declared.nanoseconds.TheConstants.{LAST_TIME};
+ghost use Rattle.fh_base.specs.declared.nanoseconds.TheConstants.{LAST_TIME};
 
-use fh_time::LAST_TIME;
+use fh_base::LAST_TIME;
 
 /// Whether a time, counted from the first and put behind the start, lies from 0 to 1,000,000,000,000 ns.
 pub fn is_in_range(first: u128, start: u64, time: u128) -> bool

@@ -3,8 +3,8 @@ ghost use Rattle.std.specs.Prelude.{◌≡◌, ◌≤◌, length};
 ghost use Rattle.pcap_frames.specs.Refusals.{name_of, why_of};
 ghost use Rattle.pcap_frames.specs.declared.refusals.PcapFault.TheVariants.{NoMemory as FaultNoMemory};
 
+use crate::pcapng_refusals::BlockWhy;
 use fh_base::NoMemory;
-use pcapng_blocks::BlockWhy;
 use thiserror::Error;
 
 /// What is wrong with a capture file.

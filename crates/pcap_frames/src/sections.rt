@@ -1,9 +1,9 @@
 // The interfaces of a file, as they are found.
 ghost use Rattle.std.specs.Prelude.{◌≡◌, ◌≤◌, ◌++◌, length, OnOk};
 
+use crate::pcapng_values::{Content, Interface};
 use crate::values::Layout;
 use fh_base::NoMemory;
-use pcapng_blocks::{Content, Interface};
 
 /// The interfaces of all sections so far, where those of the last begin, and how it is read.
 #[derive(Drop)]
@@ -16,7 +16,7 @@ pub struct Sections {
 impl Sections {
     ghost use Rattle.pcap_frames.specs.Parts.{after, added};
     ghost use Rattle.pcap_frames.specs.Passes.{interfaces_now, reading_now};
-    ghost use Rattle.pcapng_blocks.specs.Values.{held_as};
+    ghost use Rattle.pcap_frames.specs.Values.{held_as};
 
     /// The interfaces of the last section.
     pub fn now(&self) -> &[Interface]

@@ -9,9 +9,9 @@ ghost use Rattle.pcap_frames.specs.Walks.{IsBegun};
 use crate::heads::PcapHead;
 use crate::iterating::Frames;
 use crate::opening::opening_of;
+use crate::pcapng_values::Interface;
 use crate::values::{Layout, Whose};
 use crate::walks::Walk;
-use pcapng_blocks::Interface;
 
 // A walk over a file with these interfaces; nothing is left of one that is refused in its head.
 fn begun<'a>(bytes: &'a [u8], interfaces: &'a [Interface]) -> Walk<'a>

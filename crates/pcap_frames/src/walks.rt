@@ -2,8 +2,8 @@
 ghost use Rattle.std.specs.Prelude.{◌≤◌, ◌<◌, length, IfSome};
 
 use crate::parts::part;
+use crate::pcapng_values::{Content, Interface};
 use crate::values::Layout;
-use pcapng_blocks::{Content, Interface};
 
 /// What is left of a file, and the interfaces of the section that is read and of all later ones.
 #[derive(Clone, Copy)]
@@ -24,7 +24,7 @@ pub struct Step<'a> {
 
 impl<'a> Walk<'a> {
     ghost use Rattle.pcap_frames.specs.Walks.{IsWalk, Expects, IsBehind, Steps};
-    ghost use Rattle.pcapng_blocks.specs.Values.{held_as};
+    ghost use Rattle.pcap_frames.specs.Values.{held_as};
 
     // What is left behind a record or a block.
     fn behind(self, content: Content<'a>, size: usize) -> Walk<'a>

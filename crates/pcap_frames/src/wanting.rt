@@ -2,13 +2,13 @@
 ghost use Rattle.std.specs.Prelude.{◌≡◌, drop};
 ghost use Rattle.pcap_frames.specs.Wanted.{side_of, wanted_of};
 ghost use Rattle.pcap_frames.specs.Packets.{wanted_or_none};
-ghost use Rattle.pcapng_blocks.specs.Values.{held_as};
+ghost use Rattle.pcap_frames.specs.Values.{held_as};
 
 use crate::ethernet::{ecpri_in, stands_at};
+use crate::pcapng_values::Content;
 use crate::values::Whose;
 use crate::wanted::Wanted;
 use air_source::Side;
-use pcapng_blocks::Content;
 
 /// Where the destination of a packet stands, and its source.
 const DESTINATION: usize = 0;

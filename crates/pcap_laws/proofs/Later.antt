@@ -11,10 +11,10 @@ use Rattle.pcap_frames.specs.Ethernet.{ecpri_in}
 use Rattle.pcap_frames.specs.Wanted.{Wanted, side_of, wanted_by, wanted_in, one_before, first_time}
 use Rattle.pcap_frames.specs.Checked.{in_range, frame_fault}
 use Rattle.pcap_frames.specs.Frames.{Timed, timed_as}
-use Rattle.pcapng_blocks.specs.Packets.{Seen}
+use Rattle.pcap_frames.specs.PcapngPackets.{Seen}
 use Rattle.pcap_laws.specs.Laws.{HasPlace, later_by}
 use Rattle.pcap_laws.proofs.Shown.{wanted_seen, or_later, faults}
-use Rattle.fh_time.specs.declared.nanoseconds.TheConstants.{LAST_TIME}
+use Rattle.fh_base.specs.declared.nanoseconds.TheConstants.{LAST_TIME}
 use Rattle.fh_base.specs.declared.source.TheConstants.{FRAME_LIMIT}
 
 -- a frame whose time counts from later

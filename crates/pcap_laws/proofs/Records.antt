@@ -11,8 +11,8 @@ use Rattle.pcap_frames.specs.declared.values.Format.{Format}
 use Rattle.pcap_frames.specs.Files.{Recorded, word_of, kept_of, record_of, time_of, head_of}
 use Rattle.pcap_frames.specs.Parts.{records, recorded, parts_from, parts_of, Opened, opened, opened_behind}
 use Rattle.pcap_frames.proofs.Steps.{next}
-use Rattle.pcapng_blocks.specs.Blocks.{Block, shows}
-use Rattle.pcapng_blocks.specs.Packets.{Seen}
+use Rattle.pcap_frames.specs.Blocks.{Block, shows}
+use Rattle.pcap_frames.specs.PcapngPackets.{Seen}
 use Rattle.pcap_laws.specs.Shown.{packets_in, IsPart}
 use Rattle.pcap_laws.specs.Classic.{Recording, word_bytes, classic_head, record_head, record_bytes, classic_of}
 use Rattle.pcap_laws.specs.Laws.{HasPlace, later_by}

@@ -9,7 +9,7 @@ use Rattle.pcap_frames.specs.Parts.{Opened, opened, parts_of}
 use Rattle.pcap_frames.specs.Wanted.{wanted_from, wanted_through, wanted_frames, first_time}
 use Rattle.pcap_frames.specs.Checked.{checked}
 use Rattle.pcap_frames.specs.Frames.{timed_as, frames_of}
-use Rattle.pcapng_blocks.specs.Packets.{Seen}
+use Rattle.pcap_frames.specs.PcapngPackets.{Seen}
 use Rattle.pcap_laws.specs.Classic.{Recording, classic_of}
 use Rattle.pcap_laws.specs.Shown.{packets_in, packets_by, IsPart, IsFileBy}
 use Rattle.pcap_laws.specs.Laws.{HasPlace, IsWithin, later_by, reason_of, GivesTheSame, ClassicGivesTheSame}

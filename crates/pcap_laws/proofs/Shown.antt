@@ -7,8 +7,8 @@ use Rattle.pcap_frames.specs.declared.values.Whose.{Whose}
 use Rattle.pcap_frames.specs.Parts.{Opened, opened, parts_of}
 use Rattle.pcap_frames.specs.Wanted.{Wanted, wanted_in, wanted_of, one_before, wanted_from, first_time}
 use Rattle.pcap_frames.specs.Checked.{frame_fault, fault_of, fault_at, passed_by, size_of, tested, checked_by, checked}
-use Rattle.pcapng_blocks.specs.Blocks.{Block, Held, begins, adds, shows, nothing}
-use Rattle.pcapng_blocks.specs.Packets.{Seen}
+use Rattle.pcap_frames.specs.Blocks.{Block, Held, begins, adds, shows, nothing}
+use Rattle.pcap_frames.specs.PcapngPackets.{Seen}
 use Rattle.pcap_laws.specs.Shown.{shown, packets_in, IsPart, IsFileBy, IsFile}
 use Rattle.pcap_laws.specs.Laws.{reason_of}
 

@@ -4,7 +4,7 @@ use Rattle.std.specs.Prelude.{All, slice_index}
 use Rattle.std.proofs.lemmas.List.Elements.{All-head, All-tail}
 use Rattle.std.proofs.lemmas.Nat.{from_be_bytes-to_be_bytes_4, from_le_bytes-to_le_bytes_4}
 use Rattle.pcap_frames.specs.Files.{word_of}
-use Rattle.pcapng_blocks.specs.Numbers.{number}
+use Rattle.pcap_frames.specs.Numbers.{number}
 use Rattle.pcap_laws.specs.Classic.{word_bytes}
 
 -- what was written is read

@@ -2,7 +2,7 @@
 use Rattle.std.specs.Prelude.{ℕ, ◌-◌, ◌/◌, ◌%◌, ◌^◌, if◌then◌else◌, Bool, List, ◌++◌, length}
 use Rattle.std.specs.Int.{w16, w32, to_be_bytes, to_le_bytes}
 use Rattle.std.specs.List.{flat_map}
-use Rattle.pcapng_blocks.specs.Packets.{Seen}
+use Rattle.pcap_frames.specs.PcapngPackets.{Seen}
 
 -- a packet, and how many bytes it had before it was cut, as its record says: any number
 pub record Recording : Type 0 where

@@ -5,7 +5,7 @@ use Rattle.pcap_frames.specs.declared.refusals.PcapWhy.{PcapWhy}
 use Rattle.pcap_frames.specs.declared.values.Whose.{Whose}
 use Rattle.pcap_frames.specs.Checked.{checked}
 use Rattle.pcap_frames.specs.Frames.{frames_of}
-use Rattle.pcapng_blocks.specs.Packets.{Seen}
+use Rattle.pcap_frames.specs.PcapngPackets.{Seen}
 use Rattle.pcap_laws.specs.Classic.{Recording, classic_of}
 use Rattle.pcap_laws.specs.Shown.{packets_of, IsFile}
 

@@ -4,8 +4,8 @@ use Rattle.std.specs.List.{AllByRecursion}
 use Rattle.pcap_frames.specs.declared.refusals.PcapRefusal.{PcapRefusal}
 use Rattle.pcap_frames.specs.declared.refusals.PcapWhy.{PcapWhy}
 use Rattle.pcap_frames.specs.Parts.{Opened, opened, parts_of}
-use Rattle.pcapng_blocks.specs.Blocks.{Block, Held, begins, adds, shows, nothing}
-use Rattle.pcapng_blocks.specs.Packets.{Seen}
+use Rattle.pcap_frames.specs.Blocks.{Block, Held, begins, adds, shows, nothing}
+use Rattle.pcap_frames.specs.PcapngPackets.{Seen}
 
 -- the packet that a part shows
 abbrev pub shown : Held → List Seen

@@ -22,16 +22,16 @@ use Rattle.pcap_frames.specs.Files.{Recorded, word_of, kept_of, record_of}
 use Rattle.pcap_frames.specs.Frames.{Timed, timed_as, frames_of, IsShown, AreShown}
 use Rattle.pcap_frames.specs.Parts.{Reading, records, blocks, recorded, blocked, part_of, after_part, behind_first, parts_from, Opened, opened}
 use Rattle.pcap_frames.specs.Wanted.{Wanted, side_of, wanted_by, wanted_of, wanted_at, one_before, wanted_from, wanted_through, wanted_frames, first_time}
-use Rattle.pcapng_blocks.specs.declared.refusals.BlockWhy.{BlockWhy}
-use Rattle.pcapng_blocks.specs.declared.refusals.BlockWhy.TheVariants.{Cut, LinkType, OldPacket}
-use Rattle.pcapng_blocks.specs.declared.values.Interface.{Interface}
-use Rattle.pcapng_blocks.specs.Numbers.{number, padded}
-use Rattle.pcapng_blocks.specs.Times.{time_of}
-use Rattle.pcapng_blocks.specs.Interfaces.{interface_of}
-use Rattle.pcapng_blocks.specs.Packets.{Seen, count_of, packet_by, packet_of}
-use Rattle.pcapng_blocks.specs.Blocks.{Block, Held, begins, adds, shows, nothing, is_section, order_of, least_of, size_of, of_size, section_by, adding, showing, held_of, sized, other_by, other_of, block_of}
+use Rattle.pcap_frames.specs.declared.pcapng_refusals.BlockWhy.{BlockWhy}
+use Rattle.pcap_frames.specs.declared.pcapng_refusals.BlockWhy.TheVariants.{Cut, LinkType, OldPacket}
+use Rattle.pcap_frames.specs.declared.pcapng_values.Interface.{Interface}
+use Rattle.pcap_frames.specs.Numbers.{number, padded}
+use Rattle.pcap_frames.specs.Times.{time_of}
+use Rattle.pcap_frames.specs.Interfaces.{interface_of}
+use Rattle.pcap_frames.specs.PcapngPackets.{Seen, count_of, packet_by, packet_of}
+use Rattle.pcap_frames.specs.Blocks.{Block, Held, begins, adds, shows, nothing, is_section, order_of, least_of, size_of, of_size, section_by, adding, showing, held_of, sized, other_by, other_of, block_of}
 use Rattle.pcap_lines.specs.Texts.{line_text, lines_of, injection_of}
-use Rattle.fh_time.specs.declared.nanoseconds.TheConstants.{LAST_TIME}
+use Rattle.fh_base.specs.declared.nanoseconds.TheConstants.{LAST_TIME}
 use Rattle.air_source.specs.Units.{way_text}
 
 -- ---- the text

@@ -38,10 +38,6 @@ carried_pair w v u o p q a first second e h k = subst (λ (t : List ℕ). Carrie
 pub part_pair : (w v u : Option (List ℕ)) (o p a first second : List ℕ) → a ≡ first → Carried w o a v p → WritesPart v u (p ++ second) → WritesPart w u (o ++ (first ++ second))
 part_pair w v u o p a first second e h part = subst (λ (t : List ℕ). WritesPart w u (o ++ (t ++ second))) e (part_behind w o a v p second u h part)
 
--- from nothing that is owed
-pub first_part : (w v : Option (List ℕ)) (o all : List ℕ) → o ≡ [] → WritesPart w v (o ++ all) → WritesPart w v all
-first_part w v o all none part = subst (λ (t : List ℕ). WritesPart w v (t ++ all)) none part
-
 -- the first of two, by what it is
 pub part_named : (w v : Option (List ℕ)) (o a first rest : List ℕ) → a ≡ first → WritesPart w v (o ++ a) → WritesPart w v (o ++ (first ++ rest))
 part_named w v o a first rest e part = part_before w v o first rest (subst (λ (t : List ℕ). WritesPart w v (o ++ t)) e part)

@@ -8,7 +8,7 @@ use Rattle.fh_document.specs.LineWords.{frame_word}
 use Rattle.capture_records.specs.Records.{Arrived}
 use Rattle.pcap_frames.specs.Frames.{Timed}
 use Rattle.air_source.specs.Units.{way_text}
-use Rattle.fh_time.specs.declared.nanoseconds.TheConstants.{NANOSECOND}
+use Rattle.fh_base.specs.declared.nanoseconds.TheConstants.{NANOSECOND}
 
 -- what stands before a frame's word
 abbrev pub opening_text : Side → ℤ → List ℕ

@@ -9,11 +9,10 @@ ghost use Rattle.pcap_frames.specs.Checked.{checked};
 ghost use Rattle.pcap_frames.specs.Frames.{timed_of, frames_of, IsShown};
 ghost use Rattle.pcap_frames.specs.Heads.{IsHead};
 ghost use Rattle.pcap_lines.specs.Texts.{arrived_as};
-ghost use Rattle.fh_time.specs.declared.nanoseconds.TheConstants.{NANOSECOND};
+ghost use Rattle.fh_base.specs.declared.nanoseconds.TheConstants.{NANOSECOND};
 
 use capture_records::{MAGIC, record_head};
-use fh_base::{OwedBytes, Sink, SinkFault};
-use fh_time::of_ns;
+use fh_base::{OwedBytes, Sink, SinkFault, of_ns};
 use pcap_frames::{PcapFrame, PcapHead, Whose, frames};
 
 // What stands before a frame in its record.

@@ -1,13 +1,13 @@
 -- The rectangle of cells is inside their band.
 use Rattle.std.proofs.Common.{◌≡◌, ℕ, ◌+◌, ◌-◌, ◌*◌, ◌/◌, ◌<◌, ◌≤◌, List, true, max, min, ℤ, arith}
-use Rattle.picture_lines.specs.Scales.{scaled}
-use Rattle.grid_lines.specs.declared.cells.Cell.{Cell}
-use Rattle.grid_lines.specs.declared.endpoints.Endpoint.{Endpoint}
-use Rattle.grid_picture.specs.Areas.{area_of, band_of}
-use Rattle.grid_picture.specs.Frames.{duration_of}
-use Rattle.grid_picture.specs.Sizes.{height_of, pixels_of}
-use Rattle.grid_picture.specs.Spans.{IsSpan, begin_of, is_in, length_of, past, x_after}
-use Rattle.grid_picture.specs.declared.spans.Span.{Span}
+use Rattle.pictures.specs.Scales.{scaled}
+use Rattle.pictures.specs.declared.cells.Cell.{Cell}
+use Rattle.pictures.specs.declared.endpoints.Endpoint.{Endpoint}
+use Rattle.pictures.specs.Areas.{area_of, band_of}
+use Rattle.pictures.specs.Frames.{duration_of}
+use Rattle.pictures.specs.Sizes.{height_of, pixels_of}
+use Rattle.pictures.specs.Spans.{IsSpan, begin_of, is_in, length_of, past, x_after}
+use Rattle.pictures.specs.declared.spans.Span.{Span}
 use Rattle.picture_laws.specs.Inside.{IsInside}
 use Rattle.picture_laws.proofs.Bands.{band_first, band_last}
 use Rattle.picture_laws.proofs.Cells.{IsThere}

@@ -3,10 +3,10 @@ use Rattle.std.proofs.Common.{◌≡◌, ℕ, zero, suc, ◌+◌, ◌*◌, ◌<�
 use Rattle.std.specs.Prelude.{Some, if◌then◌else◌, slice_get, sum_by}
 use Rattle.std.proofs.lemmas.List.{take_all}
 use Rattle.std.proofs.lemmas.List.Sums.{sum_by-cons}
-use Rattle.grid_lines.specs.declared.cells.Cell.{Cell}
-use Rattle.grid_lines.specs.declared.endpoints.Endpoint.{Endpoint}
-use Rattle.grid_picture.specs.Areas.{band_of}
-use Rattle.grid_picture.specs.Sizes.{block_of, height_of, legend_of, step_of, top_of}
+use Rattle.pictures.specs.declared.cells.Cell.{Cell}
+use Rattle.pictures.specs.declared.endpoints.Endpoint.{Endpoint}
+use Rattle.pictures.specs.Areas.{band_of}
+use Rattle.pictures.specs.Sizes.{block_of, height_of, legend_of, step_of, top_of}
 
 -- a sum up to an item, and that item, are in the sum of all
 sum_before : (f : Endpoint → ℕ) (es : List Endpoint) (ep : ℕ) (e : Endpoint) → slice_get es ep ≡ Some e → sum_by f (take ep es) + f e ≤ sum_by f es

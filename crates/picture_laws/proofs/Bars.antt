@@ -3,10 +3,10 @@ use Rattle.std.proofs.Common.{◌≡◌, ℕ, zero, suc, ◌+◌, ◌*◌, ◌/�
 use Rattle.std.specs.Prelude.{if◌then◌else◌}
 use Rattle.std.specs.List.{fold}
 use Rattle.std.proofs.lemmas.Bool.{cases_lt}
-use Rattle.picture_lines.specs.Scales.{scaled}
-use Rattle.arrival_lines.specs.Counts.{no_counts}
-use Rattle.arrival_lines.specs.declared.tallies.Counts.{Counts}
-use Rattle.window_picture.specs.Bars.{height_of, most_of, sum_of}
+use Rattle.pictures.specs.Scales.{scaled}
+use Rattle.pictures.specs.Counts.{no_counts}
+use Rattle.pictures.specs.declared.tallies.Counts.{Counts}
+use Rattle.pictures.specs.Bars.{height_of, most_of, sum_of}
 
 -- ---- no column has more than the most
 

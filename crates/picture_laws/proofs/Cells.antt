@@ -1,37 +1,18 @@
 -- The cells of a line are some PRBs of an endpoint's carrier.
-use Rattle.std.proofs.Common.{◌≡◌, ℕ, ◌+◌, ◌-◌, ◌≤◌, List, Bool, true, false, ◌&&◌, nat_le, nat_lt, length, refl, subst, arith, codes}
+use Rattle.std.proofs.Common.{◌≡◌, ℕ, ◌+◌, ◌-◌, ◌≤◌, List, Bool, true, false, refl, subst, arith, codes}
 use Rattle.std.specs.Prelude.{Option, Some, None, if◌then◌else◌, slice_get}
-use Rattle.std.specs.Str.Parse.{digits_value}
-use Rattle.std.proofs.lemmas.Bool.Decides.{nat_tests}
-use Rattle.fh_base.specs.Numbers.{is_decimal, number_in, word_at}
-use Rattle.picture_lines.specs.Numbers.{taking, keyed, after}
-use Rattle.grid_lines.specs.Cells.{cell_of, cell_at, endpoint_at, is_cell_word, is_why_word, look_of_cell, look_of_why, prbs_in, start_at, symbol_in}
-use Rattle.grid_lines.specs.Endpoints.{with_id}
-use Rattle.grid_lines.specs.declared.cells.Cell.{Cell}
-use Rattle.grid_lines.specs.declared.cells.Look.{Look}
-use Rattle.grid_lines.specs.declared.endpoints.Endpoint.{Endpoint}
+use Rattle.fh_base.specs.Numbers.{word_at}
+use Rattle.pictures.specs.Numbers.{taking, keyed, after}
+use Rattle.pictures.specs.Cells.{cell_of, cell_at, endpoint_at, is_cell_word, is_why_word, look_of_cell, look_of_why, prbs_in, start_at, symbol_in}
+use Rattle.pictures.specs.Endpoints.{with_id}
+use Rattle.pictures.specs.declared.cells.Cell.{Cell}
+use Rattle.pictures.specs.declared.cells.Look.{Look}
+use Rattle.pictures.specs.declared.endpoints.Endpoint.{Endpoint}
+use Rattle.fh_base.proofs.CommonLemmas.{number_within}
 
 pub took : {A B : Type 0} (o : Option A) (next : A → Option B) (y : B) → taking o next ≡ Some y → (x : A) × (o ≡ Some x) × (next x ≡ Some y)
 took None next y e = cc
 took (Some x) next y e = (x, refl, e)
-
-pub at_least : (m n : ℕ) → nat_le m n ≡ true → m ≤ n
-at_least m n e = grind (arith, nat_tests)
-
-number_within : (most low high n : ℕ) (w : List ℕ) → number_in most low high w ≡ Some n → (low ≤ n) × (n ≤ high)
-number_within most low high n w e =
-    go (nat_lt 0 (length w)) (nat_le (length w) most) (is_decimal w) (nat_le low (digits_value 10 w)) (nat_le (digits_value 10 w) high) refl refl e
-  where
-    go : (a b d l h : Bool) → nat_le low (digits_value 10 w) ≡ l → nat_le (digits_value 10 w) high ≡ h
-        → (if a && (b && (d && (l && h))) then Some (digits_value 10 w) else None) ≡ Some n → (low ≤ n) × (n ≤ high)
-    go true true true true true is_low is_high e =
-        let same : digits_value 10 w ≡ n = cc e in
-        subst (λ (k : ℕ). (low ≤ k) × (k ≤ high)) same (at_least low (digits_value 10 w) is_low, at_least (digits_value 10 w) high is_high)
-    go true true true true false is_low is_high e = cc
-    go true true true false h is_low is_high e = cc
-    go true true false l h is_low is_high e = cc
-    go true false d l h is_low is_high e = cc
-    go false b d l h is_low is_high e = cc
 
 -- of one of the endpoints, and in its carrier
 pub record IsThere (es : List Endpoint) (c : Cell) : Type 0 where

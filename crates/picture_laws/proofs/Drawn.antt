@@ -4,18 +4,18 @@ use Rattle.std.specs.Prelude.{Option, Some, None, if◌then◌else◌}
 use Rattle.std.specs.List.{flat_map}
 use Rattle.std.proofs.lemmas.Grind.{flat_map-append}
 use Rattle.line_words.specs.Words.{words_of}
-use Rattle.grid_lines.specs.Cells.{cell_of}
-use Rattle.grid_lines.specs.declared.cells.Cell.{Cell}
-use Rattle.grid_lines.specs.declared.cells.Look.{Look}
-use Rattle.grid_lines.specs.declared.cells.Look.TheVariants.{Shown, Missing, Why}
-use Rattle.grid_lines.specs.declared.endpoints.Endpoint.{Endpoint}
-use Rattle.svg_elements.specs.declared.rects.Area.{Area}
-use Rattle.grid_picture.specs.Areas.{area_of}
-use Rattle.grid_picture.specs.Bands.{head_text, foot_text}
-use Rattle.grid_picture.specs.Looks.{cell_text, line_text, looks_text, cells_text as drawn_of}
-use Rattle.grid_picture.specs.Picture.{cells_text, grid_picture}
-use Rattle.grid_picture.specs.Spans.{is_in}
-use Rattle.grid_picture.specs.declared.spans.Span.{Span}
+use Rattle.pictures.specs.Cells.{cell_of}
+use Rattle.pictures.specs.declared.cells.Cell.{Cell}
+use Rattle.pictures.specs.declared.cells.Look.{Look}
+use Rattle.pictures.specs.declared.cells.Look.TheVariants.{Shown, Missing, Why}
+use Rattle.pictures.specs.declared.endpoints.Endpoint.{Endpoint}
+use Rattle.pictures.specs.declared.rects.Area.{Area}
+use Rattle.pictures.specs.Areas.{area_of}
+use Rattle.pictures.specs.Bands.{head_text, foot_text}
+use Rattle.pictures.specs.Looks.{cell_text, line_text, looks_text, cells_text as drawn_of}
+use Rattle.pictures.specs.Picture.{cells_text, grid_picture}
+use Rattle.pictures.specs.Spans.{is_in}
+use Rattle.pictures.specs.declared.spans.Span.{Span}
 use Rattle.picture_laws.specs.Drawn.{IsOf}
 use Rattle.picture_laws.specs.Laws.{LinesAreDrawn, PicturesAreLines, parts_of}
 use Rattle.picture_laws.proofs.Areas.{inside}

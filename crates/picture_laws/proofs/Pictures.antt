@@ -1,15 +1,15 @@
 -- A picture is of line feeds and printable ASCII.
 use Rattle.std.proofs.Common.{◌≡◌, ℕ, List, refl, subst}
 use Rattle.std.specs.Prelude.{Result, Ok, Err}
-use Rattle.picture_lines.specs.declared.faults.TextWhy.{TextWhy}
-use Rattle.arrival_lines.specs.Rows.{rows_of}
-use Rattle.arrival_lines.specs.Text.{arrivals_of}
-use Rattle.arrival_lines.specs.declared.arrivals.Arrival.{Arrival}
-use Rattle.arrival_lines.specs.declared.windows.Windows.{Windows}
-use Rattle.grid_lines.specs.Text.{grid_of}
-use Rattle.grid_lines.specs.declared.endpoints.Endpoint.{Endpoint}
-use Rattle.grid_picture.specs.Picture.{grid_picture, picture_for as grid_for}
-use Rattle.window_picture.specs.Picture.{windows_picture, picture_for as windows_for}
+use Rattle.pictures.specs.declared.faults.TextWhy.{TextWhy}
+use Rattle.pictures.specs.Rows.{rows_of}
+use Rattle.pictures.specs.ArrivalText.{arrivals_of}
+use Rattle.pictures.specs.declared.arrivals.Arrival.{Arrival}
+use Rattle.pictures.specs.declared.windows.Windows.{Windows}
+use Rattle.pictures.specs.Text.{grid_of}
+use Rattle.pictures.specs.declared.endpoints.Endpoint.{Endpoint}
+use Rattle.pictures.specs.Picture.{grid_picture, picture_for as grid_for}
+use Rattle.pictures.specs.WindowPicture.{windows_picture, picture_for as windows_for}
 use Rattle.picture_laws.specs.Laws.{GridsArePlain, WindowsArePlain, WindowsHavePanels}
 use Rattle.picture_laws.specs.Parts.{HasPanels}
 use Rattle.picture_laws.specs.Plain.{IsPlain}
@@ -17,7 +17,7 @@ use Rattle.picture_laws.proofs.PlainGrids.{grid_plain}
 use Rattle.picture_laws.proofs.PlainReadings.{grid_read}
 use Rattle.picture_laws.proofs.PlainWindows.{windows_plain}
 use Rattle.picture_laws.proofs.WindowParts.{windows_made}
-use Rattle.window_picture.proofs.Drawn.{rows_columns}
+use Rattle.pictures.proofs.Drawn.{rows_columns}
 
 pub grids_are_plain : GridsArePlain
 grids_are_plain s text picture h = go (grid_of text) refl h

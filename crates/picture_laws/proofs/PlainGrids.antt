@@ -2,29 +2,29 @@
 use Rattle.std.proofs.Common.{◌≡◌, ℕ, ◌+◌, ◌*◌, ◌/◌, ◌%◌, List, [], ◌∷◌, Bool, true, false, ◌&&◌, ◌==◌, cond, nat_le, nat_lt, length, refl, codes}
 use Rattle.std.specs.Prelude.{Option, Some, None, filter}
 use Rattle.std.specs.List.{flat_map, onto_first, slice_split}
-use Rattle.fh_time.specs.Numbering.{code_of, slots_of}
-use Rattle.fh_time.specs.declared.nanoseconds.TheConstants.{NANOSECOND}
-use Rattle.fh_time.specs.declared.symbols.TheConstants.{SUBFRAME}
-use Rattle.fh_time.proofs.Orders.{left_true, right_true}
+use Rattle.fh_base.specs.Numbering.{code_of, slots_of}
+use Rattle.fh_base.specs.declared.nanoseconds.TheConstants.{NANOSECOND}
+use Rattle.fh_base.specs.declared.symbols.TheConstants.{SUBFRAME}
+use Rattle.fh_base.proofs.Orders.{left_true, right_true}
 use Rattle.line_words.specs.Words.{is_text, words_of}
-use Rattle.grid_lines.specs.Cells.{cell_of}
-use Rattle.grid_lines.specs.Classes.{class_name}
-use Rattle.grid_lines.specs.declared.cells.Cell.{Cell}
-use Rattle.grid_lines.specs.declared.cells.Look.{Look}
-use Rattle.grid_lines.specs.declared.cells.Look.TheVariants.{Shown, Missing, Why}
-use Rattle.grid_lines.specs.declared.classes.Class.{Class}
-use Rattle.grid_lines.specs.declared.classes.Class.TheVariants.{Late, Early, Unfinished, Other, Refused, Repeated, Command, NoData}
-use Rattle.grid_lines.specs.declared.endpoints.Endpoint.{Endpoint}
-use Rattle.svg_elements.specs.declared.rects.Area.{Area}
-use Rattle.svg_elements.specs.declared.texts.Anchor.TheVariants.{Start, End}
-use Rattle.grid_picture.specs.Areas.{area_of}
-use Rattle.grid_picture.specs.Bands.{band_text, bands_text, block_text, column_text, columns_text, entry_text, first_text, foot_text, from_text, head_text, hint_text, label_text, legend_text, lines_text, note_text, scs_name, second_text, slot_name, slot_text, slots_text, span_title, third_text, title_text}
-use Rattle.grid_picture.specs.Frames.{slot_begin}
-use Rattle.grid_picture.specs.Looks.{line_text, looks_text, shown_name, title_of, cells_text as drawn_of}
-use Rattle.grid_picture.specs.Picture.{cells_text, grid_picture}
-use Rattle.grid_picture.specs.Sizes.{block_of, height_of, legend_of, step_of}
-use Rattle.grid_picture.specs.Spans.{begin_of, is_in, x_after}
-use Rattle.grid_picture.specs.declared.spans.Span.{Span}
+use Rattle.pictures.specs.Cells.{cell_of}
+use Rattle.pictures.specs.Classes.{class_name}
+use Rattle.pictures.specs.declared.cells.Cell.{Cell}
+use Rattle.pictures.specs.declared.cells.Look.{Look}
+use Rattle.pictures.specs.declared.cells.Look.TheVariants.{Shown, Missing, Why}
+use Rattle.pictures.specs.declared.classes.Class.{Class}
+use Rattle.pictures.specs.declared.classes.Class.TheVariants.{Late, Early, Unfinished, Other, Refused, Repeated, Command, NoData}
+use Rattle.pictures.specs.declared.endpoints.Endpoint.{Endpoint}
+use Rattle.pictures.specs.declared.rects.Area.{Area}
+use Rattle.pictures.specs.declared.texts.Anchor.TheVariants.{Start, End}
+use Rattle.pictures.specs.Areas.{area_of}
+use Rattle.pictures.specs.Bands.{band_text, bands_text, block_text, column_text, columns_text, entry_text, first_text, foot_text, from_text, head_text, hint_text, label_text, legend_text, lines_text, note_text, scs_name, second_text, slot_name, slot_text, slots_text, span_title, third_text, title_text}
+use Rattle.pictures.specs.Frames.{slot_begin}
+use Rattle.pictures.specs.Looks.{line_text, looks_text, shown_name, title_of, cells_text as drawn_of}
+use Rattle.pictures.specs.Picture.{cells_text, grid_picture}
+use Rattle.pictures.specs.Sizes.{block_of, height_of, legend_of, step_of}
+use Rattle.pictures.specs.Spans.{begin_of, is_in, x_after}
+use Rattle.pictures.specs.declared.spans.Span.{Span}
 use Rattle.picture_laws.specs.Plain.{IsPlain, is_plain_byte}
 use Rattle.picture_laws.specs.Laws.{parts_of}
 use Rattle.picture_laws.proofs.PlainTexts.{lit, ◌⊕◌, byte_plain, closing_plain, down_plain, each_plain, hatched_plain, number_plain, opening_plain, plain_cons, plain_if, rect_plain, text_plain, titled_plain}

@@ -2,24 +2,25 @@
 use Rattle.std.proofs.Common.{◌≡◌, ℕ, ◌+◌, ◌≤◌, List, [], ◌∷◌, ◌++◌, Bool, true, false, ◌&&◌, ◌||◌, ◌==◌, nat_le, length, refl, subst, arith, codes}
 use Rattle.std.specs.Prelude.{Option, Some, None, Result, Ok, Err, if◌then◌else◌}
 use Rattle.std.specs.Str.{bytes_eq}
-use Rattle.fh_time.specs.declared.carrier.TheConstants.{CARRIER_PRBS}
-use Rattle.fh_time.proofs.Orders.{left_true, right_true}
+use Rattle.fh_base.specs.declared.carrier.TheConstants.{CARRIER_PRBS}
+use Rattle.fh_base.proofs.Orders.{left_true, right_true}
 use Rattle.fh_base.specs.Numbers.{word_at}
 use Rattle.line_words.specs.Words.{is_text, words_of}
-use Rattle.picture_lines.specs.Numbers.{is_id, is_lower_hex, numeral, taking}
-use Rattle.picture_lines.specs.Refusals.{going_on, head_line, is_end, or_line}
-use Rattle.picture_lines.specs.declared.faults.TextWhy.{TextWhy}
-use Rattle.picture_lines.specs.declared.faults.TextWhy.TheVariants as why
-use Rattle.grid_lines.specs.Cells.{cell_of, is_cell_word, is_why_word}
-use Rattle.grid_lines.specs.Endpoints.{endpoint_in, id_of, is_method, is_mode, numerology_in}
-use Rattle.grid_lines.specs.Text.{cell_line, endpoint_line, grid_of, has_id, later_line, line_of, read_from, same_after, start, used_line, words_line}
-use Rattle.grid_lines.specs.declared.endpoints.Endpoint.{Endpoint}
-use Rattle.grid_lines.specs.declared.list.TheConstants.{MOST_ENDPOINTS}
+use Rattle.pictures.specs.Numbers.{is_id, is_lower_hex, numeral, taking}
+use Rattle.pictures.specs.Refusals.{going_on, head_line, is_end, or_line}
+use Rattle.pictures.specs.declared.faults.TextWhy.{TextWhy}
+use Rattle.pictures.specs.declared.faults.TextWhy.TheVariants as why
+use Rattle.pictures.specs.Cells.{cell_of, is_cell_word, is_why_word}
+use Rattle.pictures.specs.Endpoints.{endpoint_in, id_of, is_method, is_mode, numerology_in}
+use Rattle.pictures.specs.Text.{cell_line, endpoint_line, grid_of, has_id, later_line, line_of, read_from, same_after, start, used_line, words_line}
+use Rattle.pictures.specs.declared.endpoints.Endpoint.{Endpoint}
+use Rattle.pictures.specs.declared.list.TheConstants.{MOST_ENDPOINTS}
 use Rattle.picture_laws.specs.Laws.{parts_of}
 use Rattle.picture_laws.specs.Plain.{IsPlain, is_plain_byte}
-use Rattle.picture_laws.proofs.Cells.{at_least, took}
+use Rattle.picture_laws.proofs.Cells.{took}
 use Rattle.picture_laws.proofs.PlainGrids.{AreNamed, AreText}
 use Rattle.picture_laws.proofs.PlainTexts.{byte_within, lit, plain_cons}
+use Rattle.fh_base.proofs.CommonLemmas.{at_least}
 
 -- what the lines before a line say, whose type has no name here
 abbrev type_of : {A : Type 0} → A → Type 0

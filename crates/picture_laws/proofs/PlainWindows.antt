@@ -3,18 +3,18 @@ use Rattle.std.proofs.Common.{ℕ, ◌+◌, ◌-◌, List, [], ◌++◌, Bool, t
 use Rattle.std.specs.Prelude.{Option, Some, None, max, slice_index_or}
 use Rattle.picture_laws.specs.Plain.{IsPlain}
 use Rattle.picture_laws.proofs.PlainTexts.{lit, ◌⊕◌, across_plain, closing_plain, down_plain, each_plain, number_plain, opening_plain, plain_if, rect_plain, signed_plain, spaced_plain, text_plain}
-use Rattle.svg_elements.specs.declared.texts.Anchor.TheVariants.{Start, Middle, End}
-use Rattle.arrival_lines.specs.Counts.{no_counts}
-use Rattle.arrival_lines.specs.Tallies.{Tally}
-use Rattle.arrival_lines.specs.declared.rows.Rows.{Rows}
-use Rattle.arrival_lines.specs.declared.tallies.Counts.{Counts}
-use Rattle.arrival_lines.specs.declared.windows.Window.{Window}
-use Rattle.arrival_lines.specs.declared.windows.Windows.{Windows}
-use Rattle.window_picture.specs.Axis.{after_of, before_of, nth_tick, place_of, tick_text, ticks_text, time_of}
-use Rattle.window_picture.specs.Bars.{bar_text, bars_text, column_text, height_of, most_of, nth_column}
-use Rattle.window_picture.specs.Labels.{count_part, counts_text, least_text, or_nothing, sections_text}
-use Rattle.window_picture.specs.Picture.{colours_note, commands_text, counts_note, data_text, foot_text, head_text, start_of, windows_picture, zero_text}
-use Rattle.window_picture.specs.Rows.{awaited_name, first_of, last_of, row_text, sent_name, window_text}
+use Rattle.pictures.specs.declared.texts.Anchor.TheVariants.{Start, Middle, End}
+use Rattle.pictures.specs.Counts.{no_counts}
+use Rattle.pictures.specs.Tallies.{Tally}
+use Rattle.pictures.specs.declared.rows.Rows.{Rows}
+use Rattle.pictures.specs.declared.tallies.Counts.{Counts}
+use Rattle.pictures.specs.declared.windows.Window.{Window}
+use Rattle.pictures.specs.declared.windows.Windows.{Windows}
+use Rattle.pictures.specs.Axis.{after_of, before_of, nth_tick, place_of, tick_text, ticks_text, time_of}
+use Rattle.pictures.specs.Bars.{bar_text, bars_text, column_text, height_of, most_of, nth_column}
+use Rattle.pictures.specs.Labels.{count_part, counts_text, least_text, or_nothing, sections_text}
+use Rattle.pictures.specs.WindowPicture.{colours_note, commands_text, counts_note, data_text, foot_text, head_text, start_of, windows_picture, zero_text}
+use Rattle.pictures.specs.WindowRows.{awaited_name, first_of, last_of, row_text, sent_name, window_text}
 
 -- the windows of a row, whose type has no name here
 abbrev fourth_of : {A B C D E F : Type 0} → (A → B → C → D → E → F) → Type 0

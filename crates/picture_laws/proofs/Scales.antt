@@ -3,9 +3,9 @@ use Rattle.std.proofs.Common.{◌≡◌, ℕ, ◌+◌, ◌-◌, ◌*◌, ◌<◌
 use Rattle.std.specs.Prelude.{if◌then◌else◌}
 use Rattle.std.proofs.lemmas.Bool.Decides.{nat_tests}
 use Rattle.std.proofs.lemmas.Int.{ints}
-use Rattle.picture_lines.specs.Scales.{or_zero, scaled}
-use Rattle.picture_lines.proofs.Scaling.{part_most}
-use Rattle.grid_picture.specs.Areas.{width_of}
+use Rattle.pictures.specs.Scales.{or_zero, scaled}
+use Rattle.pictures.proofs.Scaling.{part_most}
+use Rattle.pictures.specs.Areas.{width_of}
 
 -- a number under the whole stands before the end
 pub before_end : (n w p : ℕ) → n < w → 0 < p → scaled n w p < p

@@ -3,24 +3,24 @@ use Rattle.std.proofs.Common.{◌≡◌, ℕ, ◌+◌, ◌-◌, ◌<◌, ◌≤�
 use Rattle.std.specs.Prelude.{Option, Some, None, max, slice_index_or, if◌then◌else◌}
 use Rattle.std.specs.Fmt.{signed_decimal}
 use Rattle.std.proofs.lemmas.Bool.Decides.{nat_tests}
-use Rattle.svg_elements.specs.Elements.{rect_text}
-use Rattle.svg_elements.specs.Opening.{closing_text, opening_text}
-use Rattle.svg_elements.specs.declared.rects.Area.{Area}
-use Rattle.svg_elements.specs.declared.texts.Anchor.TheVariants.{Start, Middle, End}
-use Rattle.arrival_lines.specs.Counts.{no_counts}
-use Rattle.arrival_lines.specs.Tallies.{Tally}
-use Rattle.arrival_lines.specs.Windows.{column_of, far_of, near_of}
-use Rattle.arrival_lines.specs.declared.arrivals.Kind.{Kind}
-use Rattle.arrival_lines.specs.declared.arrivals.Kind.TheVariants.{OnTime, Late, Early}
-use Rattle.arrival_lines.specs.declared.rows.Rows.{Rows}
-use Rattle.arrival_lines.specs.declared.tallies.Counts.{Counts}
-use Rattle.arrival_lines.specs.declared.windows.Window.{Window as Range}
-use Rattle.arrival_lines.specs.declared.windows.Windows.{Windows}
-use Rattle.window_picture.specs.Axis.{after_of, before_of, nth_tick, place_of, tick_text, ticks_text, time_of}
-use Rattle.window_picture.specs.Bars.{bar_text, bars_text, column_text, height_of, most_of, nth_column, sum_of}
-use Rattle.window_picture.specs.Labels.{count_part, counts_text, least_text, or_nothing, sections_text}
-use Rattle.window_picture.specs.Picture.{HasColumns, colours_note, commands_text, counts_note, data_text, foot_text, head_text, start_of, windows_picture, zero_text}
-use Rattle.window_picture.specs.Rows.{awaited_name, first_of, last_of, row_text, sent_name, window_text}
+use Rattle.pictures.specs.Elements.{rect_text}
+use Rattle.pictures.specs.Opening.{closing_text, opening_text}
+use Rattle.pictures.specs.declared.rects.Area.{Area}
+use Rattle.pictures.specs.declared.texts.Anchor.TheVariants.{Start, Middle, End}
+use Rattle.pictures.specs.Counts.{no_counts}
+use Rattle.pictures.specs.Tallies.{Tally}
+use Rattle.pictures.specs.Windows.{column_of, far_of, near_of}
+use Rattle.pictures.specs.declared.arrivals.Kind.{Kind}
+use Rattle.pictures.specs.declared.arrivals.Kind.TheVariants.{OnTime, Late, Early}
+use Rattle.pictures.specs.declared.rows.Rows.{Rows}
+use Rattle.pictures.specs.declared.tallies.Counts.{Counts}
+use Rattle.pictures.specs.declared.windows.Window.{Window as Range}
+use Rattle.pictures.specs.declared.windows.Windows.{Windows}
+use Rattle.pictures.specs.Axis.{after_of, before_of, nth_tick, place_of, tick_text, ticks_text, time_of}
+use Rattle.pictures.specs.Bars.{bar_text, bars_text, column_text, height_of, most_of, nth_column, sum_of}
+use Rattle.pictures.specs.Labels.{count_part, counts_text, least_text, or_nothing, sections_text}
+use Rattle.pictures.specs.WindowPicture.{HasColumns, colours_note, commands_text, counts_note, data_text, foot_text, head_text, start_of, windows_picture, zero_text}
+use Rattle.pictures.specs.WindowRows.{awaited_name, first_of, last_of, row_text, sent_name, window_text}
 use Rattle.picture_laws.specs.Parts.{Across, Bar, Down, HasPanels, IsMadeOf, IsMere, IsWithin, Panel, Part, Window, Words, bar_name, page, part_text, row_panel, whole}
 use Rattle.picture_laws.proofs.Bars.{heights_most, sum_most}
 use Rattle.picture_laws.proofs.Parts.{◌⊗◌, ◌⊙◌, each_made, made_none, made_one, mere, mere_if, number_mere, signed_mere, spaced_mere}

@@ -1,18 +1,18 @@
 -- What a line of the text draws.
 use Rattle.std.specs.Prelude.{◌≡◌, ℕ, List, [], ◌++◌, Bool, true, false, Some, None}
 use Rattle.line_words.specs.Words.{words_of}
-use Rattle.grid_lines.specs.Cells.{cell_of}
-use Rattle.grid_lines.specs.Classes.{class_name}
-use Rattle.grid_lines.specs.declared.cells.Cell.{Cell}
-use Rattle.grid_lines.specs.declared.cells.Look.{Look}
-use Rattle.grid_lines.specs.declared.cells.Look.TheVariants.{Shown, Missing, Why}
-use Rattle.grid_lines.specs.declared.endpoints.Endpoint.{Endpoint}
-use Rattle.svg_elements.specs.Elements.{rect_text, titled_text, hatched_text}
-use Rattle.svg_elements.specs.declared.rects.Area.{Area}
-use Rattle.grid_picture.specs.Areas.{area_of}
-use Rattle.grid_picture.specs.Looks.{shown_name, title_of}
-use Rattle.grid_picture.specs.Spans.{is_in}
-use Rattle.grid_picture.specs.declared.spans.Span.{Span}
+use Rattle.pictures.specs.Cells.{cell_of}
+use Rattle.pictures.specs.Classes.{class_name}
+use Rattle.pictures.specs.declared.cells.Cell.{Cell}
+use Rattle.pictures.specs.declared.cells.Look.{Look}
+use Rattle.pictures.specs.declared.cells.Look.TheVariants.{Shown, Missing, Why}
+use Rattle.pictures.specs.declared.endpoints.Endpoint.{Endpoint}
+use Rattle.pictures.specs.Elements.{rect_text, titled_text, hatched_text}
+use Rattle.pictures.specs.declared.rects.Area.{Area}
+use Rattle.pictures.specs.Areas.{area_of}
+use Rattle.pictures.specs.Looks.{shown_name, title_of}
+use Rattle.pictures.specs.Spans.{is_in}
+use Rattle.pictures.specs.declared.spans.Span.{Span}
 use Rattle.picture_laws.specs.Inside.{IsInside}
 
 -- One rectangle of the class: with the words of the line as its title where these say why, and then hatched where no command was accepted.

@@ -1,10 +1,10 @@
 -- Where the rectangle of cells stands.
 use Rattle.std.specs.Prelude.{◌+◌, ◌≤◌, ◌<◌, List}
-use Rattle.grid_lines.specs.declared.cells.Cell.{Cell}
-use Rattle.grid_lines.specs.declared.endpoints.Endpoint.{Endpoint}
-use Rattle.svg_elements.specs.declared.rects.Area.{Area}
-use Rattle.grid_picture.specs.Areas.{band_of}
-use Rattle.grid_picture.specs.Sizes.{height_of, legend_of}
+use Rattle.pictures.specs.declared.cells.Cell.{Cell}
+use Rattle.pictures.specs.declared.endpoints.Endpoint.{Endpoint}
+use Rattle.pictures.specs.declared.rects.Area.{Area}
+use Rattle.pictures.specs.Areas.{band_of}
+use Rattle.pictures.specs.Sizes.{height_of, legend_of}
 
 -- it has at least one pixel, and lies in the columns of the subframes and in its band, which stands above the legend
 pub record IsInside (es : List Endpoint) (c : Cell) (a : Area) : Type 0 where

@@ -2,13 +2,13 @@
 use Rattle.std.specs.Prelude.{◌≡◌, ℕ, List, ◌∷◌, ◌++◌, ◌==◌, Ok}
 use Rattle.std.specs.List.{flat_map, slice_split}
 use Rattle.line_words.specs.Words.{without_last_feed}
-use Rattle.grid_lines.specs.declared.endpoints.Endpoint.{Endpoint}
-use Rattle.grid_picture.specs.Bands.{head_text, foot_text}
-use Rattle.grid_picture.specs.Looks.{line_text}
-use Rattle.grid_picture.specs.Picture.{grid_picture, drawn as grid_drawn}
-use Rattle.grid_picture.specs.Spans.{IsSpan}
-use Rattle.grid_picture.specs.declared.spans.Span.{Span}
-use Rattle.window_picture.specs.Picture.{drawn as windows_drawn}
+use Rattle.pictures.specs.declared.endpoints.Endpoint.{Endpoint}
+use Rattle.pictures.specs.Bands.{head_text, foot_text}
+use Rattle.pictures.specs.Looks.{line_text}
+use Rattle.pictures.specs.Picture.{grid_picture, drawn as grid_drawn}
+use Rattle.pictures.specs.Spans.{IsSpan}
+use Rattle.pictures.specs.declared.spans.Span.{Span}
+use Rattle.pictures.specs.WindowPicture.{drawn as windows_drawn}
 use Rattle.picture_laws.specs.Drawn.{IsDrawn}
 use Rattle.picture_laws.specs.Parts.{HasPanels}
 use Rattle.picture_laws.specs.Plain.{IsPlain}

@@ -1,12 +1,12 @@
 -- The parts of the picture of windows, and where each stands.
 use Rattle.std.specs.Prelude.{◌≡◌, ℕ, ◌+◌, ◌≤◌, List, ◌++◌, Bool, true, not, ◌&&◌, ◌||◌, ◌==◌, nat_le, codes}
 use Rattle.std.specs.List.{All, flat_map, list_all}
-use Rattle.arrival_lines.specs.declared.arrivals.Kind.{Kind}
-use Rattle.arrival_lines.specs.declared.arrivals.Kind.TheVariants.{OnTime, Late, Early}
-use Rattle.svg_elements.specs.Elements.{across_text, down_text, rect_text, text_text}
-use Rattle.svg_elements.specs.Opening.{closing_text, opening_text}
-use Rattle.svg_elements.specs.declared.rects.Area.{Area}
-use Rattle.svg_elements.specs.declared.texts.Anchor.{Anchor}
+use Rattle.pictures.specs.declared.arrivals.Kind.{Kind}
+use Rattle.pictures.specs.declared.arrivals.Kind.TheVariants.{OnTime, Late, Early}
+use Rattle.pictures.specs.Elements.{across_text, down_text, rect_text, text_text}
+use Rattle.pictures.specs.Opening.{closing_text, opening_text}
+use Rattle.pictures.specs.declared.rects.Area.{Area}
+use Rattle.pictures.specs.declared.texts.Anchor.{Anchor}
 
 -- a window, a bar of arrivals of a kind, a straight line of a class from a point downwards or to the right, or a text at a point
 pub data Part : Type 0 where

@@ -5,7 +5,7 @@ use Rattle.std.proofs.lemmas.List.{at_drop_more, at_drop_all}
 use Rattle.std.proofs.lemmas.Option.{slice_get-get_or}
 use Rattle.unit_model.specs.Blocks.{timely, has_all, every_data_cell, data_slot, first_data_prb, data_prb_count, data_covers, block_in, block_at}
 use Rattle.unit_model.specs.Claims.{cell_at, is_from, same_way, same_slot}
-use Rattle.unit_model.specs.Lists.{every, or_else}
+use Rattle.fh_base.specs.Lists.{every, or_else}
 use Rattle.unit_model.specs.Sound.{IsSoundData}
 use Rattle.unit_model.specs.declared.cells.Block.{Block}
 use Rattle.unit_model.specs.declared.cells.Cell.{Cell}

@@ -3,7 +3,7 @@ use Rattle.std.proofs.Common.{◌≡◌, ℕ, ◌+◌, ◌-◌, ◌<◌, ◌≤�
 use Rattle.std.specs.Prelude.{Option, Some, None, if◌then◌else◌, is_some}
 use Rattle.std.proofs.lemmas.List.{at_drop_more, at_drop_all}
 use Rattle.unit_model.specs.Claims.{names, claim_of, claim_at, cell_of, in_mask, is_under, is_other, is_claimed, is_overlapped, first_prb, prb_count, repeats, overlaps, every_cell, some_cell}
-use Rattle.unit_model.specs.Lists.{every, some}
+use Rattle.fh_base.specs.Lists.{every, some}
 use Rattle.unit_model.specs.declared.allocations.Allocation.{Allocation}
 use Rattle.unit_model.specs.declared.cells.Cell.{Cell}
 use Rattle.unit_model.specs.declared.cells.Claim.{Claim}

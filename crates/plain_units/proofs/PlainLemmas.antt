@@ -18,7 +18,7 @@ use Rattle.ecpri_frames.specs.Messages.{Message as WholeMessage, pdu}
 use Rattle.unit_model.specs.Blocks.{timely, data_class, data_verdict, data_verdicts, with_timely}
 use Rattle.unit_model.specs.Commands.{accepted, command_verdict, command_verdicts, with_accepted}
 use Rattle.unit_model.specs.Counts.{data_counter, refusal_counted, decoded_counted, fragment_counter, piece_counted, messages_counted, frames_counted, commands_counted, data_counted, counted_of}
-use Rattle.unit_model.specs.Lists.{onto}
+use Rattle.fh_base.specs.Lists.{onto}
 use Rattle.unit_model.specs.Decoding.{Decoded, decode, sections_of, data_told, decoded_now, data_now, data_sections}
 use Rattle.unit_model.specs.Meetings.{Arrival, Meeting, met_in, Ignored, Commands, Piece, commands, fragments}
 use Rattle.plain_units.specs.Owned.{owned, IsTaken}

@@ -5,7 +5,7 @@ use Rattle.std.specs.List.{flat_map}
 use Rattle.std.proofs.lemmas.Bool.{or_parts}
 use Rattle.std.proofs.Math.Nat.{pow-le-pow_right}
 use Rattle.std.proofs.Math.Path.{fun_ext}
-use Rattle.fh_time.specs.declared.values.Slot.{Slot}
+use Rattle.fh_base.specs.declared.values.Slot.{Slot}
 use Rattle.unit_model.specs.Terms.{Side, Delays, EndpointConfig, is_down}
 use Rattle.unit_model.specs.Claims.{cell_at, same_slot, same_way, is_from, first_prb, prb_count, in_mask, names, claim_of, claim_at}
 use Rattle.unit_model.specs.Radiated.{Known, known_of, is_used, used_below, id_or, id_from, report_of, cell_report, symbol_report, reported, first_clock, wait_of}
@@ -18,9 +18,10 @@ use Rattle.unit_model.specs.declared.cells.Cell.{Cell}
 use Rattle.unit_model.specs.declared.cells.Claim.{Claim}
 use Rattle.unit_model.specs.declared.decoded.UserSection.{UserSection}
 use Rattle.unit_model.specs.declared.symbol_start.SymbolStart.{SymbolStart}
-use Rattle.unit_model.proofs.SweepLaws.{each_none, each_same, sweep_flat}
-use Rattle.fh_time.proofs.Orders.{bit_small}
+use Rattle.unit_model.proofs.SweepLaws.{sweep_flat}
+use Rattle.fh_base.proofs.Orders.{bit_small}
 use Rattle.unit_model.proofs.ClaimLemmas.{none_used}
+use Rattle.fh_base.proofs.EachLemmas.{each_none, each_same}
 
 -- ---- the mask and the section id of a cell
 

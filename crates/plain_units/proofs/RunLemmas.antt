@@ -9,7 +9,7 @@ use Rattle.fault_counters.specs.Counts.{capped, count_of, once, times}
 use Rattle.unit_model.specs.Blocks.{data_verdicts}
 use Rattle.unit_model.specs.Commands.{command_verdicts}
 use Rattle.unit_model.specs.Counts.{StandAt, block_counter, cells_counted, commands_counted, data_counted, frames_counted, messages_counted, counted_of}
-use Rattle.unit_model.specs.Lists.{onto}
+use Rattle.fh_base.specs.Lists.{onto}
 use Rattle.unit_model.specs.Meetings.{Arrival, Meeting, Ignored, Commands, Piece, meet, met_in, meetings, commands}
 use Rattle.plain_units.specs.Plain.{arrival_of, arrivals_after, arrivals_of}
 use Rattle.unit_model.specs.Reports.{hold_of, met, commands_of, data_of, arrivals_counted}

@@ -7,10 +7,10 @@ use Rattle.std.proofs.lemmas.Bool.{cases_lt, and_parts, eqb-true, leb-true, ltb-
 use Rattle.std.proofs.lemmas.Int.{ints}
 use Rattle.std.proofs.lemmas.List.{at_drop_more, at_drop_all}
 use Rattle.std.proofs.lemmas.List.Elements.{All-more, All-weaker, All-head, All-tail}
-use Rattle.fh_time.specs.declared.values.Slot.{Slot}
-use Rattle.fh_time.specs.declared.values.Ticks.{Ticks}
-use Rattle.fh_time.specs.Air.{air_of}
-use Rattle.fh_time.specs.Numbering.{slots_of, symbols_of}
+use Rattle.fh_base.specs.declared.values.Slot.{Slot}
+use Rattle.fh_base.specs.declared.values.Ticks.{Ticks}
+use Rattle.fh_base.specs.Air.{air_of}
+use Rattle.fh_base.specs.Numbering.{slots_of, symbols_of}
 use Rattle.unit_model.specs.Terms.{EndpointConfig}
 use Rattle.unit_model.specs.Claims.{same_slot, same_way, is_from}
 use Rattle.unit_model.specs.Proper.{IsAt, IsProperAllocation}
@@ -19,8 +19,9 @@ use Rattle.unit_model.specs.Starts.{start_at}
 use Rattle.unit_model.specs.Sweeps.{OfSymbol, slot_at, of_slot, of_subframe, of_frame, of_endpoint, of_endpoints, at_tick, sweep}
 use Rattle.unit_model.specs.declared.allocations.Allocation.{Allocation}
 use Rattle.unit_model.specs.declared.symbol_start.SymbolStart.{SymbolStart}
-use Rattle.unit_model.proofs.SweepLaws.{each_none, endpoints_none, sweep_quiet, sweep_next}
+use Rattle.unit_model.proofs.SweepLaws.{endpoints_none, sweep_quiet, sweep_next}
 use Rattle.unit_model.proofs.ClaimLemmas.{same_way_is, same_slot_is}
+use Rattle.fh_base.proofs.EachLemmas.{each_none}
 
 -- ---- the next start
 

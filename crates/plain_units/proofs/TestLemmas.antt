@@ -1,6 +1,6 @@
 -- Loops over numbers that test each of them, or look for one.
 use Rattle.std.proofs.Common.{◌≡◌, ℕ, suc, ◌+◌, ◌-◌, ◌<◌, ◌≤◌, Bool, true, false, ◌&&◌, ◌||◌, ap, ◌∙◌, arith}
-use Rattle.unit_model.specs.Lists.{every, some}
+use Rattle.fh_base.specs.Lists.{every, some}
 
 -- as it begins
 pub every_begins : (from n : ℕ) (p : ℕ → Bool) → every from n p ≡ every from (from + n - from) p

@@ -1,10 +1,10 @@
 -- The symbols in which something is claimed.
 use Rattle.std.specs.Prelude.{◌≡◌, ℕ, ℤ, ◌+◌, ◌<◌, ◌≤◌, ◌<ℤ◌, ◌≤ℤ◌, ◌==◌, ◌&&◌, ◌||◌, Bool, false, if◌then◌else◌, List, [], ◌∷◌, Option, Some, None}
 use Rattle.std.specs.Ordering.{int_eq}
-use Rattle.fh_time.specs.declared.values.Slot.{Slot}
-use Rattle.fh_time.specs.declared.values.Ticks.{Ticks}
-use Rattle.fh_time.specs.Air.{air_of}
-use Rattle.fh_time.specs.Numbering.{symbols_of}
+use Rattle.fh_base.specs.declared.values.Slot.{Slot}
+use Rattle.fh_base.specs.declared.values.Ticks.{Ticks}
+use Rattle.fh_base.specs.Air.{air_of}
+use Rattle.fh_base.specs.Numbering.{symbols_of}
 use Rattle.unit_model.specs.Claims.{same_slot, same_way, is_from}
 use Rattle.unit_model.specs.Proper.{IsSlot}
 use Rattle.unit_model.specs.Sweeps.{OfSymbol}

@@ -1,7 +1,7 @@
 // What accepted sections claim of a cell's elements.
 ghost use Rattle.std.specs.Prelude.{◌≡◌, ◌<◌, not, ◌&&◌, ◌||◌, is_some};
 ghost use Rattle.unit_model.specs.Claims.{same_way, first_prb, prb_count, covers, in_mask, names, claim_of, claim_at, cell_of, is_under, is_other, is_claimed, is_overlapped, repeats, overlaps};
-ghost use Rattle.unit_model.specs.Lists.{every, some};
+ghost use Rattle.fh_base.specs.Lists.{every, some};
 ghost use Rattle.unit_model.specs.Sound.{IsSoundAllocation};
 
 use unit_model::{Allocation, Cell, Claim, is_from, same_slot};

@@ -1,7 +1,7 @@
 // The verdicts on sections of commands.
 ghost use Rattle.std.specs.Prelude.{◌≡◌, ◌+◌, ◌≤◌, ◌==◌, ◌&&◌, List};
-ghost use Rattle.fh_time.specs.Numbering.{symbols_of};
-ghost use Rattle.fh_time.specs.Carrier.{is_outside};
+ghost use Rattle.fh_base.specs.Numbering.{symbols_of};
+ghost use Rattle.fh_base.specs.Carrier.{is_outside};
 ghost use Rattle.unit_model.specs.Terms.{IsWithinLimits, EndpointConfig};
 ghost use Rattle.unit_model.specs.Claims.{same_slot};
 ghost use Rattle.unit_model.specs.Commands.{is_uplink, uplink_in, is_full, timely_verdict, command_verdict, allocation_of};
@@ -9,7 +9,7 @@ ghost use Rattle.unit_model.specs.Proper.{IsProperCommand, IsProperAllocation};
 ghost use Rattle.unit_model.specs.Sound.{IsSoundCommand};
 
 use crate::claims::{overlaps, repeats};
-use fh_time::Slot;
+use fh_base::Slot;
 use unit_model::{
     Allocation, CommandVerdict, ControlSection, SLOT_SECTIONS, allocation_of, command_class,
     is_for, is_uplink, same_slot,

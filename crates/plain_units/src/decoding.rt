@@ -1,7 +1,7 @@
 // A whole U-plane message, read.
 ghost use Rattle.std.specs.Prelude.{◌≡◌, List as Items, All, IfOk, map};
 ghost use Rattle.bfp_codec.specs.Layout.{HasWidth};
-ghost use Rattle.fh_time.specs.Numbering.{shape_of};
+ghost use Rattle.fh_base.specs.Numbering.{shape_of};
 ghost use Rattle.uplane_sections.specs.Messages.{told};
 ghost use Rattle.unit_model.specs.Terms.{EndpointConfig as SpecEndpoint};
 ghost use Rattle.unit_model.specs.Decoding.{nothing_told, gathered, data_with, decoded_with, decode as decoded, sections_of};
@@ -10,8 +10,7 @@ ghost use Rattle.unit_model.specs.Proper.{IsAt, IsTime, IsProperData};
 
 use crate::gathering::{Gathered, Part};
 use air_source::Side;
-use fh_base::NoMemory;
-use fh_time::{Ticks, shape};
+use fh_base::{NoMemory, Ticks, shape};
 use std::alloc::Global;
 use unit_model::UserSection;
 use uplane_sections::{UFeed, UHead, URefusal, UWalker};

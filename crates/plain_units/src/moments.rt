@@ -2,7 +2,7 @@
 ghost use Rattle.std.specs.Prelude.{◌≡◌, ℕ, ℤ, pos, neg_ℤ, ◌+◌, ◌^◌, ◌≤◌, ◌<◌, ◌≤ℤ◌, ◌<ℤ◌, All, IfSome, MatchOption, length};
 ghost use Rattle.plain_units.specs.ClaimedStarts.{HasStarts, IsNotMissed, OfEachSymbol, IsQuiet};
 
-use fh_time::{Ticks, air};
+use fh_base::{Ticks, air};
 use unit_model::Allocation;
 
 /// The earlier one of the next start so far and a start, where this is not before a tick.

@@ -11,7 +11,7 @@ ghost use Rattle.unit_model.specs.declared.decoded.ControlSection.{ControlSectio
 ghost use Rattle.unit_model.specs.declared.decoded.UserSection.{UserSection as SpecUserSection};
 ghost use Rattle.unit_model.specs.Blocks.{with_timely};
 ghost use Rattle.unit_model.specs.Commands.{with_accepted, allocation_of};
-ghost use Rattle.unit_model.specs.Lists.{onto};
+ghost use Rattle.fh_base.specs.Lists.{onto};
 ghost use Rattle.unit_model.specs.Counts.{decoded_counted, refusal_counted, piece_counted};
 ghost use Rattle.unit_model.specs.Decoding.{decode as decoded, data_now, data_told, sections_of};
 ghost use Rattle.unit_model.specs.Meetings.{Arrival, Meeting, meetings, commands_with, fragment_with, meet as met_by_definition};
@@ -31,8 +31,7 @@ use cplane_sections::CHead;
 use ecpri_fragments::{Assembly, SeqField};
 use ecpri_frames::{WholeMessage, messages};
 use fault_counters::{Counter, Counters};
-use fh_base::{List, NoMemory};
-use fh_time::{Ticks, of_ns};
+use fh_base::{List, NoMemory, Ticks, of_ns};
 use std::alloc::Global;
 use unit_model::{
     Allocation, CommandVerdict, ControlSection, DataVerdict, Met, UserSection, allocation_of,

@@ -7,8 +7,7 @@ ghost use Rattle.unit_model.specs.Proper.{IsAt, IsTime, IsProperCommand};
 ghost use Rattle.unit_model.specs.Terms.{EndpointConfig as SpecEndpoint};
 
 use cplane_sections::{CHead, sections};
-use fh_base::NoMemory;
-use fh_time::Ticks;
+use fh_base::{NoMemory, Ticks};
 use std::alloc::Global;
 use unit_model::ControlSection;
 use window_config::EndpointConfig;

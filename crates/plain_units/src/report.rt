@@ -1,8 +1,7 @@
 // What a unit answers to frames.
 use air_source::AirCell;
 use fault_counters::Counters;
-use fh_base::{Bytes, List};
-use fh_time::Ticks;
+use fh_base::{Bytes, List, Ticks};
 use unit_model::{CommandVerdict, DataVerdict, UplinkJob};
 
 /// A frame, one eCPRI PDU, and when it arrives.

@@ -4,7 +4,7 @@ ghost use Rattle.unit_model.specs.Blocks.{data_slot, data_start};
 ghost use Rattle.unit_model.specs.Proper.{IsSlot};
 ghost use Rattle.unit_model.specs.Sound.{IsSoundData};
 
-use fh_time::{Slot, Ticks, air, resolve};
+use fh_base::{Slot, Ticks, air, resolve};
 use unit_model::UserSection;
 
 /// The slot that data names, by the frame nearest to its last arrival.

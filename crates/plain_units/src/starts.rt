@@ -1,6 +1,6 @@
 // The symbols in which something is claimed, in the order of a sweep.
 ghost use Rattle.std.specs.Prelude.{◌≡◌, pos, neg_ℤ, ◌+ℤ◌, ◌+◌, ◌^◌, ◌<◌, ◌≤◌, ◌≤ℤ◌, ◌<ℤ◌, ◌++◌, All, IfOk, OnOk, length};
-ghost use Rattle.fh_time.specs.Numbering.{slots_of, symbols_of};
+ghost use Rattle.fh_base.specs.Numbering.{slots_of, symbols_of};
 ghost use Rattle.unit_model.specs.Proper.{IsProperAllocation, IsSlot};
 ghost use Rattle.plain_units.specs.ClaimedStarts.{is_claimed_way, is_claimed_in, is_of_frame, names_frame, claimed_start};
 ghost use Rattle.unit_model.specs.Starts.{start_at};
@@ -8,8 +8,7 @@ ghost use Rattle.unit_model.specs.Sweeps.{slot_at, first_swept, of_symbol, of_sl
 
 use crate::claims::same_way;
 use crate::moments::next_before;
-use fh_base::NoMemory;
-use fh_time::{FRAME, Slot, Ticks, air, shape};
+use fh_base::{FRAME, NoMemory, Slot, Ticks, air, shape};
 use std::alloc::Global;
 use unit_model::{Allocation, SymbolStart, is_from, same_slot};
 use window_config::EndpointConfig;

@@ -6,8 +6,7 @@ ghost use Rattle.ecpri_fragments.specs.Pieces.{joined};
 ghost use Rattle.plain_units.specs.Owned.{owned, IsTaken};
 
 use ecpri_fragments::{Assembly, Lease, SeqField, Taken, Verdict};
-use fh_base::{Bytes, NoMemory};
-use fh_time::Ticks;
+use fh_base::{Bytes, NoMemory, Ticks};
 use std::alloc::Global;
 
 /// A whole message: when the first and the last of its pieces arrived, and their bytes in order.

@@ -3,17 +3,17 @@ use Rattle.std.proofs.Common.{◌≡◌, ℕ, zero, suc, ◌-◌, ◌<◌, ◌^�
 use Rattle.std.specs.Int.{bit_at}
 use Rattle.std.proofs.lemmas.Bool.{cases_Bool, or_cases, and_parts, and_from, or_left, or_right, eq-eqb}
 use Rattle.std.proofs.lemmas.Nat.Bits.{bit_at-lt, bit_at-zero, same_from_bits_below}
-use Rattle.unit_model.specs.Lists.{every, some}
+use Rattle.fh_base.specs.Lists.{every, some}
 use Rattle.unit_model.specs.Claims.{same_slot, same_way, is_from, first_prb, prb_count, covers, in_mask, names, claim_of, claim_at, cell_of, every_cell, some_cell, is_other, is_overlapped, overlaps}
 use Rattle.unit_model.specs.declared.allocations.Allocation.{Allocation}
 use Rattle.unit_model.specs.declared.cells.Cell.{Cell}
 use Rattle.unit_model.specs.declared.cells.Claim.{Claim}
-use Rattle.fragment_laws.specs.Apart.{IsIn}
 use Rattle.plan_model.specs.Validity.{IsProper, ranges_meet, share_cell, share_bit, clash}
 use Rattle.plan_model.proofs.RangeLemmas.{Found, found, meet_from}
 use Rattle.plan_model.proofs.SlotLemmas.{eqb_swap}
 use Rattle.unit_model.proofs.ClaimLemmas.{is_in as is_from_in, way_self as way_own, slot_self as slot_own, every_at, some_one, some_not, covers_is}
-use Rattle.fh_time.proofs.Options.{some_is}
+use Rattle.fh_base.proofs.Options.{some_is}
+use Rattle.fh_base.specs.Members.{IsIn}
 
 -- ---- a cell that both cover
 

@@ -1,6 +1,6 @@
 -- The definitions compute what was worked out by hand.
 use Rattle.std.proofs.Common.{refl}
-use Rattle.unit_model.specs.Lists.{each, put_in, in_order, some}
+use Rattle.fh_base.specs.Lists.{each, put_in, in_order, some}
 use Rattle.plan_model.specs.Examples.{PacksAreAsWorked, NumbersAreAsWorked, DeparturesAreAsWorked, RefusalsAreAsWorked, PartsAreAsWorked, DenseAreAsWorked, nineteen}
 use Rattle.plan_model.specs.Dense.{first_near}
 use Rattle.plan_model.specs.Lines.{planned_from}

@@ -9,3 +9,11 @@ pub mod SlotLemmas
 pub mod ClashLemmas
 pub mod SizeLemmas
 pub mod PackLemmas
+pub mod ScheduleClashLemmas
+pub mod AcceptedLemmas
+pub mod PlanLemmas
+pub mod SweptLists
+pub mod TimeLemmas
+pub mod SchedulePackLemmas
+pub mod SentLemmas
+pub mod LineLemmas

@@ -3,7 +3,7 @@ use Rattle.std.proofs.Common.{◌≡◌, ℕ, ◌+◌, ◌*◌, ◌≤◌, Bool,
 use Rattle.std.proofs.lemmas.List.{map-append}
 use Rattle.std.proofs.lemmas.List.Sums.{sum_by-append}
 use Rattle.std.proofs.lemmas.Bool.{and_parts, eqb-true, leb-true, ltb-true}
-use Rattle.fh_time.specs.declared.values.Slot.{Slot}
+use Rattle.fh_base.specs.declared.values.Slot.{Slot}
 use Rattle.unit_model.specs.Claims.{same_slot}
 use Rattle.unit_model.specs.Terms.{MESSAGE_BYTES}
 use Rattle.plan_model.specs.Packs.{Message, PartFields, alone, parts_of, same_symbol, frames_before, takes, with_part}

@@ -1,7 +1,7 @@
 -- Tests over a range of numbers by a witness, and intervals that meet.
 use Rattle.std.proofs.Common.{◌≡◌, ℕ, zero, suc, ◌+◌, ◌<◌, ◌≤◌, max, inl, inr, Bool, true, nat_lt, arith}
 use Rattle.std.proofs.lemmas.Bool.{or_cases, and_parts, and_from, ltb-true, lt-ltb}
-use Rattle.unit_model.specs.Lists.{some}
+use Rattle.fh_base.specs.Lists.{some}
 use Rattle.unit_model.specs.Claims.{is_from}
 use Rattle.plan_model.specs.Validity.{ranges_meet}
 use Rattle.unit_model.proofs.ClaimLemmas.{starts_before as from_low, is_in as is_from_in, from_within as from_high}

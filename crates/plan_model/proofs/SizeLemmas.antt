@@ -3,12 +3,12 @@ use Rattle.std.proofs.Common.{◌≡◌, ℕ, ◌+◌, ◌-◌, ◌*◌, ◌/◌
 use Rattle.std.proofs.Math.Nat.{mul-le-mul, div-lt_iff_lt-mul}
 use Rattle.std.proofs.lemmas.Bool.{cases_lt}
 use Rattle.std.proofs.lemmas.Bool.Decides.{nat_tests}
-use Rattle.fh_time.specs.Carrier.{is_outside, count_of}
+use Rattle.fh_base.specs.Carrier.{is_outside, count_of}
 use Rattle.bfp_codec.specs.Layout.{HasWidth, length_of}
 use Rattle.uplane_sections.proofs.Widths.{most_length}
 use Rattle.window_config.specs.declared.endpoints.EndpointConfig.{EndpointConfig}
 use Rattle.plan_model.specs.Streams.{section_size}
-use Rattle.fh_time.specs.declared.carrier.TheConstants.{CARRIER_PRBS}
+use Rattle.fh_base.specs.declared.carrier.TheConstants.{CARRIER_PRBS}
 use Rattle.window_config.specs.declared.config.TheConstants.{LEAST_FRAGMENT}
 use Rattle.unit_model.specs.Terms.{MESSAGE_BYTES}
 

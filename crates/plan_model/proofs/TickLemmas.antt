@@ -4,8 +4,8 @@ use Rattle.std.specs.Ordering.{int_eq, int_cmp, nat_cmp}
 use Rattle.std.specs.declared.cmp.Ordering.TheVariants.{Equal}
 use Rattle.std.proofs.lemmas.Bool.Decides.{Decides-int_eq, nat_tests}
 use Rattle.std.proofs.lemmas.Int.{ints}
-use Rattle.unit_model.specs.Lists.{each_tick}
-use Rattle.fh_time.proofs.Orders.{not_eq}
+use Rattle.fh_base.specs.Lists.{each_tick}
+use Rattle.fh_base.proofs.Orders.{not_eq}
 
 pub int_cases : (a b : ℤ) → (a ≡ b) ⊎ (int_eq a b ≡ false)
 int_cases a b = go (int_eq a b) refl

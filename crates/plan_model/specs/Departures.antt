@@ -2,7 +2,7 @@
 -- between frames is this project's profile). All in ticks.
 use Rattle.std.specs.Prelude.{ℕ, ℤ, pos, neg_ℤ, ◌+◌, ◌*◌, ◌+ℤ◌, min}
 use Rattle.std.specs.Int.{int_gap}
-use Rattle.fh_time.specs.Air.{air_of}
+use Rattle.fh_base.specs.Air.{air_of}
 use Rattle.window_config.specs.Windows.{ticks_of_ns, cp_dl_of}
 use Rattle.window_config.specs.declared.config.Config.{Config}
 use Rattle.window_config.specs.declared.delays.Delays.{Delays}

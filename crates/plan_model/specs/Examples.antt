@@ -1,10 +1,10 @@
 -- The definitions at values that were worked out by hand. Endpoints have id 0, no compression and a static format; where nothing else
 -- is said, the times are the usual ones (T1a of data 234,000 to 345,000 ns, gap 1,000 ns) and a frame carries 1,492 bytes.
 use Rattle.std.specs.Prelude.{◌≡◌, refl, ℕ, ℤ, pos, ◌+◌, ◌*◌, false, List, [], ◌∷◌, map, Option, Some, None}
-use Rattle.fh_time.specs.Numbering.{ordinary_at}
-use Rattle.fh_time.specs.declared.numerology.Numerology.{Numerology}
-use Rattle.fh_time.specs.declared.spacing.Spacing.TheVariants.{Khz30}
-use Rattle.fh_time.specs.declared.values.Slot.{Slot}
+use Rattle.fh_base.specs.Numbering.{ordinary_at}
+use Rattle.fh_base.specs.declared.numerology.Numerology.{Numerology}
+use Rattle.fh_base.specs.declared.spacing.Spacing.TheVariants.{Khz30}
+use Rattle.fh_base.specs.declared.values.Slot.{Slot}
 use Rattle.bfp_codec.specs.declared.methods.Method.TheVariants.{Plain}
 use Rattle.window_config.specs.Usual.{usual_delays}
 use Rattle.window_config.specs.declared.config.Config.{Config}
@@ -12,7 +12,7 @@ use Rattle.window_config.specs.declared.endpoints.EndpointConfig.{EndpointConfig
 use Rattle.window_config.specs.declared.plan.PlanKind.{PlanKind}
 use Rattle.window_config.specs.declared.plan.PlanKind.TheVariants.{Down, Up, Idle}
 use Rattle.window_config.specs.declared.plan.PlanLine.{PlanLine}
-use Rattle.unit_model.specs.Lists.{each}
+use Rattle.fh_base.specs.Lists.{each}
 use Rattle.plan_model.specs.Dense.{down_distance, up_distance, dense_in, lesser}
 use Rattle.plan_model.specs.declared.dense.Sending.{Sending}
 use Rattle.plan_model.specs.Departures.{departure, departures_of}
@@ -23,7 +23,7 @@ use Rattle.plan_model.specs.Validity.{first_refused}
 use Rattle.plan_model.specs.declared.refusals.PlanWhy.{PlanWhy}
 use Rattle.plan_model.specs.declared.refusals.PlanWhy.TheVariants.{UnknownEndpoint, Range, Overlap}
 use Rattle.plan_model.specs.declared.streams.Stream.TheVariants.{DownCommands, UpCommands, DownData, UpData}
-use Rattle.fh_time.specs.declared.frames.TheConstants.{FRAME}
+use Rattle.fh_base.specs.declared.frames.TheConstants.{FRAME}
 use Rattle.unit_model.specs.Terms.{piece_count}
 
 abbrev pub endpoint_of : Numerology → ℕ → EndpointConfig

@@ -8,3 +8,4 @@ pub mod Sent
 pub mod Dense
 pub mod Valid
 pub mod Examples
+pub mod SentOrder

@@ -2,7 +2,7 @@
 -- frames leave before a message's own (O-RAN.WG4.CUS, U-plane messages and sequence identifiers; the cut is this project's
 -- profile). A part is anything that has a slot, a symbol, a filterIndex and a length.
 use Rattle.std.specs.Prelude.{ℕ, ◌+◌, Bool, ◌&&◌, ◌==◌, nat_lt, nat_le, if◌then◌else◌, List, [], ◌∷◌, ◌++◌, length, map, sum}
-use Rattle.fh_time.specs.declared.values.Slot.{Slot}
+use Rattle.fh_base.specs.declared.values.Slot.{Slot}
 use Rattle.unit_model.specs.Claims.{same_slot}
 use Rattle.unit_model.specs.Terms.{MESSAGE_BYTES}
 

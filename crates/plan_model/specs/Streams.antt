@@ -2,14 +2,14 @@
 -- data there in the order in which the radio unit sends them (this project's profile; the fields are those of O-RAN.WG4.CUS).
 use Rattle.std.specs.Prelude.{ℕ, pos, ◌+◌, ◌*◌, ◌+ℤ◌, Bool, not, ◌&&◌, ◌==◌, List, map, filter}
 use Rattle.std.specs.Int.{int_gap}
-use Rattle.fh_time.specs.Carrier.{count_of}
-use Rattle.fh_time.specs.declared.values.Slot.{Slot}
+use Rattle.fh_base.specs.Carrier.{count_of}
+use Rattle.fh_base.specs.declared.values.Slot.{Slot}
 use Rattle.bfp_codec.specs.Layout.{length_of}
 use Rattle.uplane_sections.specs.Section.{header_size}
 use Rattle.window_config.specs.declared.config.Config.{Config}
 use Rattle.window_config.specs.declared.endpoints.EndpointConfig.{EndpointConfig}
 use Rattle.unit_model.specs.Claims.{same_slot, is_from}
-use Rattle.unit_model.specs.Lists.{each_tick, in_order}
+use Rattle.fh_base.specs.Lists.{each_tick, in_order}
 use Rattle.unit_model.specs.Radiated.{first_clock}
 use Rattle.unit_model.specs.Sweeps.{of_endpoint}
 use Rattle.unit_model.specs.Times.{end_of_time}

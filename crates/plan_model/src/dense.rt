@@ -3,7 +3,7 @@ ghost use Rattle.std.specs.Prelude.{◌≡◌, All, pos, neg_ℤ, ◌^◌, ◌�
 ghost use Rattle.window_config.specs.Limits.{IsWithinLimits};
 ghost use Rattle.plan_model.specs.Dense.{IsSending, dense_in, down_distance, is_near, up_distance};
 
-use fh_time::{Ticks, of_ns};
+use fh_base::{Ticks, of_ns};
 use window_config::Delays;
 
 /// When the first frame of a data message leaves, and the place of its first section's line in the plan.

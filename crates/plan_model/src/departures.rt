@@ -5,7 +5,7 @@ ghost use Rattle.window_config.specs.Windows.{ticks_of_ns};
 ghost use Rattle.plan_model.specs.Departures.{sending_from, sending_window, width_of};
 
 use crate::streams::Stream;
-use fh_time::{Ticks, of_ns};
+use fh_base::{Ticks, of_ns};
 use window_config::{Config, Delays, Range, cp_dl};
 
 /// When the frames of a symbol leave, in ticks: the first `from` behind the symbol's start, which is below 0 where it leaves

@@ -14,8 +14,8 @@ mod streams;
 
 pub use dense::{Dense, Sending, dense_in, down_distance, is_near, up_distance};
 pub use departures::Departures;
+pub use ecpri_fragments::MESSAGE_BYTES;
 pub use lines::{PlannedLine, is_out_of_range, line_allocation, planned_line};
 pub use refusals::PlanWhy;
 pub use sizes::{MessageSize, frame_count, section_size};
 pub use streams::Stream;
-pub use unit_model::MESSAGE_BYTES;

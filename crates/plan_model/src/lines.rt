@@ -5,7 +5,7 @@ ghost use Rattle.unit_model.specs.Proper.{IsAt};
 ghost use Rattle.plan_model.specs.Lines.{line_allocation, is_down_kind, is_idle_kind, planned_at};
 ghost use Rattle.plan_model.specs.Validity.{is_out_of_range};
 
-use fh_time::{PrbSpan, is_outside, shape};
+use fh_base::{PrbSpan, is_outside, shape};
 use unit_model::Allocation;
 use window_config::{EndpointConfig, PlanKind, PlanLine};
 

@@ -5,7 +5,7 @@ ghost use Rattle.unit_model.specs.Terms.{piece_count};
 ghost use Rattle.plan_model.specs.Streams.{section_size};
 
 use bfp_codec::block_len;
-use fh_time::PrbSpan;
+use fh_base::PrbSpan;
 use unit_model::MESSAGE_BYTES;
 use window_config::EndpointConfig;
 

@@ -13,10 +13,10 @@ use Rattle.fault_counters.specs.Names.{all_counters}
 use Rattle.fault_counters.specs.declared.kinds.Counter.{Counter}
 use Rattle.window_config.specs.declared.config.Config.{Config}
 use Rattle.window_config.specs.declared.endpoints.EndpointConfig.{EndpointConfig}
-use Rattle.fh_time.specs.declared.values.Slot.{Slot}
+use Rattle.fh_base.specs.declared.values.Slot.{Slot}
 use Rattle.unit_model.specs.Claims.{claim_at}
 use Rattle.unit_model.specs.Counts.{cells_counted}
-use Rattle.unit_model.specs.Lists.{onto}
+use Rattle.fh_base.specs.Lists.{onto}
 use Rattle.unit_model.specs.Meetings.{Arrival}
 use Rattle.unit_model.specs.Radiated.{first_clock, reported, symbol_report, wait_of}
 use Rattle.unit_model.specs.Reports.{arrivals_counted, du_known}
@@ -28,7 +28,7 @@ use Rattle.unit_model.specs.declared.cells.Claim.{Claim}
 use Rattle.unit_model.proofs.CountLemmas.{nothing_counted}
 use Rattle.unit_laws.proofs.AheadLemmas.{unclaimed_reports_nothing}
 use Rattle.unit_laws.proofs.DueLemmas.{unheard}
-use Rattle.unit_laws.proofs.SweepLemmas.{tick-nothing}
+use Rattle.unit_model.proofs.SweepLemmas.{tick-nothing}
 use Rattle.replay_laws.specs.Alone.{IdleWithoutPlan}
 use Rattle.replay_laws.specs.Events.{all_counted, count_event, count_events, is_measured, number_of, start_of}
 use Rattle.unit_model.specs.Events.{arrivals_told}

@@ -2,7 +2,7 @@
 use Rattle.std.proofs.Common.{◌≡◌, ℕ, ℤ, ◌+◌, Bool, true, false, List, [], ◌∷◌, ◌++◌, refl, arith}
 use Rattle.std.specs.Prelude.{◌==◌, if◌then◌else◌, not, ◌||◌, nat_lt, length, map, All, Option, Some, None, Result, Ok, Err}
 use Rattle.std.proofs.lemmas.List.Elements.{All-nil, All-cons, All-head, All-tail}
-use Rattle.fh_time.specs.Numbering.{shape_of}
+use Rattle.fh_base.specs.Numbering.{shape_of}
 use Rattle.air_source.specs.declared.events.Side.{Side}
 use Rattle.air_source.specs.declared.events.Side.TheVariants.{Ru, Du}
 use Rattle.cplane_sections.specs.declared.values.CRefusal.{CRefusal}
@@ -22,10 +22,10 @@ use Rattle.unit_model.specs.Decoding.{Decoded, Refused, Backwards, Sections, dat
 use Rattle.unit_model.specs.Meetings.{Arrival, Meeting, Ignored, Commands, Piece, command_read, control_met, find_endpoint, fragments, meet, meetings, met_by, met_in}
 use Rattle.unit_model.proofs.CountLemmas.{times-append}
 use Rattle.unit_laws.specs.Totals.{commands_total, data_total}
-use Rattle.unit_laws.proofs.OrderLemmas.{All-onto}
 use Rattle.replay_laws.specs.Sums.{cells_total}
 use Rattle.ecpri_frames.specs.declared.heads.TheConstants.{ONE_WAY_DELAY, REAL_TIME_CONTROL, IQ_DATA}
 use Rattle.ecpri_fragments.specs.Sequence.{id_of, sequence_of, application, is_fragmented}
+use Rattle.fh_base.proofs.OntoLemmas.{All-onto}
 
 -- none of these is a verdict's counter, or a cell's
 pub record IsBeside (cs : List Counter) : Type 0 where

@@ -7,19 +7,19 @@ use Rattle.std.proofs.lemmas.Bool.Decides.{Decides-int_eq}
 use Rattle.std.proofs.lemmas.Int.{by_lt_z}
 use Rattle.std.proofs.lemmas.List.Elements.{All-nil, All-cons, All-filter, All-head, All-tail, All-weaker, filter_passes}
 use Rattle.std.specs.Int.Signed.{≤ℤ_refl, <ℤ-≤ℤ_trans}
-use Rattle.unit_model.specs.Lists.{onto}
+use Rattle.fh_base.specs.Lists.{onto}
 use Rattle.unit_model.specs.Meetings.{Arrival}
 use Rattle.unit_model.specs.Proper.{IsTime}
 use Rattle.unit_model.specs.Radiated.{first_clock}
 use Rattle.unit_model.specs.Standing.{AreInTime}
-use Rattle.unit_model.proofs.OntoLemmas.{onto_none}
-use Rattle.unit_model.proofs.SweepLaws.{gap_is, gap_none}
+use Rattle.fh_base.proofs.OntoLemmas.{onto_none}
 use Rattle.unit_laws.proofs.HistoryTicks.{last_is_earlier, last_of_next}
 use Rattle.replay_laws.specs.Moments.{arrivals_before, arrivals_in, landing_at}
 use Rattle.replay_laws.specs.Passing.{AreLandings, ArrivalsAreInTime, ArrivalsGoOn, CalmAddsNothing, IsCalm}
 use Rattle.replay_laws.proofs.TickLemmas.{between, next_gap}
-use Rattle.fh_time.proofs.Orders.{weak, at_most}
+use Rattle.fh_base.proofs.Orders.{weak, at_most}
 use Rattle.unit_model.proofs.InTimeLemmas.{in_time_later}
+use Rattle.fh_base.proofs.EachLemmas.{gap_is, gap_none}
 
 -- ---- one tick more
 

@@ -9,9 +9,9 @@ use Rattle.std.proofs.lemmas.List.Elements.{All-head, All-tail, All-weaker}
 use Rattle.air_source.specs.declared.events.AirCell.{AirCell}
 use Rattle.air_source.specs.declared.events.Side.{Side}
 use Rattle.air_source.specs.declared.events.Side.TheVariants.{Ru, Du}
-use Rattle.fh_time.proofs.Euclid.{frame_floor}
-use Rattle.fh_time.proofs.Orders.{not_eq, up_to, weak}
-use Rattle.fh_time.specs.declared.frames.TheConstants.{FRAME}
+use Rattle.fh_base.proofs.Euclid.{frame_floor}
+use Rattle.fh_base.proofs.Orders.{not_eq, up_to, weak}
+use Rattle.fh_base.specs.declared.frames.TheConstants.{FRAME}
 use Rattle.window_config.specs.Configs.{IsConfig}
 use Rattle.window_config.specs.Limits.{IsWithinLimits}
 use Rattle.window_config.specs.declared.delays.Delays.{Delays}
@@ -22,7 +22,7 @@ use Rattle.unit_laws.proofs.AheadLemmas.{unclaimed_reports_nothing}
 use Rattle.unit_laws.proofs.DueLemmas.{all_is_due, due_begins, due_in_pieces, filter_nothing}
 use Rattle.unit_laws.proofs.EndLemmas.{cells_end, jobs_end}
 use Rattle.unit_laws.proofs.SentLemmas.{jobs_begin}
-use Rattle.unit_laws.proofs.SweepLemmas.{sweep-append, tick-nothing}
+use Rattle.unit_model.proofs.SweepLemmas.{sweep-append, tick-nothing}
 use Rattle.unit_model.proofs.SweepLaws.{sweep_quiet as sweep-nothing}
 use Rattle.unit_model.specs.Claims.{cell_at, claim_at, claim_of, covers, in_mask, names, same_slot}
 use Rattle.unit_model.specs.Meetings.{Arrival}
@@ -40,6 +40,7 @@ use Rattle.replay_laws.specs.Ending.{AreInPlan, NoCellIsLeft, NoMessageIsLeft, P
 use Rattle.replay_laws.specs.Moments.{all_arrivals, arrivals_before}
 use Rattle.replay_laws.specs.Passing.{AreLandings, IsCalm}
 use Rattle.replay_laws.specs.Traffic.{known_at, reported_at}
+use Rattle.unit_laws.proofs.HistoryLists.{front_empty as front_none}
 
 -- ---- what lands, lands a second before the end
 
@@ -127,11 +128,7 @@ planned_cells_end c planned arrivals to limits in_plan order =
 
 -- ---- nothing is left
 
-front_none : {A : Type 0} (xs ys : List A) → xs ++ ys ≡ [] → xs ≡ []
-front_none [] ys none = refl
-front_none (x ∷ xs) ys none = absurd cc
-
-no_cell_after_all : (side : Side) (c : Config) (k : Known) (to : ℤ) → IsConfig c
+pub no_cell_after_all : (side : Side) (c : Config) (k : Known) (to : ℤ) → IsConfig c
     → due side c.delays c.endpoints k (reported side c.delays c.endpoints k to) to ≡ []
 no_cell_after_all side c k to config =
     let all = reported side c.delays c.endpoints k to in

@@ -22,7 +22,7 @@ use Rattle.unit_model.proofs.ToldLemmas.{none_told}
 use Rattle.replay_laws.proofs.CameLemmas.{calm_adds_nothing, calm_in_part}
 use Rattle.replay_laws.proofs.MomentLemmas.{calm_before, cells_settled, quiet_before, reported_before_moment, seen_by, seen_later}
 use Rattle.replay_laws.proofs.TickLemmas.{no_ticks, tick_alone, tick_empty, ticks_append}
-use Rattle.fh_time.proofs.Orders.{at_most}
+use Rattle.fh_base.proofs.Orders.{at_most}
 
 pub events_go_on : EventsGoOn
 events_go_on c x tick begun =

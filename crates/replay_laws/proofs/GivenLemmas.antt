@@ -10,7 +10,7 @@ use Rattle.window_config.specs.declared.verdicts.Class.TheVariants.{OnTime}
 use Rattle.unit_model.specs.Blocks.{block_at, block_in, block_of, data_class, data_covers, timely}
 use Rattle.unit_model.specs.Claims.{cell_of, claim_at, claim_of, covers, first_prb, in_mask, is_other, is_overlapped, names, overlaps, prb_count, some_cell}
 use Rattle.unit_model.specs.Commands.{accepted, allocation_of, command_verdict}
-use Rattle.unit_model.specs.Lists.{or_else, some}
+use Rattle.fh_base.specs.Lists.{or_else, some}
 use Rattle.unit_model.specs.Radiated.{samples_under}
 use Rattle.unit_model.specs.declared.allocations.Allocation.{Allocation}
 use Rattle.unit_model.specs.declared.cells.Block.{Block}
@@ -23,7 +23,7 @@ use Rattle.replay_laws.specs.Shown.{HaveOneId}
 use Rattle.unit_laws.proofs.AcceptanceLemmas.{accepted_is_acceptable}
 use Rattle.unit_laws.proofs.CellLemmas.{covered_cell, some_false}
 use Rattle.unit_laws.proofs.ChangeLemmas.{accepted_more, block-cons, claim-cons, claim_same, either_way, timely_more}
-use Rattle.fh_time.proofs.Orders.{is_true as not_false}
+use Rattle.fh_base.proofs.Orders.{is_true as not_false}
 use Rattle.unit_model.proofs.ClaimLemmas.{starts_before as from_first, from_within, covers_is}
 
 -- ---- where nothing came

@@ -6,7 +6,7 @@ use Rattle.std.proofs.lemmas.Bool.{not-true}
 use Rattle.unit_model.specs.Claims.{in_mask}
 use Rattle.unit_model.specs.Radiated.{cell_id, id_from, id_or, is_used, used_below, used_mask}
 use Rattle.unit_model.specs.declared.cells.Claim.{Claim}
-use Rattle.fh_time.proofs.Orders.{bit_small}
+use Rattle.fh_base.proofs.Orders.{bit_small}
 
 -- ---- the bits of the mask
 
@@ -19,7 +19,7 @@ record IsShifted (whole high k : ℕ) : Type 0 where
   is : whole ≡ high * 2 ^ k + low
   below : low < 2 ^ k
 
-twice : (h p l b : ℕ) → 2 * (h * p + l) + b ≡ h * (2 * p) + (2 * l + b)
+pub twice : (h p l b : ℕ) → 2 * (h * p + l) + b ≡ h * (2 * p) + (2 * l + b)
 twice h p l b = grind arith
 
 double : (l b p : ℕ) → l < p → b ≤ 1 → 2 * l + b < 2 * p

@@ -13,13 +13,12 @@ use Rattle.fault_counters.specs.Names.{all_counters}
 use Rattle.fault_counters.specs.declared.kinds.Counter.{Counter}
 use Rattle.window_config.specs.declared.config.Config.{Config}
 use Rattle.window_config.specs.declared.endpoints.EndpointConfig.{EndpointConfig}
-use Rattle.unit_model.specs.Lists.{each_tick}
+use Rattle.fh_base.specs.Lists.{each_tick}
 use Rattle.unit_model.specs.Radiated.{Known, first_clock, reported, symbol_report, wait_of}
 use Rattle.unit_model.specs.Sweeps.{OfSymbol, at_tick, sweep}
-use Rattle.unit_model.proofs.SweepLaws.{gap_is}
 use Rattle.unit_laws.specs.Due.{AreDifferent}
 use Rattle.unit_laws.proofs.DueLemmas.{reported_differ}
-use Rattle.unit_laws.proofs.SweepLemmas.{IsKept, each_tick_related}
+use Rattle.unit_model.proofs.SweepLemmas.{IsKept, each_tick_related}
 use Rattle.unit_laws.proofs.HistoryTicks.{clock_begins}
 use Rattle.replay_laws.specs.Events.{arrivals_at, cells_reported_at, count_event, count_events, events, events_at, events_between, number_of, start_of}
 use Rattle.unit_model.specs.Heard.{cells_heard}
@@ -28,6 +27,7 @@ use Rattle.replay_laws.specs.Traffic.{Traffic, known_at, landings_at, reported_a
 use Rattle.replay_laws.proofs.MomentLemmas.{by_start}
 use Rattle.unit_laws.proofs.HeardLemmas.{cells-append, cells-arrivals, cells-none, cells-other, cells-own, tick_of_side}
 use Rattle.replay_laws.specs.Once.{AtMostOnce}
+use Rattle.fh_base.proofs.EachLemmas.{gap_is}
 
 -- ---- those of a tick
 

@@ -2,7 +2,7 @@
 use Rattle.std.proofs.Common.{◌≡◌, ◌≢◌, ℕ, ℤ, zero, suc, ◌+◌, ◌<◌, ◌≤◌, Bool, true, false, List, [], ◌∷◌, ◌++◌, inl, inr, refl, sym, ap, ap₂, ◌∙◌, subst, arith}
 use Rattle.std.specs.Prelude.{◌==◌, if◌then◌else◌, Option, None, is_some}
 use Rattle.std.proofs.lemmas.Bool.{and_parts, cases_eq, eqb-true}
-use Rattle.fh_time.specs.declared.values.Slot.{Slot}
+use Rattle.fh_base.specs.declared.values.Slot.{Slot}
 use Rattle.air_source.specs.declared.events.Side.{Side}
 use Rattle.ecpri_fragments.specs.Generations.{Fragment, Generation, begins, begun, generations, generations_of, held_in, is_first, is_of, is_within, joined, of_id, with_fragment}
 use Rattle.ecpri_fragments.specs.Verdicts.{Message, Rests, is_whole, placed, refused, standing, standing_before, verdict, verdict_on, with_one, whole_of}
@@ -15,7 +15,7 @@ use Rattle.unit_model.specs.Blocks.{block_at, block_in, data_class, data_covers,
 use Rattle.unit_model.specs.Claims.{cell_at}
 use Rattle.unit_model.specs.Commands.{accepted, allocation_of, command_verdict, with_accepted}
 use Rattle.unit_model.specs.Decoding.{data_sections, data_told, decoded_now}
-use Rattle.unit_model.specs.Lists.{every, onto, or_else}
+use Rattle.fh_base.specs.Lists.{every, onto, or_else}
 use Rattle.unit_model.specs.Meetings.{Meeting, Ignored, Commands, Piece, commands, fragments}
 use Rattle.unit_model.specs.Reports.{hold_of}
 use Rattle.unit_model.specs.declared.allocations.Allocation.{Allocation}

@@ -8,7 +8,7 @@ use Rattle.std.proofs.lemmas.Int.{ints}
 use Rattle.window_config.specs.Configs.{IsConfig}
 use Rattle.window_config.specs.Limits.{IsWithinLimits}
 use Rattle.window_config.specs.declared.config.Config.{Config}
-use Rattle.unit_model.specs.Lists.{onto}
+use Rattle.fh_base.specs.Lists.{onto}
 use Rattle.unit_model.specs.Meetings.{Arrival}
 use Rattle.unit_model.specs.Proper.{IsTime}
 use Rattle.unit_model.specs.Radiated.{first_clock}
@@ -23,7 +23,7 @@ use Rattle.replay_laws.specs.Traffic.{reported_at}
 use Rattle.replay_laws.specs.Passing.{AreLandings, MessagesAreSettled, ReportedIsSettled}
 use Rattle.replay_laws.proofs.CameLemmas.{arrivals_go_on, arrivals_in_time, in_time_next, landed_then, landed_times}
 use Rattle.replay_laws.proofs.TickLemmas.{between}
-use Rattle.fh_time.proofs.Orders.{at_most}
+use Rattle.fh_base.proofs.Orders.{at_most}
 use Rattle.unit_model.proofs.InTimeLemmas.{in_time_later}
 
 -- what an arrival of this tick leaves as it was

@@ -3,8 +3,8 @@ use Rattle.std.proofs.Common.{◌≡◌, ℕ, ℤ, pos, ◌+ℤ◌, ◌-ℤ◌, 
 use Rattle.std.specs.Prelude.{◌==◌, All, Some}
 use Rattle.std.proofs.lemmas.Option.{slice_get-get_or}
 use Rattle.std.proofs.lemmas.List.Elements.{All-contains}
-use Rattle.fh_time.specs.Air.{air_of}
-use Rattle.fh_time.specs.declared.values.Slot.{Slot}
+use Rattle.fh_base.specs.Air.{air_of}
+use Rattle.fh_base.specs.declared.values.Slot.{Slot}
 use Rattle.bfp_codec.specs.declared.samples.Wide.{Wide}
 use Rattle.air_source.specs.declared.events.AirCell.{AirCell}
 use Rattle.air_source.specs.declared.events.Side.{Side}
@@ -33,7 +33,7 @@ use Rattle.unit_laws.proofs.CellLemmas.{data_covers_is}
 use Rattle.unit_laws.proofs.FarLemmas.{endpoints_equal}
 use Rattle.unit_laws.proofs.HistoryLemmas.{data_are_heard, data_are_proper}
 use Rattle.unit_laws.proofs.DifferLemmas.{all_kept}
-use Rattle.unit_laws.proofs.SweepLemmas.{each_related, sweep_related}
+use Rattle.unit_model.proofs.SweepLemmas.{each_related, sweep_related}
 use Rattle.replay_laws.proofs.CameLemmas.{arrivals_in_time}
 use Rattle.replay_laws.specs.Moments.{all_arrivals, end_of_time}
 use Rattle.replay_laws.specs.Passing.{AreLandings}

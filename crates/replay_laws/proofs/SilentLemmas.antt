@@ -13,7 +13,7 @@ use Rattle.fault_counters.specs.declared.kinds.Counter.{Counter}
 use Rattle.window_config.specs.declared.endpoints.EndpointConfig.{EndpointConfig}
 use Rattle.unit_model.specs.Decoding.{Backwards, Decoded, Refused, Sections, data_now, data_sections, data_told, decoded_now}
 use Rattle.unit_model.specs.Meetings.{Meeting, Ignored, Commands, Piece, commands, fragments}
-use Rattle.unit_model.specs.Lists.{onto}
+use Rattle.fh_base.specs.Lists.{onto}
 use Rattle.unit_model.specs.declared.decoded.ControlSection.{ControlSection}
 use Rattle.unit_model.specs.declared.decoded.UserSection.{UserSection}
 use Rattle.unit_laws.proofs.ChangeLemmas.{either_way}

@@ -13,7 +13,7 @@ use Rattle.ecpri_fragments.specs.declared.verdict.Verdict.{Verdict}
 use Rattle.replay_laws.specs.Gathered.{CameThen, HasFragment}
 use Rattle.replay_laws.proofs.FallingLemmas.{AreFalling, falling_later}
 use Rattle.replay_laws.proofs.GivenLemmas.{first_inside, later_inside}
-use Rattle.fh_time.proofs.Orders.{at_most}
+use Rattle.fh_base.proofs.Orders.{at_most}
 
 pub are_of_id : (ep seq : ℕ) (fs : List Fragment) → All (λ x. is_of ep seq x ≡ true) (of_id ep seq fs)
 are_of_id ep seq [] = All-nil (λ (x : Fragment). is_of ep seq x ≡ true)

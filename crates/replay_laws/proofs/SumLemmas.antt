@@ -30,7 +30,7 @@ use Rattle.unit_model.specs.declared.verdicts.DataVerdict.{DataVerdict}
 use Rattle.unit_model.specs.declared.verdicts.DataVerdict.TheVariants as user
 use Rattle.unit_laws.specs.Totals.{commands_total, data_total}
 use Rattle.unit_laws.proofs.DifferLemmas.{all_kept}
-use Rattle.unit_laws.proofs.SweepLemmas.{each_tick_related}
+use Rattle.unit_model.proofs.SweepLemmas.{each_tick_related}
 use Rattle.unit_laws.proofs.TotalLemmas.{commands_add_up, data_add_up}
 use Rattle.replay_laws.specs.Events.{additions_of, arrivals_at, cells_reported_at, count_event, count_events, events, events_at, events_between, number_of}
 use Rattle.unit_model.specs.Events.{arrivals_told}
@@ -41,7 +41,7 @@ use Rattle.unit_model.proofs.ToldLemmas.{told_all}
 use Rattle.replay_laws.specs.Sums.{IsNumber, SumsAddUp, TellsNumber, UnitAddsUp, cells_total}
 use Rattle.replay_laws.proofs.BesideLemmas.{IsBeside, cells-append, commands-append, data-append, frames_beside, meetings_beside, messages_beside}
 use Rattle.replay_laws.proofs.OnceLemmas.{cells_are_reported}
-use Rattle.fh_time.proofs.Orders.{not_none}
+use Rattle.fh_base.proofs.Orders.{not_none}
 
 -- ---- each section has one verdict
 

@@ -9,7 +9,7 @@ use Rattle.ecpri_fragments.specs.declared.verdict.Verdict.{Verdict}
 use Rattle.window_config.specs.declared.config.Config.{Config}
 use Rattle.window_config.specs.declared.endpoints.EndpointConfig.{EndpointConfig}
 use Rattle.unit_model.specs.Decoding.{data_now, data_sections, data_told, decoded_now}
-use Rattle.unit_model.specs.Lists.{onto}
+use Rattle.fh_base.specs.Lists.{onto}
 use Rattle.unit_model.specs.Meetings.{Arrival, Meeting, Ignored, Commands, Piece, commands, fragments}
 use Rattle.unit_model.specs.Reports.{hold_of, met}
 use Rattle.unit_model.specs.Standing.{AreInTime}
@@ -22,7 +22,7 @@ use Rattle.replay_laws.specs.Silent.{EachSilentChangesNothing, IsSilent, SilentC
 use Rattle.replay_laws.proofs.FallingLemmas.{AreFalling, falling_behind, met_falling}
 use Rattle.replay_laws.proofs.RefusedLemmas.{AreAlike, alike_more, alike_standing}
 use Rattle.replay_laws.proofs.SilentLemmas.{IsKept, commands_skip, counted_skip, is_then_whole, kept_behind, kept_now, kept_on, none_now, other_more, own_more, past_by, repeat_on}
-use Rattle.fh_time.proofs.Orders.{at_most}
+use Rattle.fh_base.proofs.Orders.{at_most}
 use Rattle.ecpri_fragments.proofs.Ids.{same_id}
 
 -- ---- of one endpoint and sequence id

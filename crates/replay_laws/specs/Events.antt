@@ -15,7 +15,7 @@ use Rattle.window_config.specs.declared.config.Config.{Config}
 use Rattle.window_config.specs.declared.delays.Delays.{Delays}
 use Rattle.unit_model.specs.Counts.{cells_counted}
 use Rattle.unit_model.specs.Events.{arrivals_told}
-use Rattle.unit_model.specs.Lists.{each_tick}
+use Rattle.fh_base.specs.Lists.{each_tick}
 use Rattle.unit_model.specs.Radiated.{first_clock, symbol_report, wait_of}
 use Rattle.unit_model.specs.Reports.{arrivals_counted}
 use Rattle.unit_model.specs.Sweeps.{at_tick}

@@ -6,7 +6,7 @@
 -- fragments that landed and stand together in one generation, which holds for as long as the configuration says (`data_sections`,
 -- `whole_now`); the time of its first fragment and that of its last stand with each section.
 use Rattle.std.specs.Prelude.{◌≡◌, ℕ, ℤ, ◌-◌, ◌<◌, ◌≤ℤ◌, true, false, All, Contains, List, ◌∷◌, ◌++◌, Some, slice_get}
-use Rattle.fh_time.specs.Air.{air_of}
+use Rattle.fh_base.specs.Air.{air_of}
 use Rattle.bfp_codec.specs.declared.samples.Wide.{Wide}
 use Rattle.air_source.specs.declared.events.AirCell.{AirCell}
 use Rattle.air_source.specs.declared.events.Side.{Side}

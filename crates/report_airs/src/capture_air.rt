@@ -15,8 +15,7 @@ ghost use Rattle.report_airs.specs.Recorded.{Recorded};
 use air_source::{Air, AirCell, AirFault, Side, push_out};
 use capture_records::{MAGIC, record_head};
 use fault_counters::Counter;
-use fh_base::{OwedBytes, ROOM, Sink, SinkFault};
-use fh_time::Ticks;
+use fh_base::{OwedBytes, ROOM, Sink, SinkFault, Ticks};
 
 /// An air that writes a record for each arrival to a sink that it borrows, and nothing for other events.
 ///

@@ -13,8 +13,7 @@ ghost use Rattle.report_airs.specs.Text.{end_text};
 
 use air_source::{Air, AirCell, AirFault, Side, push_out, put_count, tell};
 use fault_counters::Counter;
-use fh_base::{Line, OwedBytes, Sink};
-use fh_time::Ticks;
+use fh_base::{Line, OwedBytes, Sink, Ticks};
 
 /// An air that writes a line for each counter to a sink that it borrows, none for any other event.
 ///

@@ -4,7 +4,7 @@ ghost use Rattle.report_airs.specs.Places.{place_of, same_place};
 ghost use Rattle.air_source.specs.Units.{same_side};
 
 use air_source::{AirCell, Side};
-use fh_time::{Slot, Ticks};
+use fh_base::{Slot, Ticks};
 
 /// A symbol of an endpoint, on the air at one time, that a unit reports.
 #[derive(Clone, Copy)]

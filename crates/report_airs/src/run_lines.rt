@@ -8,8 +8,7 @@ use crate::places::SymbolPlace;
 use crate::runs::Run;
 use crate::totals::Totals;
 use air_source::Side;
-use fh_base::Line;
-use fh_time::Slot;
+use fh_base::{Line, Slot};
 
 fn way(side: Side) -> &'static [u8]
     ensures text { result.now ≡ way_text side }

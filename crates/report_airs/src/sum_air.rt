@@ -15,8 +15,7 @@ use crate::run_lines::put_run;
 use crate::sums::Sums;
 use air_source::{Air, AirCell, AirFault, Side, push_out, put_count, tell};
 use fault_counters::Counter;
-use fh_base::{Line, NoMemory, OwedBytes, Sink};
-use fh_time::Ticks;
+use fh_base::{Line, NoMemory, OwedBytes, Sink, Ticks};
 use std::alloc::Global;
 
 /// An air that writes a summary to a sink that it borrows.

@@ -12,8 +12,7 @@ ghost use Rattle.report_airs.specs.OwedLaws.{grew_none, grew_more};
 
 use air_source::{Air, AirCell, AirFault, ReportLine, Side, push_out, tell};
 use fault_counters::Counter;
-use fh_base::{OwedBytes, Sink};
-use fh_time::Ticks;
+use fh_base::{OwedBytes, Sink, Ticks};
 
 /// An air that writes a line for each event to a sink that it borrows, none for an arrival.
 ///

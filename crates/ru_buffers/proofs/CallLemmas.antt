@@ -19,11 +19,11 @@ use Rattle.unit_laws.proofs.SendingLemmas.{jobs_are_proper}
 use Rattle.unit_model.specs.Standing.{History, arrived, at_clock, handed, nothing_yet, owed_until}
 use Rattle.unit_model.specs.declared.symbol_start.SymbolStart.{SymbolStart}
 use Rattle.unit_laws.specs.Runs.{OffsetsFit}
-use Rattle.fh_time.specs.declared.values.Ticks.{Ticks}
+use Rattle.fh_base.specs.declared.values.Ticks.{Ticks}
 use Rattle.unit_laws.proofs.FirstLemmas.{first_is_first, nothing_is_nothing}
 use Rattle.unit_model.specs.Starts.{start_at}
 use Rattle.unit_model.specs.declared.cells.Cell.{Cell}
-use Rattle.unit_laws.proofs.SweepLemmas.{tick-nothing}
+use Rattle.unit_model.proofs.SweepLemmas.{tick-nothing}
 use Rattle.unit_cells.specs.Cells.{CellsValue, cells_reported, cells_uplink, endpoints_of}
 use Rattle.unit_cells.specs.Keeping.{SameKnown, SameReported}
 use Rattle.unit_symbols.specs.Cursors.{GivenOne, IsFirstJob, Settled, jobs_left}
@@ -34,17 +34,17 @@ use Rattle.unit_symbols.specs.declared.cursor.JobCursor.{JobCursor}
 use Rattle.unit_memory.specs.Memory.{Holds, HoldsSome, arrival_at}
 use Rattle.unit_memory.specs.declared.memory.UnitMemory.{UnitMemory}
 use Rattle.ru_buffers.specs.Calls.{IsCellMoment, IsDue, IsMessageMoment}
-use Rattle.fh_time.specs.Least.{IsLeast, earlier_time}
-use Rattle.radio_laws.specs.JobLaws.{IsSettled, NothingIsLeft}
-use Rattle.radio_laws.specs.Reporting.{IsFirstLeft, due_of}
-use Rattle.radio_laws.specs.Units.{IsReady, RadioStands, left_up_to}
-use Rattle.radio_laws.proofs.ArrivalLemmas.{delivered}
-use Rattle.radio_laws.proofs.HistoryLemmas.{stands}
-use Rattle.radio_laws.proofs.JobLemmas.{give, later, none_before_first, none_to_give, ready_once_given, settle, some_from_first}
-use Rattle.radio_laws.proofs.ReportedLemmas.{left_same}
-use Rattle.radio_laws.proofs.QuietLemmas.{left_less}
-use Rattle.radio_laws.proofs.ReportLemmas.{nothing_before_first, nothing_is_due, something_at_first}
-use Rattle.radio_laws.proofs.MadeLemmas.{made, no_messages}
+use Rattle.fh_base.specs.Least.{IsLeast, earlier_time}
+use Rattle.ru_buffers.specs.JobLaws.{IsSettled, NothingIsLeft}
+use Rattle.ru_buffers.specs.Reporting.{IsFirstLeft, due_of}
+use Rattle.ru_buffers.specs.Units.{IsReady, RadioStands, left_up_to}
+use Rattle.ru_buffers.proofs.ArrivalLemmas.{delivered}
+use Rattle.ru_buffers.proofs.HistoryLemmas.{stands}
+use Rattle.ru_buffers.proofs.JobLemmas.{give, later, none_before_first, none_to_give, ready_once_given, settle, some_from_first}
+use Rattle.ru_buffers.proofs.ReportedLemmas.{left_same}
+use Rattle.ru_buffers.proofs.QuietLemmas.{left_less}
+use Rattle.ru_buffers.proofs.ReportLemmas.{nothing_before_first, nothing_is_due, something_at_first}
+use Rattle.ru_buffers.proofs.MadeLemmas.{made, no_messages}
 use Rattle.unit_model.proofs.SweepLaws.{sweep_quiet as sweep-nothing}
 
 -- ---- a unit that was made

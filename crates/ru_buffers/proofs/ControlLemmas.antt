@@ -12,7 +12,7 @@ use Rattle.ecpri_frames.specs.Messages.{Message}
 use Rattle.window_config.specs.declared.config.Config.{Config}
 use Rattle.window_config.specs.declared.endpoints.EndpointConfig.{EndpointConfig}
 use Rattle.unit_model.specs.Commands.{accepted}
-use Rattle.unit_model.specs.Lists.{onto}
+use Rattle.fh_base.specs.Lists.{onto}
 use Rattle.unit_model.specs.Meetings.{Arrival, Meeting, Ignored, Piece, commands, control_met, find_endpoint, fragment_of, meet, meetings, met_by}
 use Rattle.unit_model.specs.Reports.{accepted_of}
 use Rattle.unit_model.specs.declared.decoded.ControlSection.{ControlSection}

@@ -11,7 +11,7 @@ use Rattle.unit_memory.specs.declared.memory.UnitMemory.{UnitMemory}
 use Rattle.unit_memory.specs.Control.{has_control}
 use Rattle.unit_memory.specs.Memory.{arrival_at}
 use Rattle.ru_buffers.specs.Calls.{IsNextMessage, IsNextSymbol}
-use Rattle.radio_laws.specs.Units.{IsReady, RadioKeeps}
+use Rattle.ru_buffers.specs.Units.{IsReady, RadioKeeps}
 use Rattle.ru_buffers.proofs.ControlLemmas.{none_accepted}
 use Rattle.ru_buffers.proofs.NextLemmas.{message_kept, message_settled, symbol_kept}
 

@@ -10,8 +10,8 @@ use Rattle.unit_symbols.specs.declared.cursor.NextJob.{NextJob}
 use Rattle.unit_symbols.specs.DueSymbols.{is_left_after}
 use Rattle.unit_symbols.specs.Symbols.{IsFirst, IsFitting, IsSymbol}
 use Rattle.ru_buffers.specs.Calls.{IsNextMessage, IsNextSymbol}
-use Rattle.radio_laws.specs.Reporting.{IsLeftAfter}
-use Rattle.fh_time.proofs.Orders.{under as later, under_is as is_later}
+use Rattle.ru_buffers.specs.Reporting.{IsLeftAfter}
+use Rattle.fh_base.proofs.Orders.{under as later, under_is as is_later}
 
 fitting : (v : CellsValue) (clock : ℤ) (x : SymbolStart) → IsLeftAfter v clock x → IsFitting v (is_left_after v clock) x
 fitting v clock x is = record { is = is.symbol; fit = and_from (int_lt clock x.start.0) _ (is_later clock x.start.0 is.after) is.left }

@@ -4,8 +4,8 @@ use Rattle.std.specs.Prelude.{Option, Some, None}
 use Rattle.std.proofs.lemmas.Int.{ints}
 use Rattle.std.proofs.lemmas.List.{map-append}
 use Rattle.std.proofs.lemmas.Option.{slice_get_within}
-use Rattle.fh_time.specs.declared.values.Ticks.{Ticks}
-use Rattle.fh_time.proofs.Order.{slots_few, symbols_few}
+use Rattle.fh_base.specs.declared.values.Ticks.{Ticks}
+use Rattle.fh_base.proofs.Order.{slots_few, symbols_few}
 use Rattle.air_source.specs.declared.events.AirCell.{AirCell}
 use Rattle.air_source.specs.declared.events.Event.{Event}
 use Rattle.air_source.specs.declared.events.Event.TheVariants.{Cell as Reported}
@@ -24,15 +24,15 @@ use Rattle.unit_memory.specs.declared.memory.UnitMemory.{UnitMemory}
 use Rattle.unit_symbols.specs.DueSymbols.{StopsAtCell, left_at}
 use Rattle.ru_buffers.specs.Advancing.{AfterReport, GoesOn, InOrder, IsNextReport, IsOver, StartsLater, ToldAll, rank_of, rank_past, ranks_left}
 use Rattle.ru_buffers.specs.Calls.{IsNextMessage, IsNextSymbol, StandsFor, StopsAtDue}
-use Rattle.radio_laws.specs.JobLaws.{NothingIsLeft}
-use Rattle.radio_laws.specs.Reporting.{IsFirstLeft, IsFoundLeft, IsLeftAfter, HasReported, due_of}
-use Rattle.radio_laws.specs.Units.{IsReady, RadioStands}
+use Rattle.ru_buffers.specs.JobLaws.{NothingIsLeft}
+use Rattle.ru_buffers.specs.Reporting.{IsFirstLeft, IsFoundLeft, IsLeftAfter, HasReported, due_of}
+use Rattle.ru_buffers.specs.Units.{IsReady, RadioStands}
 use Rattle.ru_buffers.specs.declared.unit.Ru.{Ru}
-use Rattle.radio_laws.proofs.AdvanceLemmas.{begins_further, goes_further, goes_nowhere, goes_on, nothing_by, nothing_left, stops}
+use Rattle.ru_buffers.proofs.AdvanceLemmas.{begins_further, goes_further, goes_nowhere, goes_on, nothing_by, nothing_left, stops}
 use Rattle.ru_buffers.proofs.CallLemmas.{stands_settled}
 use Rattle.ru_buffers.proofs.NextLemmas.{message_known, message_settled}
 use Rattle.ru_buffers.proofs.RankLemmas.{IsRanked, rank_below, rank_rises}
-use Rattle.fh_time.specs.declared.symbols.TheConstants.{SLOT_SYMBOLS}
+use Rattle.fh_base.specs.declared.symbols.TheConstants.{SLOT_SYMBOLS}
 
 -- ---- one symbol
 

@@ -4,16 +4,16 @@ use Rattle.std.specs.Prelude.{◌^◌}
 use Rattle.std.specs.List.{list_any}
 use Rattle.std.proofs.lemmas.Bool.{cases_Bool, both_ways}
 use Rattle.std.proofs.lemmas.Int.{ints, by_lt_z}
-use Rattle.fh_time.specs.Air.{air_of}
-use Rattle.fh_time.specs.Numbering.{symbols_of}
-use Rattle.fh_time.proofs.Kept.{offsets_short}
+use Rattle.fh_base.specs.Air.{air_of}
+use Rattle.fh_base.specs.Numbering.{symbols_of}
+use Rattle.fh_base.proofs.Kept.{offsets_short}
 use Rattle.air_source.specs.declared.events.Side.TheVariants.{Ru}
 use Rattle.window_config.specs.declared.config.Config.{Config}
 use Rattle.window_config.specs.declared.endpoints.EndpointConfig.{EndpointConfig}
 use Rattle.air_source.specs.declared.events.AirCell.{AirCell}
 use Rattle.unit_model.specs.Claims.{claim_at}
 use Rattle.unit_model.specs.Counts.{cells_counted}
-use Rattle.unit_model.specs.Lists.{some}
+use Rattle.fh_base.specs.Lists.{some}
 use Rattle.unit_model.specs.Proper.{IsAt, IsSlot}
 use Rattle.unit_model.specs.Reports.{accepted_of, timely_of}
 use Rattle.unit_model.specs.Standing.{History, cell_heard, uplink_of}
@@ -23,7 +23,7 @@ use Rattle.unit_model.specs.declared.allocations.Allocation.{Allocation}
 use Rattle.unit_model.specs.declared.cells.Claim.{Claim}
 use Rattle.unit_model.specs.declared.jobs.UplinkJob.{UplinkJob}
 use Rattle.unit_model.specs.declared.symbol_start.SymbolStart.{SymbolStart}
-use Rattle.unit_laws.specs.Swept.{IsSwept}
+use Rattle.unit_model.specs.Swept.{IsSwept}
 use Rattle.unit_laws.specs.Ticks.{IsLiveSlot}
 use Rattle.unit_laws.proofs.FrameLemmas.{symbols_are_swept}
 use Rattle.slot_rings.specs.Places.{is_due}
@@ -42,17 +42,17 @@ use Rattle.unit_symbols.specs.DueSymbols.{cell_in, is_left}
 use Rattle.unit_symbols.proofs.LeftReports.{nothing_without_place}
 use Rattle.ru_buffers.specs.Advancing.{StartsLater}
 use Rattle.ru_buffers.specs.Calls.{IsNextMessage, IsNextSymbol}
-use Rattle.radio_laws.specs.Reporting.{IsLeftAfter}
-use Rattle.radio_laws.specs.Units.{IsReady, RadioKeeps}
-use Rattle.radio_laws.proofs.JobLemmas.{some_from_first}
-use Rattle.radio_laws.proofs.LeftLemmas.{left_of_none, left_since}
-use Rattle.radio_laws.proofs.LookupLemmas.{left_is}
-use Rattle.radio_laws.proofs.ReportLemmas.{swept_is}
-use Rattle.radio_laws.proofs.SymbolLemmas.{cell_is, claims_are, found, live_here, no_place_ahead, none_is_left}
+use Rattle.ru_buffers.specs.Reporting.{IsLeftAfter}
+use Rattle.ru_buffers.specs.Units.{IsReady, RadioKeeps}
+use Rattle.ru_buffers.proofs.JobLemmas.{some_from_first}
+use Rattle.ru_buffers.proofs.LeftLemmas.{left_of_none, left_since}
+use Rattle.ru_buffers.proofs.LookupLemmas.{left_is}
+use Rattle.ru_buffers.proofs.ReportLemmas.{swept_is}
+use Rattle.ru_buffers.proofs.SymbolLemmas.{cell_is, claims_are, found, live_here, no_place_ahead, none_is_left}
 use Rattle.unit_model.specs.declared.uplink.TheConstants.{SLOT_SECTIONS}
 use Rattle.unit_laws.proofs.ReportLemmas.{used_same}
 use Rattle.unit_laws.proofs.TickLemmas.{starts_at}
-use Rattle.fh_time.proofs.Orders.{later_than}
+use Rattle.fh_base.proofs.Orders.{later_than}
 
 -- ---- the same is left of a symbol
 

@@ -5,14 +5,14 @@ use Rattle.std.specs.Int.{int_gap}
 use Rattle.std.specs.Ordering.{int_eq}
 use Rattle.std.proofs.lemmas.Int.{ints}
 use Rattle.std.proofs.lemmas.Bool.{ltb-true, eqb-true}
-use Rattle.fh_time.specs.declared.values.Slot.{Slot}
+use Rattle.fh_base.specs.declared.values.Slot.{Slot}
 use Rattle.unit_model.specs.Claims.{same_slot}
 use Rattle.unit_model.specs.Order.{comes_before, slot_before, symbol_before}
 use Rattle.unit_model.specs.declared.symbol_start.SymbolStart.{SymbolStart}
-use Rattle.unit_model.proofs.SweepLaws.{gap_is}
 use Rattle.ru_buffers.specs.Advancing.{rank_of, rank_past}
-use Rattle.fh_time.proofs.Orders.{under, same_z}
+use Rattle.fh_base.proofs.Orders.{under, same_z}
 use Rattle.unit_model.proofs.ClaimLemmas.{same_slot_is as slots_equal}
+use Rattle.fh_base.proofs.EachLemmas.{gap_is}
 
 -- a symbol whose place has a number
 pub record IsRanked (m : SymbolStart) : Type 0 where

@@ -10,7 +10,7 @@ use Rattle.unit_model.specs.Standing.{History, heard}
 use Rattle.unit_model.specs.declared.symbol_start.SymbolStart.{SymbolStart}
 use Rattle.unit_cells.specs.Cells.{CellsValue}
 use Rattle.ru_buffers.specs.Calls.{StandsFor}
-use Rattle.radio_laws.specs.Reporting.{IsLeftAfter, due_of}
+use Rattle.ru_buffers.specs.Reporting.{IsLeftAfter, due_of}
 use Rattle.ru_buffers.specs.declared.unit.Ru.{Ru}
 
 -- the first of what was due was heard, and the rest is due now

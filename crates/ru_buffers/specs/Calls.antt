@@ -3,8 +3,8 @@ use Rattle.std.specs.Prelude.{◌≡◌, ℤ, ◌<ℤ◌, List, [], ◌∷◌, �
 use Rattle.air_source.specs.declared.events.AirCell.{AirCell}
 use Rattle.air_source.specs.declared.events.Event.{Event}
 use Rattle.air_source.specs.declared.events.Event.TheVariants.{Cell as Reported}
-use Rattle.fh_time.specs.Least.{IsLeastOf}
-use Rattle.fh_time.specs.declared.values.Ticks.{Ticks}
+use Rattle.fh_base.specs.Least.{IsLeastOf}
+use Rattle.fh_base.specs.declared.values.Ticks.{Ticks}
 use Rattle.window_config.specs.declared.config.Config.{Config}
 use Rattle.unit_model.specs.Standing.{History, IsLiveAt, StandsBy, handed, heard, owed_until}
 use Rattle.unit_model.specs.declared.allocations.Allocation.{Allocation}
@@ -15,8 +15,8 @@ use Rattle.unit_symbols.specs.Cursors.{IsFirstJob, left_in}
 use Rattle.unit_symbols.specs.Symbols.{IsSymbol}
 use Rattle.unit_symbols.specs.declared.cursor.JobCursor.{JobCursor}
 use Rattle.unit_symbols.specs.declared.cursor.NextJob.{NextJob}
-use Rattle.radio_laws.specs.Reporting.{IsFoundLeft, IsLeftAfter, due_of}
-use Rattle.radio_laws.specs.Units.{IsReady, RadioKeeps, view_of}
+use Rattle.ru_buffers.specs.Reporting.{IsFoundLeft, IsLeftAfter, due_of}
+use Rattle.ru_buffers.specs.Units.{IsReady, RadioKeeps, view_of}
 use Rattle.ru_buffers.specs.declared.unit.Ru.{Ru}
 
 -- the unit's clock

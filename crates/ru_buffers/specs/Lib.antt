@@ -1,2 +1,5 @@
 pub mod Calls
 pub mod Advancing
+pub mod Units
+pub mod JobLaws
+pub mod Reporting

@@ -1,7 +1,7 @@
 // What comes next in a unit's memory.
 ghost use Rattle.ru_buffers.specs.Calls.{IsNextMessage, IsNextSymbol};
 
-use fh_time::Ticks;
+use fh_base::Ticks;
 use unit_cells::UnitCells;
 use unit_model::SymbolStart;
 use unit_symbols::{JobCursor, NextJob, first_left, next_job};

@@ -4,12 +4,12 @@ ghost use Rattle.window_config.specs.declared.config.Config.{Config};
 ghost use Rattle.unit_model.specs.ProperJobs.{IsProperJob};
 ghost use Rattle.unit_model.specs.Standing.{History};
 ghost use Rattle.ru_buffers.specs.Calls.{radio_clock};
-ghost use Rattle.fh_time.specs.Least.{earlier_time};
+ghost use Rattle.fh_base.specs.Least.{earlier_time};
 
 use crate::finding::find_message;
 use crate::reporting::starts_by;
 use crate::unit::Ru;
-use fh_time::Ticks;
+use fh_base::Ticks;
 use unit_model::UplinkJob;
 
 impl Ru {

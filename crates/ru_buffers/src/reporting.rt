@@ -9,7 +9,7 @@ ghost use Rattle.unit_model.specs.Standing.{History, at_clock, heard};
 use crate::finding::find_symbol;
 use crate::unit::Ru;
 use air_source::{Air, AirFault};
-use fh_time::Ticks;
+use fh_base::Ticks;
 use unit_model::SymbolStart;
 use unit_symbols::report;
 
@@ -28,7 +28,7 @@ impl Ru {
     ghost use Rattle.unit_cells.specs.Cells.{endpoints_of};
     ghost use Rattle.unit_cells.specs.Keeping.{SameKnown};
     ghost use Rattle.std.specs.Prelude.{IfErr, IfOk, ◌-ℤ◌, ◌^◌, ◌≤◌, pos, neg_ℤ, [], length};
-    ghost use Rattle.radio_laws.specs.Reporting.{due_of};
+    ghost use Rattle.ru_buffers.specs.Reporting.{due_of};
 
     /// Reports the first symbol of which something is left, where it starts by a time.
     fn report_next<A: Air>(

@@ -3,13 +3,28 @@
 //!
 //! Empty lines, and those that begin with `#`, are printed as they are. At a line that is no entry the program ends: it names
 //! the line on standard error, and its status is 2.
+//!
+//! Tests of whole runs with ends in memory that fail: sources and sinks (`faults`, `captures`, `explained`), and words that
+//! read nothing (`words`). Worked runs of every command stand in the table of `run_vectors`.
+//!
+//! They stand beside `top_call`, so that it is proved without them.
 #![tactic(auto)]
 
 mod answers;
+#[cfg(test)]
+mod captures;
 mod cases;
 mod entries;
+#[cfg(test)]
+mod explained;
+#[cfg(test)]
+mod faults;
 mod running;
+#[cfg(test)]
+mod runs;
 mod texts;
+#[cfg(test)]
+mod words;
 
 use answers::{Answer, answer_to};
 use cases::Case;

@@ -3,7 +3,6 @@ use Rattle.std.proofs.Common.{◌≡◌, ℕ, ◌-◌, ◌⊎◌, inl, inr, Bool
 use Rattle.std.specs.List.{slice_index_or}
 use Rattle.std.proofs.lemmas.Bool.{cases_Bool, and_parts, and_from, eq-eqb, eqb-true, or_right}
 use Rattle.air_source.specs.declared.events.Side.TheVariants.{Ru}
-use Rattle.fragment_laws.specs.Apart.{IsIn}
 use Rattle.window_config.specs.declared.config.Config.{Config}
 use Rattle.window_config.specs.declared.delays.Delays.{Delays}
 use Rattle.window_config.specs.declared.plan.PlanLine.{PlanLine}
@@ -11,7 +10,7 @@ use Rattle.window_config.specs.declared.verdicts.Class.{Class}
 use Rattle.window_config.specs.declared.verdicts.Class.TheVariants.{OnTime}
 use Rattle.unit_model.specs.Blocks.{block_at, block_in, block_of, data_class, data_covers, data_prb_count, data_slot, first_data_prb, timely, with_timely}
 use Rattle.unit_model.specs.Claims.{cell_at, covers, first_prb, is_from, prb_count, same_slot, same_way}
-use Rattle.unit_model.specs.Lists.{or_else}
+use Rattle.fh_base.specs.Lists.{or_else}
 use Rattle.unit_model.specs.Meetings.{Arrival}
 use Rattle.unit_model.specs.declared.allocations.Allocation.{Allocation}
 use Rattle.unit_model.specs.declared.cells.Block.{Block}
@@ -25,9 +24,10 @@ use Rattle.plan_model.specs.declared.lines.PlannedLine.{PlannedLine}
 use Rattle.plan_model.proofs.ClashLemmas.{both_cover}
 use Rattle.schedule_laws.specs.Data.{AreDecodedOnce, AreWritten, Blocks, IsDataFor, planned_block, radiates_in, EachIsDecodedOnce}
 use Rattle.schedule_laws.specs.Premise.{AllArrive, Texts}
-use Rattle.schedule_laws.proofs.LineLemmas.{are_one}
+use Rattle.plan_model.proofs.LineLemmas.{are_one}
 use Rattle.schedule_laws.proofs.WholeLemmas.{IsTimely, each_timely, ds, line_sent, whole_once}
 use Rattle.unit_model.proofs.ClaimLemmas.{way_self as way_own, slot_self as slot_own, covers_is}
+use Rattle.fh_base.specs.Members.{IsIn}
 
 -- ---- data that are all on time
 

@@ -4,12 +4,11 @@ use Rattle.std.specs.Prelude.{All}
 use Rattle.std.proofs.lemmas.Bool.{cases_Bool, cases_eq, and_parts, and_from, eq-eqb, eqb-true, or_right}
 use Rattle.std.proofs.lemmas.Int.{ints}
 use Rattle.std.specs.Cmp.{both_ways}
-use Rattle.fh_time.specs.Air.{air_of}
-use Rattle.fh_time.specs.declared.values.Slot.{Slot}
+use Rattle.fh_base.specs.Air.{air_of}
+use Rattle.fh_base.specs.declared.values.Slot.{Slot}
 use Rattle.air_source.specs.declared.events.AirCell.{AirCell}
 use Rattle.air_source.specs.declared.events.Side.TheVariants.{Ru}
 use Rattle.bfp_codec.specs.declared.samples.Wide.{Wide}
-use Rattle.fragment_laws.specs.Apart.{IsIn}
 use Rattle.window_config.specs.Configs.{IsConfig}
 use Rattle.window_config.specs.Plans.{IsPlanLine}
 use Rattle.window_config.specs.declared.config.Config.{Config}
@@ -25,24 +24,25 @@ use Rattle.unit_model.specs.declared.allocations.Allocation.{Allocation}
 use Rattle.unit_model.specs.declared.cells.Block.{Block}
 use Rattle.unit_model.specs.declared.cells.Cell.{Cell}
 use Rattle.unit_model.specs.declared.cells.Claim.{Claim}
-use Rattle.unit_laws.proofs.ListLemmas.{each_same}
 use Rattle.unit_laws.proofs.ReportLemmas.{report_same}
-use Rattle.unit_laws.proofs.SweepLemmas.{sweep-same}
+use Rattle.unit_model.proofs.SweepLemmas.{sweep-same}
 use Rattle.plan_model.specs.Lines.{line_allocation, planned}
 use Rattle.plan_model.specs.Valid.{IsValid}
 use Rattle.plan_model.specs.Validity.{clash, share_bit, share_cell}
 use Rattle.plan_model.specs.declared.lines.PlannedLine.{PlannedLine}
-use Rattle.plan_model.proofs.ListLemmas.{among, any_in}
 use Rattle.plan_model.proofs.ClashLemmas.{both_cover, claimed}
 use Rattle.schedule_laws.specs.Cells.{mask_below, planned_air, planned_cell, planned_event, planned_mask, planned_section, planned_symbol, radiates, ThePlanRadiates}
 use Rattle.schedule_laws.specs.Data.{AreWritten, Blocks, planned_block, radiates_in}
 use Rattle.schedule_laws.specs.Premise.{AllArrive, Texts}
-use Rattle.schedule_laws.proofs.AcceptedLemmas.{AreAllowed}
+use Rattle.plan_model.proofs.AcceptedLemmas.{AreAllowed}
 use Rattle.schedule_laws.proofs.BlockLemmas.{decoded_once}
-use Rattle.schedule_laws.proofs.ClashLemmas.{own_claim}
+use Rattle.plan_model.proofs.ScheduleClashLemmas.{own_claim}
 use Rattle.schedule_laws.proofs.CommandLemmas.{commanded_once}
-use Rattle.schedule_laws.proofs.LineLemmas.{allowed, are_one}
-use Rattle.schedule_laws.proofs.ListLemmas.{in_map, of_map}
+use Rattle.plan_model.proofs.LineLemmas.{allowed, are_one}
+use Rattle.fh_base.specs.Members.{IsIn}
+use Rattle.fh_base.proofs.MemberLemmas.{among, any_in}
+use Rattle.fh_base.proofs.MadeLists.{in_map, of_map}
+use Rattle.fh_base.proofs.CommonLemmas.{each_same}
 
 -- ---- masks
 

@@ -4,12 +4,11 @@ use Rattle.std.specs.Prelude.{All}
 use Rattle.std.specs.Int.{int_rem_euclid}
 use Rattle.std.proofs.lemmas.Bool.{and_parts, and_from, eq-eqb, eqb-true, not-true}
 use Rattle.std.proofs.lemmas.Int.{ints}
-use Rattle.fh_time.specs.Air.{air_of}
-use Rattle.fh_time.specs.Frame.{absolute_frame, frame_start}
-use Rattle.fh_time.specs.Numbering.{symbols_of}
-use Rattle.fh_time.specs.declared.values.Slot.{Slot}
+use Rattle.fh_base.specs.Air.{air_of}
+use Rattle.fh_base.specs.Frame.{absolute_frame, frame_start}
+use Rattle.fh_base.specs.Numbering.{symbols_of}
+use Rattle.fh_base.specs.declared.values.Slot.{Slot}
 use Rattle.air_source.specs.declared.events.Side.TheVariants.{Ru}
-use Rattle.fragment_laws.specs.Apart.{IsIn}
 use Rattle.window_config.specs.Classes.{IsOnTime, class_of}
 use Rattle.window_config.specs.Configs.{IsConfig}
 use Rattle.window_config.specs.Limits.{IsWithinLimits}
@@ -34,7 +33,6 @@ use Rattle.unit_model.specs.declared.allocations.Allocation.{Allocation}
 use Rattle.unit_model.specs.declared.cells.Cell.{Cell}
 use Rattle.unit_model.specs.declared.decoded.ControlSection.{ControlSection}
 use Rattle.unit_model.proofs.ReachLaws.{symbol_soon}
-use Rattle.unit_model.proofs.SweepLaws.{gap_is}
 use Rattle.unit_laws.proofs.FarLemmas.{endpoints_equal}
 use Rattle.plan_model.specs.Departures.{departures_of, sending_window, sent_at, start_of_part, width_of}
 use Rattle.plan_model.specs.Lines.{line_allocation, is_down_kind, planned}
@@ -45,22 +43,25 @@ use Rattle.plan_model.specs.Valid.{IsValid}
 use Rattle.plan_model.specs.declared.lines.PlannedLine.{PlannedLine}
 use Rattle.plan_model.specs.declared.streams.Stream.{Stream}
 use Rattle.plan_model.specs.declared.streams.Stream.TheVariants.{DownCommands, UpCommands, DownData, UpData}
-use Rattle.plan_model.proofs.ListLemmas.{in_right}
 use Rattle.schedule_laws.specs.Commands.{AreCommandedOnce, IsAnsweredOnce, IsCommanded, EachIsCommandedOnce}
 use Rattle.schedule_laws.specs.Premise.{IsCommandFor, IsCopyOf, Texts}
-use Rattle.schedule_laws.proofs.AcceptedLemmas.{AreAllowed, IsTimely, again, named_all, new_one}
-use Rattle.schedule_laws.proofs.ClashLemmas.{claims_same}
-use Rattle.schedule_laws.proofs.LineLemmas.{allowed, are_same, good, part_line, start_in_time}
-use Rattle.schedule_laws.proofs.ListLemmas.{in_map, of_map, numerology_short}
-use Rattle.schedule_laws.proofs.PackLemmas.{message_from, one_part}
+use Rattle.plan_model.proofs.AcceptedLemmas.{AreAllowed, IsTimely, again, named_all, new_one}
+use Rattle.plan_model.proofs.ScheduleClashLemmas.{claims_same}
+use Rattle.plan_model.proofs.LineLemmas.{allowed, are_same, good, part_line, start_in_time}
+use Rattle.plan_model.proofs.SweptLists.{numerology_short}
+use Rattle.plan_model.proofs.SchedulePackLemmas.{message_from, one_part}
 use Rattle.schedule_laws.proofs.ReadingLemmas.{AreCopies, Heard, IsCommandStream, command_read, heard, told}
-use Rattle.schedule_laws.proofs.SentLemmas.{IsOfMessage, IsSentStream, is_sent, message_part, part_is, part_message, part_there, sent_is}
-use Rattle.schedule_laws.proofs.TimeLemmas.{copy_from, copy_to, first_less, frame_is, in_end, in_time, wait_most}
-use Rattle.fh_time.specs.declared.frames.TheConstants.{FRAME, HALF_CYCLE}
-use Rattle.fh_time.proofs.Order.{same_fields as same_slot_fields}
+use Rattle.plan_model.proofs.SentLemmas.{IsOfMessage, IsSentStream, is_sent, message_part, part_is, part_message, part_there, sent_is}
+use Rattle.plan_model.proofs.TimeLemmas.{copy_from, copy_to, first_less, frame_is, in_end, in_time, wait_most}
+use Rattle.fh_base.specs.declared.frames.TheConstants.{FRAME, HALF_CYCLE}
+use Rattle.fh_base.proofs.Order.{same_fields as same_slot_fields}
 use Rattle.unit_model.proofs.ClaimLemmas.{slot_self as slot_own}
 use Rattle.window_config.proofs.TickLemmas.{in_ticks}
-use Rattle.fh_time.specs.declared.nanoseconds.TheConstants.{NANOSECOND}
+use Rattle.fh_base.specs.declared.nanoseconds.TheConstants.{NANOSECOND}
+use Rattle.fh_base.specs.Members.{IsIn}
+use Rattle.fh_base.proofs.MemberLemmas.{in_right}
+use Rattle.fh_base.proofs.MadeLists.{in_map, of_map}
+use Rattle.fh_base.proofs.EachLemmas.{gap_is}
 
 -- ---- times
 

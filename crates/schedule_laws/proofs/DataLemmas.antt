@@ -5,23 +5,23 @@ use Rattle.ecpri_fragments.specs.Generations.{Fragment}
 use Rattle.ecpri_fragments.specs.Verdicts.{message, whole_of}
 use Rattle.ecpri_fragments.specs.declared.verdict.Verdict.{Verdict}
 use Rattle.ecpri_fragments.specs.declared.verdict.Verdict.TheVariants.{Stored, Whole, Repeat, Stray, TooLong}
-use Rattle.fragment_laws.specs.Apart.{IsIn}
 use Rattle.window_config.specs.declared.config.Config.{Config}
 use Rattle.window_config.specs.declared.endpoints.EndpointConfig.{EndpointConfig}
 use Rattle.unit_model.specs.Decoding.{data_now, data_sections, data_told, decode_message, decoded_now, sections_of}
-use Rattle.unit_model.specs.Lists.{onto}
+use Rattle.fh_base.specs.Lists.{onto}
 use Rattle.unit_model.specs.Meetings.{Arrival, Commands, Meeting, Piece, fragments, meetings}
 use Rattle.unit_model.specs.Proper.{IsAt}
 use Rattle.unit_model.specs.declared.decoded.ControlSection.{ControlSection}
 use Rattle.unit_model.specs.declared.decoded.UserSection.{UserSection}
 use Rattle.unit_laws.proofs.FarLemmas.{endpoints_equal}
 use Rattle.plan_model.specs.Sent.{SentFrame}
-use Rattle.plan_model.proofs.ListLemmas.{in_left, in_right, in_either}
 use Rattle.schedule_laws.specs.Premise.{Texts, fragment_at}
 use Rattle.schedule_laws.proofs.FlowLemmas.{here}
 use Rattle.schedule_laws.proofs.FragmentLemmas.{fragments_command, fragments_piece}
 use Rattle.schedule_laws.proofs.ReadingLemmas.{AreCopies, a_command, a_piece, read_of, reading}
 use Rattle.air_source.specs.declared.events.Side.{Side}
+use Rattle.fh_base.specs.Members.{IsIn}
+use Rattle.fh_base.proofs.MemberLemmas.{in_left, in_right, in_either}
 
 -- ---- the sections that a fragment makes
 

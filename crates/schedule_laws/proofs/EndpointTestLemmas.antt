@@ -7,12 +7,11 @@ use Rattle.std.proofs.lemmas.Option.{slice_get_within}
 use Rattle.window_config.specs.Endpoints.{IsEndpoint}
 use Rattle.window_config.specs.declared.endpoints.EndpointConfig.{EndpointConfig}
 use Rattle.unit_model.specs.declared.allocations.Allocation.{Allocation}
-use Rattle.fragment_laws.specs.Apart.{IsIn}
 use Rattle.plan_model.specs.Lines.{line_allocation}
 use Rattle.plan_model.specs.Validity.{why_claimed}
 use Rattle.plan_model.specs.declared.lines.PlannedLine.{PlannedLine}
 use Rattle.plan_model.specs.declared.refusals.PlanWhy.{PlanWhy}
-use Rattle.plan_model.proofs.ListLemmas.{of_filter, in_filter, all_in, all_from, filter_same, endpoint_is}
+use Rattle.plan_model.proofs.ListLemmas.{endpoint_is}
 use Rattle.plan_model.proofs.SizeLemmas.{some_prbs}
 use Rattle.schedule_laws.specs.PlacedLines.{ArePlaced, IsPlaced}
 use Rattle.schedule_laws.specs.SlotTests.{Covers, IsBefore, IsFrom, AreProper, is_of_slot, judged, judged_in, of_home, lesser_refusal, least_along, entry_of, numbered_lines, refused_along, refused_in, why_judged}
@@ -20,8 +19,10 @@ use Rattle.schedule_laws.specs.SlotOrder.{IsEndpointLine, ep_of}
 use Rattle.schedule_laws.proofs.LeastSlotLemmas.{along_from, along_one, lesser_from, lesser_left, lesser_right, from_none, from_nothing, judged_is, some_line}
 use Rattle.schedule_laws.proofs.InsideLemmas.{inside_is}
 use Rattle.schedule_laws.proofs.SlotRunLemmas.{home_true}
-use Rattle.schedule_laws.proofs.FilterLemmas.{filter_and}
+use Rattle.fh_base.proofs.FilterLemmas.{filter_and}
 use Rattle.schedule_laws.proofs.SlotTestLemmas.{least_is}
+use Rattle.fh_base.specs.Members.{IsIn}
+use Rattle.fh_base.proofs.MemberLemmas.{of_filter, in_filter, all_in, all_from, filter_same}
 
 -- ---- an endpoint's own lines, sorted
 

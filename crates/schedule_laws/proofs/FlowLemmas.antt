@@ -7,9 +7,8 @@ use Rattle.std.specs.Option.{option_map_or}
 use Rattle.std.proofs.lemmas.Bool.{cases_Bool, cases_eq}
 use Rattle.std.proofs.Math.Nat.{div-lt_iff_lt-mul}
 use Rattle.std.proofs.lemmas.Int.{ints}
-use Rattle.fh_time.specs.Air.{air_of}
-use Rattle.fh_time.specs.declared.values.Slot.{Slot}
-use Rattle.fragment_laws.specs.Apart.{IsIn}
+use Rattle.fh_base.specs.Air.{air_of}
+use Rattle.fh_base.specs.declared.values.Slot.{Slot}
 use Rattle.fragment_laws.specs.Flow.{IsDistant, IsSound, size_to, sent_at as flow_sent_at}
 use Rattle.window_config.specs.Configs.{IsConfig}
 use Rattle.window_config.specs.Plans.{IsPlanLine}
@@ -22,8 +21,7 @@ use Rattle.unit_model.specs.Proper.{IsAt}
 use Rattle.unit_model.specs.Radiated.{first_clock}
 use Rattle.unit_model.specs.Sweeps.{of_endpoint}
 use Rattle.unit_model.specs.Times.{end_of_time}
-use Rattle.unit_model.proofs.SweepLaws.{gap_is}
-use Rattle.unit_laws.proofs.SweepLemmas.{of_endpoint_related}
+use Rattle.unit_model.proofs.SweepLemmas.{of_endpoint_related}
 use Rattle.unit_laws.proofs.FarLemmas.{endpoints_equal}
 use Rattle.plan_model.specs.Dense.{dense_from, dense_in, down_distance, up_distance, first_near, is_near, lesser, sending_of, sendings}
 use Rattle.plan_model.specs.Departures.{departures_of, sent_at, start_of_part}
@@ -39,16 +37,20 @@ use Rattle.plan_model.specs.declared.streams.Stream.TheVariants.{DownData, UpDat
 use Rattle.plan_model.proofs.SizeLemmas.{alone_few, section_few}
 use Rattle.schedule_laws.specs.Flows.{bounds_of, flow_of, messages_at}
 use Rattle.schedule_laws.specs.Premise.{Texts}
-use Rattle.schedule_laws.proofs.LineLemmas.{IsGoodLine, good, part_line}
-use Rattle.schedule_laws.proofs.ListLemmas.{IsAll, all_kept, at_in}
-use Rattle.schedule_laws.proofs.OrderLemmas.{IsRising, all_short, below_get, get_below, get_drop, get_map, number_is, numbered_rising, packs_rising, rising_at, ticks_rising}
-use Rattle.schedule_laws.proofs.PackLemmas.{message_from}
-use Rattle.schedule_laws.proofs.PlanLemmas.{valid_apart}
-use Rattle.schedule_laws.proofs.SentLemmas.{part_is, symbol_part}
-use Rattle.fh_time.proofs.Orders.{le_false}
-use Rattle.fh_time.specs.declared.nanoseconds.TheConstants.{NANOSECOND}
+use Rattle.plan_model.proofs.LineLemmas.{IsGoodLine, good, part_line}
+use Rattle.plan_model.proofs.SweptLists.{IsAll, all_kept}
+use Rattle.schedule_laws.proofs.OrderLemmas.{all_short, number_is, numbered_rising, packs_rising, rising_at}
+use Rattle.plan_model.proofs.SchedulePackLemmas.{message_from}
+use Rattle.plan_model.proofs.PlanLemmas.{valid_apart}
+use Rattle.plan_model.proofs.SentLemmas.{part_is, symbol_part}
+use Rattle.fh_base.proofs.Orders.{le_false}
+use Rattle.fh_base.specs.declared.nanoseconds.TheConstants.{NANOSECOND}
 use Rattle.window_config.specs.declared.config.TheConstants.{LEAST_FRAGMENT}
 use Rattle.ecpri_fragments.specs.declared.place.TheConstants.{MESSAGE_BYTES}
+use Rattle.fh_base.specs.Members.{IsIn}
+use Rattle.fh_base.proofs.MadeLists.{at_in}
+use Rattle.fh_base.proofs.EachLemmas.{gap_is}
+use Rattle.fh_base.proofs.RisingLemmas.{IsRising, below_get, get_below, get_drop, get_map, ticks_rising}
 
 -- ---- none is dense
 

@@ -5,20 +5,21 @@ use Rattle.air_source.specs.declared.events.Side.TheVariants.{Ru}
 use Rattle.ecpri_fragments.specs.Generations.{Fragment}
 use Rattle.ecpri_fragments.specs.Verdicts.{standing_before}
 use Rattle.ecpri_fragments.specs.declared.verdict.Verdict.TheVariants.{Stored, Whole, Repeat}
-use Rattle.fragment_laws.specs.Apart.{IsFalling, IsIn, Numbers, number_of}
+use Rattle.fragment_laws.specs.Apart.{IsFalling, Numbers, number_of}
 use Rattle.fragment_laws.specs.Flow.{Bounds, Flow}
 use Rattle.fragment_laws.specs.Once.{Answered, IsOnceWhole, answered, answers}
 use Rattle.window_config.specs.declared.config.Config.{Config}
 use Rattle.window_config.specs.declared.endpoints.EndpointConfig.{EndpointConfig}
-use Rattle.unit_model.specs.Lists.{onto}
+use Rattle.fh_base.specs.Lists.{onto}
 use Rattle.unit_model.specs.Meetings.{Arrival, Meeting, Commands, Piece, fragments, meetings}
 use Rattle.unit_model.specs.declared.decoded.ControlSection.{ControlSection}
 use Rattle.plan_model.specs.Sent.{SentFrame}
 use Rattle.plan_model.specs.declared.streams.Stream.{Stream}
 use Rattle.plan_model.specs.declared.streams.Stream.TheVariants.{DownCommands, UpCommands, DownData, UpData}
-use Rattle.plan_model.proofs.ListLemmas.{in_right, in_either}
 use Rattle.schedule_laws.specs.Premise.{AreInOrder, IsCopyOf, IsReadBy, Texts, fragment_at}
 use Rattle.schedule_laws.proofs.ReadingLemmas.{AreCopies, a_command, a_piece, read_of, reading}
+use Rattle.fh_base.specs.Members.{IsIn}
+use Rattle.fh_base.proofs.MemberLemmas.{in_right, in_either}
 
 -- ---- one arrival more
 

@@ -2,8 +2,8 @@
 use Rattle.std.proofs.Common.{◌≡◌, ◌+◌, ◌<◌, ◌≤◌, Bool, true, false, ◌||◌, ◌==◌, nat_lt, nat_le, refl, arith, ℕ, if◌then◌else◌, List, Option, Some, None}
 use Rattle.std.proofs.lemmas.Int.{ints}
 use Rattle.std.proofs.lemmas.Bool.{or_parts, leb-false, ltb-false}
-use Rattle.fh_time.specs.Carrier.{is_outside}
-use Rattle.fh_time.specs.Numbering.{slots_of, symbols_of}
+use Rattle.fh_base.specs.Carrier.{is_outside}
+use Rattle.fh_base.specs.Numbering.{slots_of, symbols_of}
 use Rattle.window_config.specs.Endpoints.{IsEndpoint}
 use Rattle.window_config.specs.Plans.{IsPlanLine}
 use Rattle.unit_model.specs.Proper.{IsSlot}
@@ -11,7 +11,7 @@ use Rattle.plan_model.specs.Streams.{section_size}
 use Rattle.plan_model.specs.Validity.{is_out_of_range}
 use Rattle.plan_model.specs.declared.lines.PlannedLine.{PlannedLine}
 use Rattle.plan_model.proofs.SizeLemmas.{section_few}
-use Rattle.fh_time.proofs.Orders.{not_zero}
+use Rattle.fh_base.proofs.Orders.{not_zero}
 use Rattle.window_config.specs.declared.endpoints.EndpointConfig.{EndpointConfig}
 use Rattle.unit_model.specs.Claims.{repeats, overlaps}
 use Rattle.unit_model.specs.Commands.{is_full, timely_verdict}

@@ -5,23 +5,23 @@ use Rattle.std.specs.Int.{int_gap}
 use Rattle.std.specs.Ordering.{int_eq}
 use Rattle.std.proofs.lemmas.Bool.Decides.{Decides-int_eq}
 use Rattle.std.proofs.lemmas.Int.{ints}
-use Rattle.fragment_laws.specs.Apart.{IsIn}
 use Rattle.window_config.specs.Configs.{IsConfig}
 use Rattle.window_config.specs.Windows.{ticks_of_ns}
 use Rattle.window_config.specs.declared.config.Config.{Config}
-use Rattle.unit_model.specs.Lists.{onto}
+use Rattle.fh_base.specs.Lists.{onto}
 use Rattle.unit_model.specs.Meetings.{Arrival}
 use Rattle.unit_model.specs.Radiated.{first_clock}
 use Rattle.unit_model.specs.Times.{end_of_time}
 use Rattle.plan_model.specs.Lines.{planned}
 use Rattle.plan_model.specs.Sent.{SentFrame, frames_from, sent}
 use Rattle.plan_model.specs.declared.lines.PlannedLine.{PlannedLine}
-use Rattle.plan_model.proofs.ListLemmas.{of_filter}
 use Rattle.schedule_laws.specs.Least.{AreReadable, least_arrival, LeastDelaysArrive}
 use Rattle.schedule_laws.specs.Premise.{AreInOrder, IsCopyOf, Texts}
-use Rattle.schedule_laws.proofs.ListLemmas.{in_map, in_onto, of_map, onto_right}
-use Rattle.schedule_laws.proofs.OrderLemmas.{IsRising, ticks_rising}
-use Rattle.fh_time.specs.declared.nanoseconds.TheConstants.{NANOSECOND}
+use Rattle.fh_base.specs.declared.nanoseconds.TheConstants.{NANOSECOND}
+use Rattle.fh_base.specs.Members.{IsIn}
+use Rattle.fh_base.proofs.MemberLemmas.{of_filter}
+use Rattle.fh_base.proofs.MadeLists.{in_map, in_onto, of_map, onto_right}
+use Rattle.fh_base.proofs.RisingLemmas.{IsRising, ticks_rising}
 
 -- what is sent is in the order of time
 abbrev pub leaving : SentFrame → ℤ

@@ -1,14 +1,14 @@
 -- The least of what the slots refuse, and a slot's lines as a list of their own.
 use Rattle.std.proofs.Common.{◌≡◌, ℕ, ◌+◌, ◌<◌, ◌≤◌, ◌⊎◌, inl, inr, Bool, true, false, nat_lt, if◌then◌else◌, List, [], ◌∷◌, map, filter, Option, Some, None, refl, ap, sym, ◌∙◌, arith}
 use Rattle.std.proofs.lemmas.Bool.{lt-ltb, le-ltb}
-use Rattle.fh_time.specs.declared.values.Slot.{Slot}
+use Rattle.fh_base.specs.declared.values.Slot.{Slot}
 use Rattle.unit_model.specs.declared.allocations.Allocation.{Allocation}
-use Rattle.fragment_laws.specs.Apart.{IsIn}
 use Rattle.plan_model.specs.Validity.{refused_at}
 use Rattle.plan_model.specs.declared.refusals.PlanWhy.{PlanWhy}
 use Rattle.plan_model.specs.Lines.{line_allocation}
 use Rattle.plan_model.specs.declared.lines.PlannedLine.{PlannedLine}
 use Rattle.schedule_laws.specs.SlotTests.{why_judged, refused_in, is_of_slot, IsFrom, lesser_refusal, numbered_lines, refused_of, entry_of, judged, of_home, judged_in, least_along}
+use Rattle.fh_base.specs.Members.{IsIn}
 
 -- ---- the lesser of two
 

@@ -1,12 +1,4 @@
-pub mod ClashLemmas
-pub mod AcceptedLemmas
-pub mod PlanLemmas
-pub mod ListLemmas
-pub mod TimeLemmas
-pub mod PackLemmas
-pub mod SentLemmas
 pub mod ReadingLemmas
-pub mod LineLemmas
 pub mod CommandLemmas
 pub mod OrderLemmas
 pub mod FlowLemmas
@@ -18,8 +10,6 @@ pub mod CellLemmas
 pub mod LeastLemmas
 pub mod SingleLemmas
 pub mod FoundLemmas
-pub mod FilterLemmas
-pub mod OrderedLemmas
 pub mod InsideLemmas
 pub mod PlacedLemmas
 pub mod OverlapLemmas

@@ -2,9 +2,9 @@
 use Rattle.std.proofs.Common.{◌≡◌, ℕ, zero, suc, ◌+◌, ◌-◌, ◌<◌, ◌≤◌, inl, inr, Bool, true, false, if◌then◌else◌, List, [], ◌∷◌, ◌++◌, length, take, drop, get_or, append_assoc, refl, ap, ap₂, sym, ◌∙◌, subst, arith}
 use Rattle.std.proofs.Math.Seq.{take-append_seam, drop-append-add}
 use Rattle.std.proofs.lemmas.List.{length-append}
-use Rattle.fragment_laws.specs.Apart.{IsIn}
 use Rattle.plan_model.specs.Packs.{PartFields, Message, Numbered, alone, parts_of, with_part, takes, packs_behind, packs, numbered_behind}
 use Rattle.schedule_laws.specs.MessageParts.{first_sections}
+use Rattle.fh_base.specs.Members.{IsIn}
 
 -- ---- the messages' parts, one after the other
 

@@ -3,14 +3,13 @@ use Rattle.std.proofs.Common.{◌≡◌, ℕ, ◌+◌, ◌<◌, ◌≤◌, inl, 
 use Rattle.std.specs.List.{list_any}
 use Rattle.std.proofs.lemmas.Bool.{or_cases, and_parts, and_from, or_left, or_right, eq-eqb, eqb-true}
 use Rattle.std.specs.Cmp.{both_ways}
-use Rattle.unit_model.specs.Lists.{some}
+use Rattle.fh_base.specs.Lists.{some}
 use Rattle.unit_model.specs.declared.allocations.Allocation.{Allocation}
 use Rattle.unit_model.specs.declared.cells.Cell.{Cell}
 use Rattle.unit_model.specs.declared.cells.Claim.{Claim}
 use Rattle.unit_model.specs.Claims.{same_slot, same_way, first_prb, prb_count, covers, in_mask, claim_at, cell_of, some_cell, is_under, is_other, is_claimed, is_overlapped, repeats, overlaps}
 use Rattle.plan_model.specs.Validity.{ranges_meet, share_cell, share_bit, clash, IsProper, why_claimed}
-use Rattle.plan_model.proofs.ListLemmas.{all_in, any_in, among}
-use Rattle.schedule_laws.proofs.ClashLemmas.{IsClear, clash_swap, own_claim}
+use Rattle.plan_model.proofs.ScheduleClashLemmas.{IsClear, clash_swap, own_claim}
 use Rattle.plan_model.proofs.RangeLemmas.{found, common}
 use Rattle.plan_model.proofs.SlotLemmas.{eqb_swap}
 use Rattle.plan_model.proofs.ClashLemmas.{bit_of, cell_at_start, overlap_of}
@@ -19,6 +18,7 @@ use Rattle.unit_model.proofs.ClaimLemmas.{same_way_is as way_is, same_slot_is as
 use Rattle.unit_model.specs.Commands.{is_full}
 use Rattle.plan_model.specs.declared.refusals.PlanWhy.{PlanWhy}
 use Rattle.plan_model.specs.declared.refusals.PlanWhy.TheVariants.{Overlap, TooManySections}
+use Rattle.fh_base.proofs.MemberLemmas.{all_in, any_in, among}
 
 -- ---- a cell that both cover
 

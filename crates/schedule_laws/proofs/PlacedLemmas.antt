@@ -4,7 +4,7 @@ use Rattle.std.specs.Prelude.{slice_get, All}
 use Rattle.std.proofs.lemmas.List.{append-nil, drop_all}
 use Rattle.window_config.specs.declared.endpoints.EndpointConfig.{EndpointConfig}
 use Rattle.window_config.specs.declared.plan.PlanLine.{PlanLine}
-use Rattle.unit_model.specs.Lists.{or_else}
+use Rattle.fh_base.specs.Lists.{or_else}
 use Rattle.unit_model.specs.declared.allocations.Allocation.{Allocation}
 use Rattle.unit_model.specs.Meetings.{find_endpoint}
 use Rattle.plan_model.specs.Lines.{line_allocation, planned_with, planned_at, planned_from}
@@ -20,10 +20,11 @@ use Rattle.std.proofs.lemmas.Option.{same_Some, get_or_from_slice_get}
 use Rattle.window_config.specs.Plans.{IsPlanLine}
 use Rattle.unit_model.specs.Proper.{IsAt}
 use Rattle.window_config.specs.Endpoints.{IsEndpoint}
-use Rattle.plan_model.proofs.ListLemmas.{all_in, endpoint_is}
+use Rattle.plan_model.proofs.ListLemmas.{endpoint_is}
 use Rattle.unit_laws.proofs.FarLemmas.{endpoints_equal}
-use Rattle.unit_laws.proofs.HistoryLemmas.{found_at}
 use Rattle.std.proofs.lemmas.List.Elements.{recursion_from_All}
+use Rattle.fh_base.proofs.MemberLemmas.{all_in}
+use Rattle.unit_model.proofs.EndpointLemmas.{found_at}
 
 -- a line that is refused by itself is refused whatever stands before it; else it goes by these
 later_of : (k : ℕ) (w : Option PlanWhy) (x y : Option (ℕ × PlanWhy)) → or_else (refused_at k w x) y ≡ refused_at k w (or_else x y)

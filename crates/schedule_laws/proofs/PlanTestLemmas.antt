@@ -6,7 +6,7 @@ use Rattle.std.proofs.lemmas.List.{drop_all}
 use Rattle.window_config.specs.declared.config.Config.{Config}
 use Rattle.window_config.specs.declared.endpoints.EndpointConfig.{EndpointConfig}
 use Rattle.window_config.specs.declared.plan.PlanLine.{PlanLine}
-use Rattle.unit_model.specs.Lists.{or_else}
+use Rattle.fh_base.specs.Lists.{or_else}
 use Rattle.plan_model.specs.Dense.{dense, dense_from, dense_in, lesser, sendings}
 use Rattle.plan_model.specs.Lines.{line_allocation, planned}
 use Rattle.plan_model.specs.Valid.{dense_refused, plan_refusal}

@@ -9,9 +9,8 @@ use Rattle.plan_model.specs.Lines.{planned_at, planned_from, line_allocation, pl
 use Rattle.plan_model.specs.declared.lines.PlannedLine.{PlannedLine}
 use Rattle.schedule_laws.proofs.PlacedLemmas.{drop_at, index_is, index_or}
 use Rattle.std.proofs.lemmas.Option.{slice_get-map, slice_get_past}
-use Rattle.fragment_laws.specs.Apart.{IsIn}
 use Rattle.window_config.specs.declared.config.Config.{Config}
-use Rattle.unit_model.specs.Lists.{or_else}
+use Rattle.fh_base.specs.Lists.{or_else}
 use Rattle.unit_model.specs.Meetings.{find_endpoint}
 use Rattle.unit_model.specs.declared.allocations.Allocation.{Allocation}
 use Rattle.unit_model.proofs.CountLemmas.{no_time}
@@ -20,6 +19,7 @@ use Rattle.plan_model.specs.Valid.{IsValid, dense_refused}
 use Rattle.plan_model.specs.Validity.{first_refused, refused_at, refused_from, why_found, why_planned, with_line}
 use Rattle.plan_model.specs.declared.dense.Dense.{Dense}
 use Rattle.plan_model.specs.declared.refusals.PlanWhy.{PlanWhy}
+use Rattle.fh_base.specs.Members.{IsIn}
 
 -- ---- one after the other
 

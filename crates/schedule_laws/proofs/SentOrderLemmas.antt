@@ -3,20 +3,21 @@ use Rattle.std.proofs.Common.{◌≡◌, ℕ, ℤ, pos, zero, suc, ◌+◌, ◌<
 use Rattle.std.specs.Ordering.{int_eq}
 use Rattle.std.proofs.lemmas.Bool.Decides.{Decides-int_eq}
 use Rattle.std.proofs.lemmas.Int.{ints}
-use Rattle.fragment_laws.specs.Apart.{IsIn}
 use Rattle.window_config.specs.declared.config.Config.{Config}
 use Rattle.window_config.specs.declared.endpoints.EndpointConfig.{EndpointConfig}
-use Rattle.unit_model.specs.Lists.{each, each_tick}
+use Rattle.fh_base.specs.Lists.{each, each_tick}
 use Rattle.plan_model.specs.Packs.{Message, Numbered, PartFields, numbered_behind, packs}
 use Rattle.plan_model.specs.Sent.{SentFrame, endpoint_frames, frame_of, frames_from, message_frames, stream_frames}
 use Rattle.plan_model.specs.Streams.{Part, frames_in, messages_of, most_parts, part_fields, parts_in}
 use Rattle.plan_model.specs.declared.lines.PlannedLine.{PlannedLine}
 use Rattle.plan_model.specs.declared.streams.Stream.{Stream}
 use Rattle.plan_model.specs.declared.streams.Stream.TheVariants.{DownCommands, UpCommands, DownData}
-use Rattle.plan_model.proofs.ListLemmas.{in_either, of_filter, InOrder, order_join}
-use Rattle.schedule_laws.specs.SentOrder.{stream_place, IsBehind, at_time}
-use Rattle.schedule_laws.proofs.ListLemmas.{of_each, of_joined, of_map}
+use Rattle.plan_model.specs.SentOrder.{stream_place, IsBehind, at_time}
+use Rattle.plan_model.proofs.SweptLists.{of_joined}
 use Rattle.unit_model.specs.Terms.{joined}
+use Rattle.fh_base.specs.Members.{IsIn}
+use Rattle.fh_base.proofs.MemberLemmas.{in_either, of_filter, InOrder, order_join}
+use Rattle.fh_base.proofs.MadeLists.{of_each, of_map}
 
 -- ---- all frames, as they are listed
 

@@ -3,8 +3,7 @@ use Rattle.std.proofs.Common.{◌≡◌, ℕ, ℤ, pos, neg_ℤ, suc, ◌+◌, �
 use Rattle.std.specs.Prelude.{All}
 use Rattle.std.specs.Int.{int_gap}
 use Rattle.std.proofs.lemmas.Int.{ints}
-use Rattle.fh_time.specs.Numbering.{symbols_of}
-use Rattle.fragment_laws.specs.Apart.{IsIn}
+use Rattle.fh_base.specs.Numbering.{symbols_of}
 use Rattle.window_config.specs.Configs.{IsConfig}
 use Rattle.window_config.specs.Plans.{IsPlanLine}
 use Rattle.window_config.specs.Windows.{ticks_of_ns}
@@ -14,7 +13,6 @@ use Rattle.window_config.specs.declared.plan.PlanLine.{PlanLine}
 use Rattle.unit_model.specs.Proper.{IsAt}
 use Rattle.unit_model.specs.Radiated.{first_clock}
 use Rattle.unit_model.specs.Times.{end_of_time}
-use Rattle.unit_model.proofs.SweepLaws.{gap_is}
 use Rattle.unit_laws.proofs.FarLemmas.{endpoints_equal}
 use Rattle.plan_model.specs.Departures.{departures_of, sending_window, sent_at, start_of_part, width_of}
 use Rattle.plan_model.specs.Lines.{planned}
@@ -25,13 +23,15 @@ use Rattle.plan_model.specs.Valid.{IsValid}
 use Rattle.plan_model.specs.declared.lines.PlannedLine.{PlannedLine}
 use Rattle.plan_model.specs.declared.streams.Stream.{Stream}
 use Rattle.plan_model.specs.declared.streams.Stream.TheVariants.{DownCommands, UpCommands, DownData, UpData}
-use Rattle.plan_model.proofs.ListLemmas.{in_either}
-use Rattle.schedule_laws.proofs.LineLemmas.{good, part_line, start_in_time}
-use Rattle.schedule_laws.proofs.SentLemmas.{IsSentStream, message_part, part_is}
-use Rattle.schedule_laws.proofs.TimeLemmas.{in_time, wait_most}
+use Rattle.plan_model.proofs.LineLemmas.{good, part_line, start_in_time}
+use Rattle.plan_model.proofs.SentLemmas.{IsSentStream, message_part, part_is}
+use Rattle.plan_model.proofs.TimeLemmas.{in_time, wait_most}
 use Rattle.schedule_laws.proofs.SentOrderLemmas.{of_message, of_messages}
-use Rattle.fh_time.specs.declared.frames.TheConstants.{FRAME}
+use Rattle.fh_base.specs.declared.frames.TheConstants.{FRAME}
 use Rattle.window_config.proofs.TickLemmas.{in_ticks}
+use Rattle.fh_base.specs.Members.{IsIn}
+use Rattle.fh_base.proofs.MemberLemmas.{in_either}
+use Rattle.fh_base.proofs.EachLemmas.{gap_is}
 
 abbrev pub IsInTime : ℤ → Type 0
 IsInTime t = (first_clock ≤ℤ t) × (t <ℤ (first_clock +ℤ pos (int_gap first_clock (end_of_time +ℤ pos 1))))

@@ -4,11 +4,10 @@ use Rattle.std.specs.Prelude.{All, filter}
 use Rattle.std.proofs.lemmas.Bool.{cases_Bool, cases_eq, and_parts, and_from, eqb-true}
 use Rattle.std.proofs.lemmas.Int.{ints}
 use Rattle.std.proofs.lemmas.List.Elements.{All-head, All-tail}
-use Rattle.fh_time.specs.Air.{air_of}
-use Rattle.fh_time.specs.Numbering.{symbols_of}
+use Rattle.fh_base.specs.Air.{air_of}
+use Rattle.fh_base.specs.Numbering.{symbols_of}
 use Rattle.air_source.specs.declared.events.AirCell.{AirCell}
 use Rattle.air_source.specs.declared.events.Side.TheVariants.{Ru}
-use Rattle.fragment_laws.specs.Apart.{IsIn}
 use Rattle.window_config.specs.declared.config.Config.{Config}
 use Rattle.window_config.specs.declared.plan.PlanLine.{PlanLine}
 use Rattle.unit_model.specs.Claims.{cell_at, cell_of, covers, in_mask, names}
@@ -23,17 +22,19 @@ use Rattle.unit_laws.proofs.DifferLemmas.{IsOther, other_swap, same_self}
 use Rattle.unit_laws.proofs.DueLemmas.{reported_differ}
 use Rattle.plan_model.specs.Lines.{line_allocation, planned}
 use Rattle.plan_model.specs.declared.lines.PlannedLine.{PlannedLine}
-use Rattle.plan_model.proofs.ListLemmas.{any_in}
 use Rattle.schedule_laws.specs.Cells.{mask_below, planned_air, planned_cell, planned_event, planned_mask, planned_symbol, radiates}
 use Rattle.schedule_laws.specs.Data.{AreWritten, Blocks}
 use Rattle.schedule_laws.specs.Premise.{AllArrive, Texts}
 use Rattle.schedule_laws.specs.Singles.{event_of, EachCellRadiatesOnce}
 use Rattle.schedule_laws.proofs.CellLemmas.{plan_radiates}
-use Rattle.schedule_laws.proofs.LineLemmas.{good, start_in_time}
-use Rattle.schedule_laws.proofs.ListLemmas.{in_each, in_piece, numerology_short}
-use Rattle.fh_time.specs.declared.frames.TheConstants.{FRAME}
+use Rattle.plan_model.proofs.LineLemmas.{good, start_in_time}
+use Rattle.plan_model.proofs.SweptLists.{in_piece, numerology_short}
+use Rattle.fh_base.specs.declared.frames.TheConstants.{FRAME}
 use Rattle.unit_model.proofs.ClaimLemmas.{within_carrier, from_within, covers_is}
-use Rattle.fh_time.proofs.Orders.{within_next as by_then}
+use Rattle.fh_base.proofs.Orders.{within_next as by_then}
+use Rattle.fh_base.specs.Members.{IsIn}
+use Rattle.fh_base.proofs.MemberLemmas.{any_in}
+use Rattle.fh_base.proofs.MadeLists.{in_each}
 
 -- ---- one of a list in which all differ
 

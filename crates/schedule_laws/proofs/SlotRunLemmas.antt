@@ -11,18 +11,18 @@ use Rattle.std.proofs.lemmas.Bool.{cases_Bool, and_parts, and_from, eq-eqb, case
 use Rattle.std.proofs.lemmas.Cmp.{nat_cmp_total, int_cmp_total, on_total, then_total}
 use Rattle.std.proofs.lemmas.List.{append-nil, get_or_default, take-append-drop}
 use Rattle.std.proofs.lemmas.List.Elements.{filter-append}
-use Rattle.fh_time.specs.declared.values.Slot.{Slot}
+use Rattle.fh_base.specs.declared.values.Slot.{Slot}
 use Rattle.unit_model.specs.Claims.{same_slot}
-use Rattle.fragment_laws.specs.Apart.{IsIn}
 use Rattle.plan_model.specs.Lines.{line_allocation}
 use Rattle.plan_model.specs.declared.lines.PlannedLine.{PlannedLine}
 use Rattle.plan_model.specs.declared.refusals.PlanWhy.{PlanWhy}
-use Rattle.plan_model.proofs.ListLemmas.{all_in, all_from, all_map, filter_all, filter_none}
 use Rattle.schedule_laws.specs.SlotOrder.{slot_cmp, comes_first, ArePlannedInOrder, IsFirstRun}
 use Rattle.schedule_laws.specs.SlotTests.{is_of_slot, of_home, judged, judged_in, lesser_refusal, least_along}
-use Rattle.fh_time.proofs.Order.{same_fields as same_slot_fields}
+use Rattle.fh_base.proofs.Order.{same_fields as same_slot_fields}
 use Rattle.unit_model.proofs.ClaimLemmas.{same_slot_is as slot_is, slot_self as slot_own}
 use Rattle.std.proofs.Math.Seq.{drop-nil}
+use Rattle.fh_base.specs.Members.{IsIn}
+use Rattle.fh_base.proofs.MemberLemmas.{all_in, all_from, all_map, filter_all, filter_none}
 
 -- ---- the order of slots
 

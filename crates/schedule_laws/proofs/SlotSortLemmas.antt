@@ -7,15 +7,15 @@ use Rattle.std.specs.declared.cmp.Ordering.{Ordering}
 use Rattle.std.proofs.lemmas.Bool.{and_parts, and_from, not-true}
 use Rattle.std.proofs.lemmas.Cmp.{tied_itself}
 use Rattle.std.proofs.lemmas.List.Sorted.{ranks_by}
-use Rattle.fh_time.specs.declared.values.Slot.{Slot}
+use Rattle.fh_base.specs.declared.values.Slot.{Slot}
 use Rattle.unit_model.specs.Claims.{same_slot}
 use Rattle.plan_model.specs.declared.lines.PlannedLine.{PlannedLine}
-use Rattle.plan_model.proofs.ListLemmas.{filter_same}
 use Rattle.schedule_laws.specs.SlotOrder.{slot_cmp, comes_first}
 use Rattle.schedule_laws.specs.SlotTests.{of_home}
 use Rattle.schedule_laws.proofs.SlotRunLemmas.{slot_total, tie_is}
-use Rattle.schedule_laws.proofs.FilterLemmas.{filter_and}
+use Rattle.fh_base.proofs.FilterLemmas.{filter_and}
 use Rattle.unit_model.proofs.ClaimLemmas.{same_slot_is as slot_is, slot_self as slot_own}
+use Rattle.fh_base.proofs.MemberLemmas.{filter_same}
 
 pub first_ranks : IsStrictWeakOrder comes_first
 first_ranks = ranks_by slot_total (λ (p : PlannedLine). p.line.slot)

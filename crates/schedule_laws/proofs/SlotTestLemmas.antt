@@ -3,11 +3,10 @@ use Rattle.std.proofs.Common.{◌≡◌, ℕ, ◌+◌, ◌≤◌, ◌⊎◌, inl
 use Rattle.std.specs.Prelude.{⊤}
 use Rattle.std.specs.List.{list_any}
 use Rattle.std.proofs.lemmas.Bool.{cases_Bool, and_parts, and_from, eq-eqb, eqb-true}
-use Rattle.fh_time.specs.declared.values.Slot.{Slot}
+use Rattle.fh_base.specs.declared.values.Slot.{Slot}
 use Rattle.unit_model.specs.declared.allocations.Allocation.{Allocation}
 use Rattle.unit_model.specs.Claims.{same_slot, same_way}
 use Rattle.unit_model.specs.Commands.{is_uplink, uplink_in, is_full}
-use Rattle.fragment_laws.specs.Apart.{IsIn}
 use Rattle.plan_model.specs.Validity.{share_cell, clash, why_claimed, refused_at}
 use Rattle.plan_model.specs.declared.refusals.PlanWhy.{PlanWhy}
 use Rattle.schedule_laws.specs.SlotTests.{AreProper, AreClear, why_judged, refused_along, refused_in, is_of_slot, IsFrom, IsLeastSlot}
@@ -15,6 +14,7 @@ use Rattle.plan_model.specs.declared.refusals.PlanWhy.TheVariants.{Overlap, TooM
 use Rattle.schedule_laws.proofs.OverlapLemmas.{why_is, none_is}
 use Rattle.unit_model.specs.declared.uplink.TheConstants.{SLOT_SECTIONS}
 use Rattle.unit_model.proofs.ClaimLemmas.{same_slot_is as slot_is, slot_self as slot_own}
+use Rattle.fh_base.specs.Members.{IsIn}
 
 -- the words of a line that is refused, of one that is not
 abbrev pub chosen : Bool → Bool → Option PlanWhy

@@ -2,23 +2,23 @@
 use Rattle.std.proofs.Common.{◌≡◌, ℕ, suc, ◌+◌, ◌<◌, ◌≤◌, inl, List, [], ◌∷◌, ◌++◌, length, get_or, take, drop, Option, None, refl, ap, sym, ◌∙◌, subst, arith, map, drop-cons, Some, ap₂}
 use Rattle.std.specs.List.{AllByRecursion}
 use Rattle.std.proofs.lemmas.List.{take_more, drop_all, map-append}
-use Rattle.fh_time.specs.declared.values.Slot.{Slot}
+use Rattle.fh_base.specs.declared.values.Slot.{Slot}
 use Rattle.window_config.specs.declared.endpoints.EndpointConfig.{EndpointConfig}
-use Rattle.fragment_laws.specs.Apart.{IsIn}
 use Rattle.plan_model.specs.declared.lines.PlannedLine.{PlannedLine}
 use Rattle.plan_model.specs.declared.refusals.PlanWhy.{PlanWhy}
-use Rattle.plan_model.proofs.ListLemmas.{all_in, all_from, all_map, in_right}
 use Rattle.schedule_laws.specs.SlotOrder.{IsEndpointLine, IsSlotLine, ArePlannedInOrder}
 use Rattle.schedule_laws.specs.SlotTests.{judged, judged_in, of_home, lesser_refusal, least_along, behind, why_of, why_in, why_judged, refused_of, entry_of}
 use Rattle.schedule_laws.proofs.SlotRunLemmas.{home_of_run, home_of_others, least_of_run, order_behind, IsCut}
-use Rattle.unit_model.specs.Lists.{onto}
+use Rattle.fh_base.specs.Lists.{onto}
 use Rattle.unit_model.specs.declared.allocations.Allocation.{Allocation}
 use Rattle.unit_model.specs.declared.verdicts.CommandVerdict.{CommandVerdict}
 use Rattle.unit_model.specs.declared.verdicts.CommandVerdict.TheVariants as verdict
-use Rattle.unit_model.proofs.OntoLemmas.{onto-append}
+use Rattle.fh_base.proofs.OntoLemmas.{onto-append}
 use Rattle.plan_model.specs.Lines.{line_allocation}
 use Rattle.plan_model.specs.Validity.{refused_at}
 use Rattle.std.proofs.lemmas.List.Elements.{All-from_recursion}
+use Rattle.fh_base.specs.Members.{IsIn}
+use Rattle.fh_base.proofs.MemberLemmas.{all_in, all_from, all_map, in_right}
 
 -- ---- the lines of a slot
 

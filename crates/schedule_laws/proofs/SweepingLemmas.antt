@@ -5,16 +5,15 @@ use Rattle.std.specs.Ordering.{int_eq}
 use Rattle.std.proofs.lemmas.Int.{ints}
 use Rattle.std.proofs.lemmas.Bool.{cases_eq, eq-eqb, ne_eqb, eqb-true, and_parts, and_right}
 use Rattle.std.proofs.lemmas.Bool.Decides.{Decides-int_eq}
-use Rattle.unit_model.specs.Lists.{each, each_tick}
-use Rattle.unit_model.proofs.SweepLaws.{each_none, ticks_none, each_same as each_alike, gap_is}
-use Rattle.unit_laws.proofs.ListLemmas.{each_same}
-use Rattle.plan_model.proofs.ListLemmas.{all_map, filter_none, all_from, filter_same, filter_has}
+use Rattle.fh_base.specs.Lists.{each, each_tick}
 use Rattle.plan_model.proofs.TickLemmas.{int_cases, int_below, int_above, same_not, ticks_same}
 use Rattle.schedule_laws.specs.Sweeping.{of_key, timed_at, EachIsAll, TicksAreAll, Clock, PartSymbol, is_symbol, parts_of_symbol, parts_of_endpoint, IsPart, Precedes, AreOrdered, SweepsFindAll}
 use Rattle.std.specs.Int.{int_gap}
-use Rattle.std.proofs.Math.Bool.{and_comm}
-use Rattle.fh_time.proofs.Orders.{same_z, not_eq}
-use Rattle.schedule_laws.proofs.FilterLemmas.{filter_and, related_filter, related_map}
+use Rattle.fh_base.proofs.Orders.{same_z, not_eq}
+use Rattle.fh_base.proofs.FilterLemmas.{related_filter, related_map}
+use Rattle.fh_base.proofs.MemberLemmas.{all_map, filter_none, all_from, filter_has}
+use Rattle.fh_base.proofs.EachLemmas.{each_none, ticks_none, each_same as each_alike, gap_is}
+use Rattle.fh_base.proofs.CommonLemmas.{each_same, filter_both as filter_twice}
 
 -- ---- by keys
 
@@ -70,9 +69,6 @@ ticks_are_all key (x ∷ xs) from count up within =
     first_tick key x xs from count within.0.0 within.0.1 up.0 ∙ ap (λ l. x ∷ l) (ticks_are_all key xs from count up.1 within.1)
 
 -- ---- filters
-
-filter_twice : {X : Type 0} (p q : X → Bool) (ps : List X) → filter (λ a. p a && q a) ps ≡ filter q (filter p ps)
-filter_twice p q ps = filter_same (λ a. p a && q a) (λ a. q a && p a) (λ a. and_comm (p a) (q a)) ps ∙ filter_and q p ps
 
 pub filter_alike : {X : Type 0} (P : X → Type 0) (p q : X → Bool) → ((x : X) → P x → p x ≡ q x) → (ps : List X) → AllByRecursion P ps → filter p ps ≡ filter q ps
 filter_alike P p q h [] all = refl

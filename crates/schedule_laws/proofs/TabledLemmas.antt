@@ -9,14 +9,14 @@ use Rattle.window_config.specs.declared.plan.PlanLine.{PlanLine}
 use Rattle.unit_model.specs.Meetings.{find_endpoint}
 use Rattle.unit_model.specs.Proper.{IsAt}
 use Rattle.unit_laws.proofs.FarLemmas.{endpoints_equal}
-use Rattle.fragment_laws.specs.Apart.{IsIn}
 use Rattle.plan_model.specs.Lines.{planned, planned_from, planned_with}
 use Rattle.plan_model.specs.declared.lines.PlannedLine.{PlannedLine}
 use Rattle.schedule_laws.specs.PlacedLines.{HasEndpoint, ArePlaced}
-use Rattle.schedule_laws.proofs.LineLemmas.{IsGoodLine, good}
-use Rattle.schedule_laws.proofs.PlanLemmas.{in_range, valid_tested}
+use Rattle.plan_model.proofs.LineLemmas.{IsGoodLine, good}
+use Rattle.plan_model.proofs.PlanLemmas.{in_range, valid_tested}
 use Rattle.schedule_laws.specs.TabledPlans.{IsTabledPlan}
 use Rattle.window_config.specs.declared.plan.TheConstants.{PLAN_LINES}
+use Rattle.fh_base.specs.Members.{IsIn}
 
 module _ (c : Config) (ps : List PlannedLine) (config : IsConfig c) (plan : IsTabledPlan c ps) where
   there : (p : PlannedLine) → IsIn p ps → IsIn p (planned c.endpoints plan.lines)

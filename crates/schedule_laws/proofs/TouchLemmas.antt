@@ -2,7 +2,7 @@
 use Rattle.std.proofs.Common.{◌≡◌, ℕ, Bool, true, ◌==◌, All, List, ap, sym, ◌∙◌, arith}
 use Rattle.std.specs.List.{list_any}
 use Rattle.std.proofs.lemmas.Bool.{and_from, and_parts, eq-eqb, eqb-true}
-use Rattle.fh_time.specs.declared.values.Slot.{Slot}
+use Rattle.fh_base.specs.declared.values.Slot.{Slot}
 use Rattle.window_config.specs.Configs.{IsConfig}
 use Rattle.window_config.specs.Plans.{IsPlanLine}
 use Rattle.window_config.specs.declared.config.Config.{Config}
@@ -16,9 +16,9 @@ use Rattle.plan_model.specs.Valid.{IsValid}
 use Rattle.plan_model.specs.Validity.{IsProper}
 use Rattle.plan_model.specs.declared.lines.PlannedLine.{PlannedLine}
 use Rattle.plan_model.proofs.ClashLemmas.{bit_of, covers_own}
-use Rattle.plan_model.proofs.ListLemmas.{among, any_in}
-use Rattle.schedule_laws.proofs.LineLemmas.{line_good, line_proper}
+use Rattle.plan_model.proofs.LineLemmas.{line_good, line_proper}
 use Rattle.schedule_laws.specs.Touched.{NamesCell, Touches, is_touching}
+use Rattle.fh_base.proofs.MemberLemmas.{among, any_in}
 
 -- it names its first element
 names_first : (ep : ℕ) (slot : Slot) (p : PlannedLine) → IsProper (line_allocation p) → is_touching ep slot p ≡ true → NamesCell ep slot p

@@ -3,15 +3,15 @@ use Rattle.std.proofs.Common.{◌≡◌, ℕ, ℤ, pos, ◌+◌, ◌*◌, ◌%�
 use Rattle.std.specs.List.{slice_get}
 use Rattle.std.proofs.lemmas.Bool.{and_parts, and_from, eq-eqb, eqb-true}
 use Rattle.std.proofs.lemmas.Int.{ints}
-use Rattle.fh_time.specs.Air.{air_of}
-use Rattle.fh_time.specs.Frame.{absolute_frame}
-use Rattle.fh_time.specs.Numbering.{symbols_of}
-use Rattle.fh_time.specs.declared.values.Slot.{Slot}
+use Rattle.fh_base.specs.Air.{air_of}
+use Rattle.fh_base.specs.Frame.{absolute_frame}
+use Rattle.fh_base.specs.Numbering.{symbols_of}
+use Rattle.fh_base.specs.declared.values.Slot.{Slot}
 use Rattle.air_source.specs.declared.events.Side.TheVariants.{Ru}
 use Rattle.ecpri_fragments.specs.Generations.{Fragment}
 use Rattle.ecpri_fragments.specs.Verdicts.{Message as WholeMessage, message, standing_before, verdict_on}
 use Rattle.ecpri_fragments.specs.declared.verdict.Verdict.TheVariants.{Whole}
-use Rattle.fragment_laws.specs.Apart.{IsIn, Numbers, number_of, of_message}
+use Rattle.fragment_laws.specs.Apart.{Numbers, number_of, of_message}
 use Rattle.fragment_laws.specs.Flow.{Bounds, Flow, IsCopyOf as IsFragmentCopy, IsDelivered, IsSound, numbers_of, sent_at as flow_sent_at}
 use Rattle.fragment_laws.specs.Once.{Answered, IsOnceWhole, answered, answers, texts}
 use Rattle.fragment_laws.proofs.FlowLemmas.{copy}
@@ -26,14 +26,13 @@ use Rattle.window_config.proofs.Timing.{class_on_time}
 use Rattle.unit_model.specs.Blocks.{data_class, data_slot, data_start}
 use Rattle.unit_model.specs.Claims.{is_from, same_slot}
 use Rattle.unit_model.specs.Decoding.{Decoded, data_sections, decode, decode_message, sections_of}
-use Rattle.unit_model.specs.Lists.{onto}
+use Rattle.fh_base.specs.Lists.{onto}
 use Rattle.unit_model.specs.Meetings.{Arrival, fragments, meetings}
 use Rattle.unit_model.specs.Proper.{IsAt}
 use Rattle.unit_model.specs.Radiated.{first_clock}
 use Rattle.unit_model.specs.Times.{end_of_time}
 use Rattle.unit_model.specs.declared.decoded.UserSection.{UserSection}
 use Rattle.unit_model.proofs.ReachLaws.{symbol_soon}
-use Rattle.unit_model.proofs.SweepLaws.{gap_is}
 use Rattle.unit_laws.proofs.FarLemmas.{endpoints_equal}
 use Rattle.plan_model.specs.Departures.{departures_of, sent_at, start_of_part, width_of}
 use Rattle.plan_model.specs.Lines.{line_allocation, planned}
@@ -43,7 +42,6 @@ use Rattle.plan_model.specs.Streams.{Part, frames_in, messages_of, part_fields, 
 use Rattle.plan_model.specs.declared.lines.PlannedLine.{PlannedLine}
 use Rattle.plan_model.specs.declared.streams.Stream.{Stream}
 use Rattle.plan_model.specs.declared.streams.Stream.TheVariants.{DownData}
-use Rattle.plan_model.proofs.ListLemmas.{in_right, get_in}
 use Rattle.schedule_laws.specs.Data.{AreSections, AreWritten, Blocks, IsDataFor, IsDecoded}
 use Rattle.schedule_laws.proofs.DataLemmas.{told_in, told_there, told_whole, whole_told}
 use Rattle.schedule_laws.specs.Flows.{bounds_of, flow_of}
@@ -51,16 +49,20 @@ use Rattle.schedule_laws.specs.Premise.{AllArrive, IsCopyOf, Texts, fragment_at}
 use Rattle.schedule_laws.proofs.CommandLemmas.{HasRoom, near_frame, on_time}
 use Rattle.schedule_laws.proofs.FlowLemmas.{Here, below_at, here, leaves_at, message_number, pieces_at, sound}
 use Rattle.schedule_laws.proofs.FragmentLemmas.{IsAnswer, answers_from, answers_there, falling, heard_piece, piece_read, the_whole, told_piece, whole_in}
-use Rattle.schedule_laws.proofs.LineLemmas.{IsGoodLine, good, part_line, start_in_time}
-use Rattle.schedule_laws.proofs.ListLemmas.{in_onto, numerology_short, onto_right}
+use Rattle.plan_model.proofs.LineLemmas.{IsGoodLine, good, part_line, start_in_time}
+use Rattle.plan_model.proofs.SweptLists.{numerology_short}
 use Rattle.schedule_laws.proofs.OrderLemmas.{one_symbol}
-use Rattle.schedule_laws.proofs.PackLemmas.{message_from}
-use Rattle.schedule_laws.proofs.SentLemmas.{is_sent, message_part, part_is, part_message, part_there, sent_is}
-use Rattle.schedule_laws.proofs.TimeLemmas.{frame_is, in_end, in_time, wait_most, last_one}
+use Rattle.plan_model.proofs.SchedulePackLemmas.{message_from}
+use Rattle.plan_model.proofs.SentLemmas.{is_sent, message_part, part_is, part_message, part_there, sent_is}
+use Rattle.plan_model.proofs.TimeLemmas.{frame_is, in_end, in_time, wait_most, last_one}
 use Rattle.window_config.specs.declared.delays.TheConstants.{MOST_DELAY}
-use Rattle.fh_time.proofs.Order.{same_fields as same_slot_fields}
+use Rattle.fh_base.proofs.Order.{same_fields as same_slot_fields}
 use Rattle.unit_model.proofs.ClaimLemmas.{same_slot_is as slots_equal, slot_self as slot_own, from_within}
 use Rattle.ecpri_fragments.specs.Pieces.{joined}
+use Rattle.fh_base.specs.Members.{IsIn}
+use Rattle.fh_base.proofs.MemberLemmas.{in_right, get_in}
+use Rattle.fh_base.proofs.MadeLists.{in_onto, onto_right}
+use Rattle.fh_base.proofs.EachLemmas.{gap_is}
 
 -- ---- the sections of a message
 

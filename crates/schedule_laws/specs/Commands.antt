@@ -1,6 +1,5 @@
 -- Commands, once each: whatever is repeated, reordered or delayed within the bounds.
 use Rattle.std.specs.Prelude.{◌≡◌, ◌≢◌, ℕ, ◌<◌, List, ◌∷◌, ◌++◌, map}
-use Rattle.fragment_laws.specs.Apart.{IsIn}
 use Rattle.air_source.specs.declared.events.Side.TheVariants.{Ru}
 use Rattle.window_config.specs.declared.config.Config.{Config}
 use Rattle.window_config.specs.declared.delays.Delays.{Delays}
@@ -16,6 +15,7 @@ use Rattle.unit_model.specs.declared.verdicts.CommandVerdict.TheVariants.{Accept
 use Rattle.plan_model.specs.Lines.{line_allocation, planned}
 use Rattle.plan_model.specs.declared.lines.PlannedLine.{PlannedLine}
 use Rattle.schedule_laws.specs.Premise.{IsCommandFor, Texts, AllArrive}
+use Rattle.fh_base.specs.Members.{IsIn}
 
 -- what the lines of a plan name
 abbrev pub allocations_of : List PlannedLine → List Allocation

@@ -4,7 +4,7 @@ use Rattle.std.specs.Int.{int_rem_euclid}
 use Rattle.std.specs.List.{slice_index_or}
 use Rattle.air_source.specs.declared.events.Side.TheVariants.{Ru}
 use Rattle.bfp_codec.specs.declared.samples.Wide.{Wide}
-use Rattle.fragment_laws.specs.Apart.{IsIn, of_message}
+use Rattle.fragment_laws.specs.Apart.{of_message}
 use Rattle.fragment_laws.specs.Flow.{numbers_of, size_to}
 use Rattle.fragment_laws.specs.Once.{IsOnceWhole, answers, texts}
 use Rattle.window_config.specs.declared.config.Config.{Config}
@@ -14,7 +14,7 @@ use Rattle.window_config.specs.declared.verdicts.Class.TheVariants.{OnTime}
 use Rattle.unit_model.specs.Blocks.{block_at, data_class, data_slot}
 use Rattle.unit_model.specs.Claims.{cell_at, covers, first_prb, is_from, prb_count}
 use Rattle.unit_model.specs.Decoding.{Sections, decode}
-use Rattle.unit_model.specs.Lists.{onto}
+use Rattle.fh_base.specs.Lists.{onto}
 use Rattle.unit_model.specs.Meetings.{Arrival, fragments}
 use Rattle.unit_model.specs.Proper.{IsAt}
 use Rattle.unit_model.specs.Reports.{data_of, met, timely_of}
@@ -29,6 +29,7 @@ use Rattle.plan_model.specs.declared.streams.Stream.TheVariants.{DownData}
 use Rattle.schedule_laws.specs.Flows.{bounds_of, flow_of}
 use Rattle.schedule_laws.specs.Premise.{AllArrive, Texts}
 use Rattle.ecpri_fragments.specs.Pieces.{joined}
+use Rattle.fh_base.specs.Members.{IsIn}
 
 -- the samples of each cell as they are read back: the source's block, shrunk by the endpoint's compression
 abbrev pub Blocks : Type 0

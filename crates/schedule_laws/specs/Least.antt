@@ -3,20 +3,20 @@
 use Rattle.std.specs.Prelude.{ℕ, ℤ, ◌+ℤ◌, List, [], All, map}
 use Rattle.air_source.specs.declared.events.Side.TheVariants.{Ru}
 use Rattle.ecpri_frames.specs.Gathering.{whole_messages}
-use Rattle.fragment_laws.specs.Apart.{IsIn}
 use Rattle.window_config.specs.Configs.{IsConfig}
 use Rattle.window_config.specs.Plans.{IsPlanLine}
 use Rattle.window_config.specs.Relations.{PassesCheck}
 use Rattle.window_config.specs.Windows.{ticks_of_ns}
 use Rattle.window_config.specs.declared.config.Config.{Config}
 use Rattle.window_config.specs.declared.plan.PlanLine.{PlanLine}
-use Rattle.unit_model.specs.Lists.{onto}
+use Rattle.fh_base.specs.Lists.{onto}
 use Rattle.unit_model.specs.Meetings.{Arrival, met_in}
 use Rattle.plan_model.specs.Lines.{planned}
 use Rattle.plan_model.specs.Sent.{SentFrame, sent}
 use Rattle.plan_model.specs.Valid.{IsValid}
 use Rattle.plan_model.specs.declared.lines.PlannedLine.{PlannedLine}
 use Rattle.schedule_laws.specs.Premise.{AllArrive, IsReadBy, Texts}
+use Rattle.fh_base.specs.Members.{IsIn}
 
 -- the bytes of a frame, as it comes then
 abbrev pub least_arrival : (SentFrame → List ℕ) → SentFrame → ℤ → Arrival

@@ -6,7 +6,6 @@ pub mod Commands
 pub mod Cells
 pub mod Least
 pub mod Singles
-pub mod Ordered
 pub mod PlacedLines
 pub mod SlotTests
 pub mod SlotOrder
@@ -14,5 +13,4 @@ pub mod DenseWays
 pub mod Touched
 pub mod TabledPlans
 pub mod Sweeping
-pub mod SentOrder
 pub mod MessageParts

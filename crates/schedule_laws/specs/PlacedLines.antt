@@ -5,13 +5,13 @@ use Rattle.window_config.specs.Endpoints.{IsEndpoint}
 use Rattle.window_config.specs.Plans.{IsPlanLine}
 use Rattle.window_config.specs.declared.endpoints.EndpointConfig.{EndpointConfig}
 use Rattle.unit_model.specs.Proper.{IsAt}
-use Rattle.fragment_laws.specs.Apart.{IsIn}
 use Rattle.plan_model.specs.Validity.{is_out_of_range, refused_at}
 use Rattle.plan_model.specs.declared.lines.PlannedLine.{PlannedLine}
 use Rattle.window_config.specs.declared.plan.PlanLine.{PlanLine}
 use Rattle.plan_model.specs.Lines.{planned_at}
 use Rattle.plan_model.specs.declared.refusals.PlanWhy.{PlanWhy}
 use Rattle.plan_model.specs.declared.refusals.PlanWhy.TheVariants.{UnknownEndpoint, Range}
+use Rattle.fh_base.specs.Members.{IsIn}
 
 -- a line at its endpoint, in its ranges
 pub record IsPlaced (es : List EndpointConfig) (p : PlannedLine) : Type 0 where

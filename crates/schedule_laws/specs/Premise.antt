@@ -5,7 +5,6 @@ use Rattle.std.specs.Int.{int_rem_euclid}
 use Rattle.air_source.specs.declared.events.Side.TheVariants.{Ru}
 use Rattle.ecpri_fragments.specs.Generations.{Fragment}
 use Rattle.ecpri_frames.specs.Gathering.{whole_messages}
-use Rattle.fragment_laws.specs.Apart.{IsIn}
 use Rattle.window_config.specs.Configs.{IsConfig}
 use Rattle.window_config.specs.Plans.{IsPlanLine}
 use Rattle.window_config.specs.Relations.{PassesCheck}
@@ -22,6 +21,7 @@ use Rattle.plan_model.specs.Valid.{IsValid}
 use Rattle.plan_model.specs.declared.lines.PlannedLine.{PlannedLine}
 use Rattle.plan_model.specs.declared.streams.Stream.{Stream}
 use Rattle.plan_model.specs.declared.streams.Stream.TheVariants.{DownCommands, UpCommands, DownData, UpData}
+use Rattle.fh_base.specs.Members.{IsIn}
 
 -- a command that carries what a line plans: a header for the endpoint with the frame's low 8 bits, and one section
 -- (O-RAN.WG4.CUS, C-plane messages)

@@ -1,7 +1,6 @@
 -- Each planned cell radiates exactly once.
 use Rattle.std.specs.Prelude.{◌≡◌, ℕ, ℤ, ◌<◌, ◌≤ℤ◌, true, false, List, [], ◌∷◌, filter}
-use Rattle.fh_time.specs.Air.{air_of}
-use Rattle.fragment_laws.specs.Apart.{IsIn}
+use Rattle.fh_base.specs.Air.{air_of}
 use Rattle.window_config.specs.declared.config.Config.{Config}
 use Rattle.window_config.specs.declared.plan.PlanLine.{PlanLine}
 use Rattle.unit_model.specs.Claims.{cell_of, names}
@@ -14,6 +13,7 @@ use Rattle.plan_model.specs.declared.lines.PlannedLine.{PlannedLine}
 use Rattle.schedule_laws.specs.Cells.{planned_event}
 use Rattle.schedule_laws.specs.Data.{AreWritten, Blocks}
 use Rattle.schedule_laws.specs.Premise.{AllArrive, Texts}
+use Rattle.fh_base.specs.Members.{IsIn}
 
 -- the event of one of a line's cells
 abbrev pub event_of : Blocks → List PlannedLine → PlannedLine → ℕ → ℕ → AirCell

@@ -2,11 +2,10 @@
 -- once).
 use Rattle.std.specs.Prelude.{◌≡◌, ⊤, ◌⊎◌, ℕ, ◌+◌, ◌<◌, Bool, false, ◌&&◌, ◌==◌, nat_lt, if◌then◌else◌, List, [], ◌∷◌, map, filter, Option, Some, None}
 use Rattle.std.specs.List.{list_any, AllByRecursion}
-use Rattle.fh_time.specs.declared.values.Slot.{Slot}
+use Rattle.fh_base.specs.declared.values.Slot.{Slot}
 use Rattle.unit_model.specs.Claims.{same_slot, repeats, overlaps}
 use Rattle.unit_model.specs.Commands.{is_full}
 use Rattle.unit_model.specs.declared.allocations.Allocation.{Allocation}
-use Rattle.fragment_laws.specs.Apart.{IsIn}
 use Rattle.plan_model.specs.Lines.{line_allocation}
 use Rattle.plan_model.specs.Validity.{clash, why_claimed, refused_at, IsProper}
 use Rattle.plan_model.specs.declared.lines.PlannedLine.{PlannedLine}
@@ -14,7 +13,8 @@ use Rattle.plan_model.specs.declared.refusals.PlanWhy.{PlanWhy}
 use Rattle.plan_model.specs.declared.refusals.PlanWhy.TheVariants.{Range, Overlap, TooManySections}
 use Rattle.unit_model.specs.declared.verdicts.CommandVerdict.{CommandVerdict}
 use Rattle.unit_model.specs.declared.verdicts.CommandVerdict.TheVariants as verdict
-use Rattle.unit_model.specs.Lists.{onto}
+use Rattle.fh_base.specs.Lists.{onto}
+use Rattle.fh_base.specs.Members.{IsIn}
 
 abbrev pub AreProper : List Allocation → Type 0
 AreProper ls = AllByRecursion IsProper ls

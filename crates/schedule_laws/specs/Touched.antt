@@ -1,10 +1,10 @@
 -- Which slots the downlink lines of a plan touch (this project's profile).
 use Rattle.std.specs.Prelude.{◌≡◌, ℕ, ◌<◌, Bool, true, ◌&&◌, ◌==◌, List}
-use Rattle.fh_time.specs.declared.values.Slot.{Slot}
-use Rattle.fragment_laws.specs.Apart.{IsIn}
+use Rattle.fh_base.specs.declared.values.Slot.{Slot}
 use Rattle.unit_model.specs.Claims.{cell_at, names, same_slot}
 use Rattle.plan_model.specs.Lines.{is_down_kind, line_allocation}
 use Rattle.plan_model.specs.declared.lines.PlannedLine.{PlannedLine}
+use Rattle.fh_base.specs.Members.{IsIn}
 
 -- a downlink line (`idle` lines are for the downlink too) of the endpoint with this index names an element of a cell in the slot
 pub record NamesCell (ep : ℕ) (slot : Slot) (p : PlannedLine) : Type 0 where

@@ -8,8 +8,7 @@ use crate::steps::{
 };
 use bfp_codec::Method;
 use eaxc_map::Widths;
-use fh_base::List;
-use fh_time::Numerology;
+use fh_base::{List, Numerology};
 use std::test::Fail;
 use window_config::PlanKind;
 

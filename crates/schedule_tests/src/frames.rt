@@ -4,8 +4,7 @@ use crate::steps::{
     all_given, checked, command, config, data, endpoint, in_frame, is_over, line, put,
 };
 use eaxc_map::Widths;
-use fh_base::List;
-use fh_time::Numerology;
+use fh_base::{List, Numerology};
 use std::test::Fail;
 use window_config::PlanKind;
 

@@ -3,7 +3,7 @@ ghost use Rattle.window_config.specs.Endpoints.{IsEndpoint};
 ghost use Rattle.window_config.specs.Plans.{IsPlanLine};
 
 use crate::steps::{endpoint, in_slot, line, of_prbs, of_symbols};
-use fh_time::{Numerology, Ticks};
+use fh_base::{Numerology, Ticks};
 use plan_model::{
     PlannedLine, frame_count, is_near, is_out_of_range, line_allocation, planned_line, section_size,
 };

@@ -6,8 +6,7 @@ use crate::steps::{
 };
 use du_scheduler::{PlanRefusal, PlanWhy};
 use eaxc_map::Widths;
-use fh_base::List;
-use fh_time::Numerology;
+use fh_base::{List, Numerology};
 use std::test::Fail;
 use window_config::PlanKind;
 

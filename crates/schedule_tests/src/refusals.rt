@@ -9,11 +9,9 @@ use crate::steps::{
     at_id, config, endpoint, in_slot, line, of_prbs, of_symbols, of_two, put, with_delays,
     with_mask,
 };
-use du_scheduler::{PlanRefusal, PlanWhy};
+use du_scheduler::{PlanRefusal, PlanWhy, tested};
 use eaxc_map::Widths;
-use fh_base::{List, NoMemory};
-use fh_time::Numerology;
-use plan_check::tested;
+use fh_base::{List, NoMemory, Numerology};
 use std::alloc::Global;
 use std::test::Fail;
 use window_config::{Config, Delays, EndpointConfig, PlanKind, PlanLine, Range};

@@ -1,12 +1,10 @@
 // The messages of a stream, and the frames of many messages in one order, worked out by hand.
 ghost use Rattle.std.specs.Prelude.{◌≡◌, pos, ◌≤◌, ◌≤ℤ◌};
-ghost use Rattle.plan_parts.specs.Parts.{IsTimed};
+ghost use Rattle.du_scheduler.specs.Parts.{IsTimed};
 
-use fh_base::NoMemory;
-use fh_time::Ticks;
-use frame_order::{Queue, Run, Turn, queue_of};
+use du_scheduler::{Limits, Queue, Run, TimedPart, Turn, queue_of, stream_messages};
+use fh_base::{NoMemory, Ticks};
 use plan_model::{Departures, Stream};
-use plan_parts::{Limits, TimedPart, stream_messages};
 
 /// A frame that leaves at this time.
 fn turn(at: Ticks, endpoint: u8, stream: Stream, number: u32, sub: u8) -> Turn

@@ -11,8 +11,7 @@ use air_source::{RePlace, Samples};
 use bfp_codec::{Format, Method, Wide};
 use du_scheduler::{Plan, PlanRefusal, Plane};
 use eaxc_map::Widths;
-use fh_base::{List, NoMemory};
-use fh_time::{Numerology, Slot, Ticks};
+use fh_base::{List, NoMemory, Numerology, Slot, Ticks};
 use std::alloc::Global;
 use window_config::{Config, Delays, EndpointConfig, EndpointList, PlanKind, PlanLine};
 

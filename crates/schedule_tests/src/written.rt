@@ -7,7 +7,7 @@ ghost use Rattle.window_config.specs.Plans.{IsPlanLine};
 use crate::steps::{at_id, endpoint, in_frame, in_slot, in_subframe, line, of_format, with_beam};
 use air_source::{RePlace, Samples};
 use bfp_codec::{Format, Method, Wide};
-use fh_time::{Numerology, Slot};
+use fh_base::{Numerology, Slot};
 use frame_bytes::DataSection;
 use plan_model::PlannedLine;
 use sent_frames::{Fragment, command_frame, data_frame, data_section};

@@ -3,14 +3,13 @@ use Rattle.std.proofs.Common.{◌≡◌, ℕ, ◌+◌, ◌<◌, ◌≤◌, ◌^�
 use Rattle.std.specs.Prelude.{All, sum}
 use Rattle.std.proofs.lemmas.List.Elements.{All-cons}
 use Rattle.bfp_codec.specs.Layout.{HasWidth}
-use Rattle.fh_time.specs.Carrier.{is_outside}
-use Rattle.fh_time.proofs.Order.{symbols_few}
+use Rattle.fh_base.specs.Carrier.{is_outside}
+use Rattle.fh_base.proofs.Order.{symbols_few}
 use Rattle.std.specs.List.{slice_get}
 use Rattle.std.specs.Option.{option_map_or}
 use Rattle.std.proofs.lemmas.Bool.{and_parts, eqb-true}
 use Rattle.std.proofs.lemmas.List.Sums.{sum_by-cons}
-use Rattle.fh_time.specs.Numbering.{symbols_of}
-use Rattle.fragment_laws.specs.Apart.{IsIn}
+use Rattle.fh_base.specs.Numbering.{symbols_of}
 use Rattle.window_config.specs.Configs.{IsConfig}
 use Rattle.window_config.specs.Plans.{IsPlanLine}
 use Rattle.window_config.specs.declared.config.Config.{Config}
@@ -26,20 +25,21 @@ use Rattle.plan_model.specs.Valid.{IsValid}
 use Rattle.plan_model.specs.declared.lines.PlannedLine.{PlannedLine}
 use Rattle.plan_model.specs.declared.streams.Stream.{Stream}
 use Rattle.plan_model.specs.declared.streams.Stream.TheVariants.{DownData}
-use Rattle.plan_model.proofs.ListLemmas.{get_in}
 use Rattle.frame_bytes.specs.Messages.{MessageFits, SectionFits, message_size, sections_size}
 use Rattle.frame_bytes.proofs.Sections.{length_message}
 use Rattle.schedule_laws.specs.Flows.{messages_at}
 use Rattle.schedule_laws.proofs.FlowLemmas.{section_short}
-use Rattle.schedule_laws.proofs.LineLemmas.{IsGoodLine, line_good, part_line}
+use Rattle.plan_model.proofs.LineLemmas.{IsGoodLine, line_good, part_line}
 use Rattle.schedule_laws.proofs.OrderLemmas.{all_short, number_is, one_symbol}
-use Rattle.schedule_laws.proofs.PackLemmas.{message_from}
-use Rattle.schedule_laws.proofs.SentLemmas.{IsSentStream, message_part, part_is}
+use Rattle.plan_model.proofs.SchedulePackLemmas.{message_from}
+use Rattle.plan_model.proofs.SentLemmas.{IsSentStream, message_part, part_is}
 use Rattle.sent_frames.specs.Messages.{Source, data_head, data_section, message_bytes, message_samples}
-use Rattle.fh_time.specs.declared.symbols.TheConstants.{SLOT_SYMBOLS}
+use Rattle.fh_base.specs.declared.symbols.TheConstants.{SLOT_SYMBOLS}
 use Rattle.frame_bytes.specs.Headers.{carrier_of}
 use Rattle.unit_model.proofs.ClaimLemmas.{same_slot_is as slots_equal}
 use Rattle.ecpri_fragments.specs.declared.place.TheConstants.{MESSAGE_BYTES}
+use Rattle.fh_base.specs.Members.{IsIn}
+use Rattle.fh_base.proofs.MemberLemmas.{get_in}
 
 -- a part of a message of an endpoint
 pub record IsGoodPart (c : Config) (ep : ℕ) (e : EndpointConfig) (x : Part) : Type 0 where

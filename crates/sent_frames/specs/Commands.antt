@@ -1,7 +1,7 @@
 -- The C-plane message of a line of a plan (O-RAN.WG4.CUS, C-plane messages; which fields a line gives is this project's profile).
 use Rattle.std.specs.Prelude.{ℕ, pos, false, if◌then◌else◌, Option, Some, None}
-use Rattle.fh_time.specs.Kinds.{time_offset_of, cp_length_of}
-use Rattle.fh_time.specs.Numbering.{code_of, offsets_of}
+use Rattle.fh_base.specs.Kinds.{time_offset_of, cp_length_of}
+use Rattle.fh_base.specs.Numbering.{code_of, offsets_of}
 use Rattle.bfp_codec.specs.declared.methods.Format.{Format}
 use Rattle.cplane_sections.specs.declared.values.CBody.{CBody}
 use Rattle.cplane_sections.specs.declared.values.CBody.TheVariants as body

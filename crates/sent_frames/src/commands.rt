@@ -11,7 +11,7 @@ ghost use Rattle.frame_bytes.specs.Headers.{frame_id_of};
 
 use bfp_codec::{Format, Method};
 use cplane_sections::{CBody, CHead, CSection};
-use fh_time::{code, offsets};
+use fh_base::{code, offsets};
 use frame_bytes::command;
 use plan_model::PlannedLine;
 use window_config::{EndpointConfig, PlanKind};

@@ -5,8 +5,8 @@ use Rattle.std.specs.Option.{option_map}
 use Rattle.std.specs.Ordering.{int_eq}
 use Rattle.std.proofs.lemmas.Bool.Decides.{nat_tests}
 use Rattle.std.proofs.lemmas.Bool.{eq-eqb, not-false, not-true}
-use Rattle.fh_time.proofs.Orders.{int_own}
-use Rattle.fh_time.specs.declared.values.Ticks.{Ticks}
+use Rattle.fh_base.proofs.Orders.{int_own}
+use Rattle.fh_base.specs.declared.values.Ticks.{Ticks}
 use Rattle.std.proofs.lemmas.List.{append-nil}
 use Rattle.std.proofs.lemmas.List.Kept.{AllPairs-cons, AllPairs-filter}
 use Rattle.std.proofs.lemmas.List.Elements.{All-cons, All-tail, All-head, filter-append, filter_passes}

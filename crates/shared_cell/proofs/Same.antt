@@ -5,7 +5,7 @@ use Rattle.std.specs.Ordering.{nat_cmp, int_cmp, int_eq, is_eq}
 use Rattle.std.proofs.lemmas.Bool.Decides.{nat_tests}
 use Rattle.std.proofs.lemmas.Int.{ints}
 use Rattle.std.proofs.lemmas.Bool.{eq-eqb, eqb-true}
-use Rattle.fh_time.proofs.Orders.{int_own, same_z}
+use Rattle.fh_base.proofs.Orders.{int_own, same_z}
 use Rattle.shared_cell.specs.declared.places.CellPlace.{CellPlace}
 use Rattle.shared_cell.specs.Places.{is_same, place_cmp}
 

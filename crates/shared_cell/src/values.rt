@@ -1,5 +1,5 @@
 // The combined cell of a place.
-use fh_time::{Slot, Ticks};
+use fh_base::{Slot, Ticks};
 
 /// The sum of the samples of a resource element.
 #[derive(Clone, Copy, Debug, PartialEq, Eq)]

@@ -5,7 +5,7 @@ use Rattle.std.proofs.lemmas.Bool.{cases_eq, cases_lt}
 use Rattle.std.proofs.lemmas.Bool.Decides.{nat_tests}
 use Rattle.std.proofs.lemmas.List.{get_or_at, get_or-set_same, get_or-set_other, length-append, length-map, length-set, set_at}
 use Rattle.bfp_codec.specs.declared.samples.Wide.{Wide}
-use Rattle.unit_model.specs.Lists.{or_else}
+use Rattle.fh_base.specs.Lists.{or_else}
 use Rattle.unit_model.specs.declared.cells.Block.{Block}
 use Rattle.slot_rings.specs.Blocks.{AreNumbers, BlocksValue, block_named, blocks_named, count_named, value_of}
 

@@ -6,14 +6,14 @@ use Rattle.std.proofs.lemmas.List.{get_or-map, get_or_read, length-replicate, ma
 use Rattle.std.proofs.lemmas.List.Elements.{All-get_or, All-replicate, All-set, All-weaker}
 use Rattle.std.proofs.lemmas.List.Folds.{sum_by-replicate}
 use Rattle.std.proofs.lemmas.List.Sums.{get_or-le-sum_by, sum_by-cons, sum_by-le, sum_by-set}
-use Rattle.fh_time.specs.declared.values.Slot.{Slot}
+use Rattle.fh_base.specs.declared.values.Slot.{Slot}
 use Rattle.unit_model.specs.declared.allocations.Allocation.{Allocation}
 use Rattle.slot_rings.specs.Counts.{AreCounted, HasSections, as_number, uplink_sections_in, set_in, set_of}
 use Rattle.slot_rings.specs.Places.{PlaceValue, blank, is_place_of}
 use Rattle.slot_rings.specs.Rings.{IsRing, RingValue, place_index, place_of, ring_uplink}
 use Rattle.slot_rings.proofs.RingLemmas.{index_within, put}
 use Rattle.unit_model.specs.declared.uplink.TheConstants.{SLOT_SECTIONS}
-use Rattle.fh_time.specs.declared.symbols.TheConstants.{SLOT_SYMBOLS}
+use Rattle.fh_base.specs.declared.symbols.TheConstants.{SLOT_SYMBOLS}
 
 -- ---- flags
 

@@ -2,10 +2,10 @@
 use Rattle.std.proofs.Common.{◌≡◌, ◌≢◌, ℕ, ◌+◌, ◌-◌, ◌*◌, ◌<◌, ◌≤◌, inl, inr, Bool, true, false, ◌&&◌, ◌==◌, nat_lt, if◌then◌else◌, List, get_or, refl, ap, sym, ◌∙◌, subst, arith, Option, Some}
 use Rattle.std.proofs.lemmas.Bool.{cases_eq, cases_lt, ltb-false, le-ltb, lt-leb, and_left, and_right}
 use Rattle.std.proofs.lemmas.Nat.{mul-le}
-use Rattle.fh_time.proofs.Orders.{both_ways}
-use Rattle.fh_time.specs.Carrier.{is_outside}
+use Rattle.fh_base.proofs.Orders.{both_ways}
+use Rattle.fh_base.specs.Carrier.{is_outside}
 use Rattle.unit_model.specs.Claims.{first_prb, prb_count, cell_of, every_cell, some_cell, in_mask, is_from, is_claimed, is_overlapped, claim_of}
-use Rattle.unit_model.specs.Lists.{every, some}
+use Rattle.fh_base.specs.Lists.{every, some}
 use Rattle.unit_model.specs.declared.allocations.Allocation.{Allocation}
 use Rattle.unit_model.specs.declared.cells.Cell.{Cell}
 use Rattle.unit_model.specs.declared.cells.Claim.{Claim}

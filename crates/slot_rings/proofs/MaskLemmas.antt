@@ -5,14 +5,14 @@ use Rattle.std.proofs.lemmas.Bool.{eq-eqb, eqb-true}
 use Rattle.std.proofs.lemmas.Nat.{and_le_r, shr-shr}
 use Rattle.std.proofs.lemmas.Nat.Bits.{bit_at_and, bit_at_or, bit_at_not, bit_at_ones, bit_at-lt, bit_at-zero, same_from_bits_below}
 use Rattle.unit_model.specs.Claims.{in_mask, is_under, is_other, is_claimed, is_overlapped}
-use Rattle.unit_model.specs.Lists.{every, some}
+use Rattle.fh_base.specs.Lists.{every, some}
 use Rattle.unit_model.specs.Radiated.{is_used, used_below, used_mask, id_from, cell_id}
 use Rattle.unit_model.specs.declared.cells.Claim.{Claim}
 use Rattle.slot_rings.specs.Places.{claim_in}
 use Rattle.slot_rings.specs.declared.claims.CellClaims.{CellClaims}
 use Rattle.slot_rings.proofs.RangeLemmas.{same_tests, not_every}
 use Rattle.unit_model.proofs.ClaimLemmas.{every_same, some_same, every_at, every_one as every_from, some_not as some_at}
-use Rattle.fh_time.proofs.Orders.{or_false}
+use Rattle.fh_base.proofs.Orders.{or_false}
 
 -- ---- bits
 

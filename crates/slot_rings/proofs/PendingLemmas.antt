@@ -3,8 +3,8 @@ use Rattle.std.proofs.Common.{◌≡◌, ◌≢◌, ℕ, zero, suc, ◌+◌, ◌
 use Rattle.std.specs.Prelude.{◌||◌}
 use Rattle.std.proofs.lemmas.Bool.{cases_eq, cases_Bool, and_parts, eq-eqb, eqb-true}
 use Rattle.std.proofs.lemmas.List.{get_or_read}
-use Rattle.fh_time.specs.declared.values.Slot.{Slot}
-use Rattle.fh_time.specs.Numbering.{symbols_of}
+use Rattle.fh_base.specs.declared.values.Slot.{Slot}
+use Rattle.fh_base.specs.Numbering.{symbols_of}
 use Rattle.unit_model.specs.Claims.{cell_at, is_from, names, same_way}
 use Rattle.unit_model.specs.Radiated.{is_used, used_below, used_mask}
 use Rattle.unit_model.specs.declared.allocations.Allocation.{Allocation}
@@ -21,9 +21,9 @@ use Rattle.slot_rings.proofs.PlaceLemmas.{no_claim}
 use Rattle.slot_rings.proofs.RangeLemmas.{some_from}
 use Rattle.slot_rings.proofs.SeenLemmas.{due_seen}
 use Rattle.slot_rings.proofs.RingLemmas.{index_within, put, symbols_are}
-use Rattle.fh_time.specs.declared.symbols.TheConstants.{SLOT_SYMBOLS}
+use Rattle.fh_base.specs.declared.symbols.TheConstants.{SLOT_SYMBOLS}
 use Rattle.unit_model.proofs.ClaimLemmas.{some_same, some_not as some_at}
-use Rattle.fh_time.proofs.Orders.{both_ways as unequal}
+use Rattle.fh_base.proofs.Orders.{both_ways as unequal}
 
 -- ---- cells in use
 

@@ -2,8 +2,8 @@
 use Rattle.std.proofs.Common.{◌≡◌, ℕ, ◌+◌, ◌*◌, ◌<◌, ◌⊎◌, inl, inr, Bool, true, false, not, ◌&&◌, ◌==◌, if◌then◌else◌, List, length, get_or, reverse, refl, ap, sym, ◌∙◌, Option, Some, None}
 use Rattle.std.proofs.lemmas.Bool.{eq-eqb, cases_Bool}
 use Rattle.std.proofs.lemmas.List.{length-reverse}
-use Rattle.fh_time.specs.declared.values.Slot.{Slot}
-use Rattle.fh_time.specs.Carrier.{is_outside}
+use Rattle.fh_base.specs.declared.values.Slot.{Slot}
+use Rattle.fh_base.specs.Carrier.{is_outside}
 use Rattle.unit_model.specs.Claims.{same_slot, same_way, first_prb, prb_count, cell_of, in_mask, is_from, names, claim_of}
 use Rattle.unit_model.specs.Commands.{is_uplink}
 use Rattle.unit_model.specs.declared.allocations.Allocation.{Allocation}

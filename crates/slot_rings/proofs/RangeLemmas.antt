@@ -1,6 +1,6 @@
 -- Tests over a range of numbers.
 use Rattle.std.proofs.Common.{◌≡◌, ℕ, zero, suc, ◌+◌, ◌<◌, ◌≤◌, Bool, true, false, not, ◌&&◌, ◌||◌, refl, ap, sym, ◌∙◌, arith}
-use Rattle.unit_model.specs.Lists.{every, some}
+use Rattle.fh_base.specs.Lists.{every, some}
 use Rattle.unit_model.proofs.ClaimLemmas.{every_at}
 
 -- two tests that follow from one another

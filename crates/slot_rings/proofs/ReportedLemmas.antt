@@ -5,7 +5,7 @@ use Rattle.std.proofs.lemmas.Bool.{cases_Bool, cases_eq, cases_lt}
 use Rattle.std.proofs.lemmas.Bool.Decides.{nat_tests}
 use Rattle.std.proofs.lemmas.List.{get_or-drop, get_or_past, take_rest}
 use Rattle.unit_model.specs.Claims.{is_from}
-use Rattle.fh_time.proofs.Orders.{both_ways}
+use Rattle.fh_base.proofs.Orders.{both_ways}
 use Rattle.slot_rings.specs.Places.{claim_in, is_in_use, is_reported, no_claims, unreported}
 use Rattle.slot_rings.specs.declared.claims.CellClaims.{CellClaims}
 use Rattle.slot_rings.proofs.JudgeLemmas.{from_above, from_below}

@@ -5,12 +5,12 @@ use Rattle.std.specs.Prelude.{◌||◌}
 use Rattle.std.proofs.lemmas.Bool.{cases_eq, cases_Bool, false_from_ne_true}
 use Rattle.std.proofs.lemmas.List.{get_or_read}
 use Rattle.std.proofs.lemmas.Nat.{mod_below}
-use Rattle.fh_time.specs.declared.kind.Kind.{Kind}
-use Rattle.fh_time.specs.declared.kind.Kind.TheVariants.{Ordinary, Offset, Extended}
-use Rattle.fh_time.specs.declared.numerology.Numerology.{Numerology}
-use Rattle.fh_time.specs.declared.values.Slot.{Slot}
-use Rattle.fh_time.specs.Kinds.{kind_symbols}
-use Rattle.fh_time.specs.Numbering.{slot_number, symbols_of}
+use Rattle.fh_base.specs.declared.kind.Kind.{Kind}
+use Rattle.fh_base.specs.declared.kind.Kind.TheVariants.{Ordinary, Offset, Extended}
+use Rattle.fh_base.specs.declared.numerology.Numerology.{Numerology}
+use Rattle.fh_base.specs.declared.values.Slot.{Slot}
+use Rattle.fh_base.specs.Kinds.{kind_symbols}
+use Rattle.fh_base.specs.Numbering.{slot_number, symbols_of}
 use Rattle.unit_model.specs.Claims.{cell_at}
 use Rattle.unit_model.specs.Proper.{IsSlot}
 use Rattle.unit_model.specs.declared.allocations.Allocation.{Allocation}
@@ -23,7 +23,7 @@ use Rattle.unit_model.specs.declared.verdicts.CommandVerdict.TheVariants.{Accept
 use Rattle.slot_rings.specs.Verdicts.{verdict_by, claim_after}
 use Rattle.slot_rings.proofs.SeenLemmas.{mask_seen, verdict_seen}
 use Rattle.slot_rings.proofs.PlaceLemmas.{of_own, no_claim}
-use Rattle.fh_time.specs.declared.symbols.TheConstants.{SLOT_SYMBOLS}
+use Rattle.fh_base.specs.declared.symbols.TheConstants.{SLOT_SYMBOLS}
 use Rattle.unit_model.proofs.ClaimLemmas.{same_slot_is as slot_is}
 
 pub symbols_are : (n : Numerology) → symbols_of n ≤ SLOT_SYMBOLS

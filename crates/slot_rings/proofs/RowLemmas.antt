@@ -2,7 +2,7 @@
 use Rattle.std.proofs.Common.{◌≡◌, ℕ, zero, suc, ◌+◌, ◌-◌, ◌*◌, ◌<◌, ◌≤◌, inl, inr, Bool, true, false, not, ◌&&◌, ◌||◌, ◌==◌, nat_le, nat_lt, min, max, if◌then◌else◌, is_some, List, [], ◌∷◌, length, get_or, replicate, set, get_or-set_same, get_or-set_other, refl, ap, sym, ◌∙◌, subst, arith, Option, Some, None}
 use Rattle.std.proofs.lemmas.Bool.{and_from, and_parts, cases_Bool, cases_eq, cases_lt, le-leb, leb-true, lt-ltb, ltb-false, ltb-true}
 use Rattle.unit_model.specs.Claims.{claim_of, first_prb, in_mask, is_claimed, is_from, is_other, is_overlapped, is_under, prb_count}
-use Rattle.unit_model.specs.Lists.{every, some}
+use Rattle.fh_base.specs.Lists.{every, some}
 use Rattle.unit_model.specs.declared.allocations.Allocation.{Allocation}
 use Rattle.unit_model.specs.declared.cells.Claim.{Claim}
 use Rattle.slot_rings.specs.Places.{cell_number, claim_in, no_claims, unreported}
@@ -14,7 +14,7 @@ use Rattle.slot_rings.specs.declared.rows.Run.{Run}
 use Rattle.slot_rings.proofs.JudgeLemmas.{from_above, from_below}
 use Rattle.slot_rings.proofs.PlaceLemmas.{no_claim}
 use Rattle.slot_rings.proofs.RangeLemmas.{every_not, some_from}
-use Rattle.fh_time.specs.declared.symbols.TheConstants.{SLOT_SYMBOLS}
+use Rattle.fh_base.specs.declared.symbols.TheConstants.{SLOT_SYMBOLS}
 use Rattle.unit_model.proofs.ClaimLemmas.{is_in as from_in, every_same, some_same, every_at, every_one as every_from, some_one}
 
 -- ---- tests of claims go by their ids alone

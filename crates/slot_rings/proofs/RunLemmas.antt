@@ -7,7 +7,7 @@ use Rattle.bfp_codec.specs.declared.methods.Method.{Method}
 use Rattle.bfp_codec.specs.declared.samples.Wide.{Wide}
 use Rattle.bfp_codec.specs.Layout.{length_of, unpacked_of}
 use Rattle.unit_model.specs.Claims.{is_from}
-use Rattle.unit_model.specs.Lists.{or_else}
+use Rattle.fh_base.specs.Lists.{or_else}
 use Rattle.unit_model.specs.declared.cells.Block.{Block}
 use Rattle.slot_rings.specs.Runs.{packed_block, unpacked_run}
 use Rattle.slot_rings.proofs.JudgeLemmas.{cell_apart}

@@ -2,11 +2,11 @@
 use Rattle.std.proofs.Common.{◌≡◌, ◌≢◌, ℕ, ℤ, ◌<◌, ◌≤◌, ◌≤ℤ◌, inl, inr, Bool, true, false, not, ◌&&◌, List, pos, length, get_or, set, refl, ap, sym, ◌∙◌, subst, arith, length-set, get_or-set_same, get_or-set_other, Some}
 use Rattle.std.proofs.lemmas.Bool.{and_parts, cases_Bool, cases_eq, cases_lt}
 use Rattle.std.proofs.lemmas.List.{get_or_read}
-use Rattle.fh_time.specs.Air.{air_of}
-use Rattle.fh_time.specs.Numbering.{symbols_of}
-use Rattle.fh_time.specs.declared.values.Slot.{Slot}
-use Rattle.fh_time.specs.declared.values.Ticks.{Ticks}
-use Rattle.fh_time.proofs.Orders.{both_ways as unequal}
+use Rattle.fh_base.specs.Air.{air_of}
+use Rattle.fh_base.specs.Numbering.{symbols_of}
+use Rattle.fh_base.specs.declared.values.Slot.{Slot}
+use Rattle.fh_base.specs.declared.values.Ticks.{Ticks}
+use Rattle.fh_base.proofs.Orders.{both_ways as unequal}
 use Rattle.unit_model.specs.Claims.{is_from}
 use Rattle.unit_model.specs.declared.allocations.Allocation.{Allocation}
 use Rattle.slot_rings.specs.Pending.{IsFlagged, due_in, flag_at}
@@ -17,8 +17,8 @@ use Rattle.slot_rings.proofs.PendingLemmas.{due_elsewhere, due_wiped, due_has}
 use Rattle.slot_rings.proofs.PlaceLemmas.{of_is}
 use Rattle.slot_rings.proofs.RingLemmas.{index_within, put, symbols_are}
 use Rattle.std.proofs.lemmas.Int.{ints}
-use Rattle.fh_time.specs.declared.symbols.TheConstants.{SLOT_SYMBOLS}
-use Rattle.fh_time.proofs.Options.{some_is}
+use Rattle.fh_base.specs.declared.symbols.TheConstants.{SLOT_SYMBOLS}
+use Rattle.fh_base.proofs.Options.{some_is}
 
 int_le_trans : (a b c : ℤ) → a ≤ℤ b → b ≤ℤ c → a ≤ℤ c
 int_le_trans a b c p q = grind (arith, ints)

@@ -4,7 +4,7 @@ use Rattle.std.proofs.lemmas.Bool.{and_parts, cases_eq, cases_lt, leb-true, ltb-
 use Rattle.std.proofs.lemmas.List.{get_or_past}
 use Rattle.std.proofs.lemmas.Nat.{div-mul-add, mod-mul-add}
 use Rattle.std.proofs.Math.Nat.{mod-add-div}
-use Rattle.fh_time.proofs.Orders.{both_ways}
+use Rattle.fh_base.proofs.Orders.{both_ways}
 use Rattle.unit_model.specs.Claims.{is_from}
 use Rattle.unit_model.proofs.ClaimLemmas.{from_within, is_in, starts_before}
 use Rattle.slot_rings.specs.Places.{cell_number}

@@ -4,7 +4,7 @@ use Rattle.std.specs.List.{sum_by}
 use Rattle.slot_rings.specs.Places.{PlaceValue}
 use Rattle.slot_rings.specs.Rings.{RingValue}
 use Rattle.unit_model.specs.declared.uplink.TheConstants.{SLOT_SECTIONS}
-use Rattle.fh_time.specs.declared.symbols.TheConstants.{SLOT_SYMBOLS}
+use Rattle.fh_base.specs.declared.symbols.TheConstants.{SLOT_SYMBOLS}
 
 -- ---- the flags of symbols that are set
 

@@ -1,6 +1,6 @@
 -- Which symbols of a place may have cells to report: this project's means to scan no cells in vain.
 use Rattle.std.specs.Prelude.{◌≡◌, ℕ, ◌+◌, Bool, true, false, List, [], length, get_or}
-use Rattle.unit_model.specs.Lists.{some}
+use Rattle.fh_base.specs.Lists.{some}
 use Rattle.slot_rings.specs.Places.{PlaceValue, blank, claim_in, cell_number, is_due, is_reported, no_claims}
 use Rattle.slot_rings.specs.Rings.{RingValue}
 

@@ -1,6 +1,6 @@
 -- What is kept of one slot of an endpoint, and what it answers of a cell.
 use Rattle.std.specs.Prelude.{◌≡◌, ℕ, ◌+◌, ◌*◌, Bool, true, false, not, ◌==◌, ◌&&◌, if◌then◌else◌, List, [], get_or, Option, Some, None}
-use Rattle.fh_time.specs.declared.values.Slot.{Slot}
+use Rattle.fh_base.specs.declared.values.Slot.{Slot}
 use Rattle.unit_model.specs.Claims.{in_mask, same_slot}
 use Rattle.unit_model.specs.Radiated.{used_mask}
 use Rattle.unit_model.specs.declared.allocations.Allocation.{Allocation}

@@ -1,8 +1,8 @@
 -- The places of an endpoint, and which slot belongs to which.
 use Rattle.std.specs.Prelude.{◌≡◌, ℕ, pos, ◌<◌, ◌≤◌, Bool, false, List, [], length, get_or, set, Option, Some, None}
 use Rattle.std.specs.Int.{int_rem_euclid, int_gap}
-use Rattle.fh_time.specs.declared.values.Slot.{Slot}
-use Rattle.fh_time.specs.Numbering.{slot_number, symbols_of}
+use Rattle.fh_base.specs.declared.values.Slot.{Slot}
+use Rattle.fh_base.specs.Numbering.{slot_number, symbols_of}
 use Rattle.window_config.specs.declared.endpoints.EndpointConfig.{EndpointConfig}
 use Rattle.unit_model.specs.Proper.{IsSlot}
 use Rattle.unit_model.specs.declared.allocations.Allocation.{Allocation}
@@ -10,7 +10,7 @@ use Rattle.unit_model.specs.declared.cells.Block.{Block}
 use Rattle.unit_model.specs.declared.cells.Cell.{Cell}
 use Rattle.unit_model.specs.declared.cells.Claim.{Claim}
 use Rattle.slot_rings.specs.Places.{PlaceValue, blank, is_place_of, place_claim, place_block, place_reported, place_uplink}
-use Rattle.fh_time.specs.declared.carrier.TheConstants.{CARRIER_PRBS}
+use Rattle.fh_base.specs.declared.carrier.TheConstants.{CARRIER_PRBS}
 
 pub record RingValue : Type 0 where
   pub endpoint : EndpointConfig

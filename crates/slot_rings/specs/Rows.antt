@@ -8,7 +8,7 @@ use Rattle.slot_rings.specs.declared.claims.CellClaims.{CellClaims}
 use Rattle.slot_rings.specs.declared.rows.Row.{Row}
 use Rattle.slot_rings.specs.declared.rows.Row.TheVariants.{Known, Mixed}
 use Rattle.slot_rings.specs.declared.rows.Run.{Run}
-use Rattle.fh_time.specs.declared.symbols.TheConstants.{SLOT_SYMBOLS}
+use Rattle.fh_base.specs.declared.symbols.TheConstants.{SLOT_SYMBOLS}
 
 -- the id of a claim, idle or not
 abbrev pub claim_id : Option Claim → Option ℕ

@@ -1,11 +1,11 @@
 -- From which tick on the symbols of a ring may have cells to report: this project's means to look at no place in vain.
 use Rattle.std.specs.Prelude.{◌≡◌, ℕ, ℤ, pos, ◌<◌, ◌≤ℤ◌, Bool, true, false, List, length, get_or, Option, Some, None}
-use Rattle.fh_time.specs.Air.{air_of}
-use Rattle.fh_time.specs.Numbering.{symbols_of}
-use Rattle.fh_time.specs.declared.values.Slot.{Slot}
-use Rattle.fh_time.specs.declared.values.Ticks.{Ticks}
+use Rattle.fh_base.specs.Air.{air_of}
+use Rattle.fh_base.specs.Numbering.{symbols_of}
+use Rattle.fh_base.specs.declared.values.Slot.{Slot}
+use Rattle.fh_base.specs.declared.values.Ticks.{Ticks}
 use Rattle.unit_model.specs.Claims.{cell_at}
-use Rattle.unit_model.specs.Lists.{some}
+use Rattle.fh_base.specs.Lists.{some}
 use Rattle.slot_rings.specs.Pending.{due_in}
 use Rattle.slot_rings.specs.Places.{PlaceValue, blank, is_due}
 use Rattle.slot_rings.specs.Rings.{RingValue, ring_claim, ring_reported}

@@ -1,6 +1,6 @@
 -- The verdict on an allocation that is on time, over what is looked up, and what it leaves.
 use Rattle.std.specs.Prelude.{ℕ, Bool, ◌&&◌, nat_le, if◌then◌else◌, List, ◌∷◌, Option, Some}
-use Rattle.fh_time.specs.Carrier.{is_outside}
+use Rattle.fh_base.specs.Carrier.{is_outside}
 use Rattle.unit_model.specs.Claims.{names, claim_of, every_cell, some_cell, is_claimed, is_overlapped}
 use Rattle.unit_model.specs.Commands.{is_uplink}
 use Rattle.unit_model.specs.declared.allocations.Allocation.{Allocation}

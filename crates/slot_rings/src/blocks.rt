@@ -2,7 +2,7 @@
 ghost use Rattle.std.specs.Prelude.{◌≡◌, ◌≢◌, ℕ, ◌+◌, ◌^◌, ◌<◌, ◌≤◌, ◌++◌, ◌∷◌, ◌==◌, [], false, get_or, length, IfOk, None, Some, option_copied, vec_capacity, vec_len};
 ghost use Rattle.bfp_codec.specs.Layout.{HasWidth, length_of, unpacked_of};
 ghost use Rattle.unit_model.specs.Claims.{is_from};
-ghost use Rattle.unit_model.specs.Lists.{or_else};
+ghost use Rattle.fh_base.specs.Lists.{or_else};
 ghost use Rattle.slot_rings.specs.Written.{AreBlankElsewhere};
 
 use crate::lists::{items_from, reach};

@@ -1,10 +1,10 @@
 // The place of a slot.
 ghost use Rattle.std.specs.Prelude.{◌≡◌, pos, neg_ℤ, ◌<◌, ◌≤ℤ◌, ◌+ℤ◌, ◌*ℤ◌};
 ghost use Rattle.std.specs.Int.{int_rem_euclid, int_gap};
-ghost use Rattle.fh_time.specs.Numbering.{slot_number};
+ghost use Rattle.fh_base.specs.Numbering.{slot_number};
 ghost use Rattle.unit_model.specs.Proper.{IsSlot};
 
-use fh_time::{Numerology, Slot, shape};
+use fh_base::{Numerology, Slot, shape};
 
 /// The number of a slot's subframe, 0 for the first of frame 0.
 fn subframe_number(slot: Slot) -> i64

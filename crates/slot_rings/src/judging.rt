@@ -1,20 +1,20 @@
 // Allocations against the claims of their slot.
 ghost use Rattle.std.specs.Prelude.{◌≡◌, ◌≢◌, ℕ, ◌+◌, ◌*◌, ◌^◌, ◌<◌, ◌≤◌, ◌&&◌, false, get_or, vec_capacity, vec_len, true, if◌then◌else◌, Some};
-ghost use Rattle.fh_time.specs.Carrier.{is_outside};
+ghost use Rattle.fh_base.specs.Carrier.{is_outside};
 ghost use Rattle.unit_model.specs.Claims.{first_prb, prb_count, cell_of, in_mask, is_from, is_claimed, is_overlapped, claim_of};
 ghost use Rattle.unit_model.specs.Commands.{is_uplink};
-ghost use Rattle.unit_model.specs.Lists.{every, some};
+ghost use Rattle.fh_base.specs.Lists.{every, some};
 ghost use Rattle.slot_rings.specs.Places.{claim_in, claims_in, is_reported, no_claims};
 ghost use Rattle.slot_rings.specs.Rows.{AreRows};
 ghost use Rattle.slot_rings.specs.Written.{AreBlankElsewhere};
 ghost use Rattle.slot_rings.specs.Verdicts.{repeats_by, overlaps_by, verdict_by};
-ghost use Rattle.fh_time.specs.declared.symbols.TheConstants.{SLOT_SYMBOLS};
+ghost use Rattle.fh_base.specs.declared.symbols.TheConstants.{SLOT_SYMBOLS};
 
 use crate::claims::{CellClaims, NONE};
 use crate::lists::{put_all, reach};
 use crate::rows::{Row, note, row_at};
 use crate::written::{Spans, is_unwritten, widen};
-use fh_time::SLOT_SYMBOLS;
+use fh_base::SLOT_SYMBOLS;
 use unit_model::{Allocation, CommandVerdict, SLOT_SECTIONS};
 
 /// The first PRB that an allocation covers.
@@ -35,7 +35,7 @@ pub(crate) fn prb_count(a: &Allocation) -> usize
 fn is_outside(a: &Allocation) -> bool
     ensures { result ≡ is_outside a.now.endpoint.prbs a.now.start_prb a.now.num_prb }
 {
-    fh_time::is_outside(a.start_prb, a.num_prb, a.endpoint.prbs)
+    fh_base::is_outside(a.start_prb, a.num_prb, a.endpoint.prbs)
 }
 
 /// Whether the radio unit sends data for it.

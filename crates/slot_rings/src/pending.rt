@@ -2,10 +2,9 @@
 ghost use Rattle.std.specs.Prelude.{◌≡◌, ◌≢◌, ℕ, ◌+◌, ◌<◌, ◌≤◌, true, false, length, IfOk};
 ghost use Rattle.unit_model.specs.Claims.{is_from};
 ghost use Rattle.slot_rings.specs.Pending.{flag_at};
-ghost use Rattle.fh_time.specs.declared.symbols.TheConstants.{SLOT_SYMBOLS};
+ghost use Rattle.fh_base.specs.declared.symbols.TheConstants.{SLOT_SYMBOLS};
 
-use fh_base::NoMemory;
-use fh_time::SLOT_SYMBOLS;
+use fh_base::{NoMemory, SLOT_SYMBOLS};
 use std::alloc::Global;
 use std::marker::Model;
 use unit_model::Allocation;

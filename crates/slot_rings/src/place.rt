@@ -1,10 +1,10 @@
 // The memory of one slot.
 ghost use Rattle.std.specs.Prelude.{◌≡◌, ◌≢◌, ℕ, ◌+◌, ◌*◌, ◌<◌, ◌≤◌, ◌||◌, true, false, List, length, get_or, reverse, if◌then◌else◌, IfOk, None, Some, vec_capacity, vec_len};
-ghost use Rattle.fh_time.specs.Carrier.{is_outside};
+ghost use Rattle.fh_base.specs.Carrier.{is_outside};
 ghost use Rattle.bfp_codec.specs.Layout.{HasWidth};
 ghost use Rattle.unit_model.specs.Claims.{is_from, same_slot};
 ghost use Rattle.unit_model.specs.Commands.{is_uplink};
-ghost use Rattle.unit_model.specs.Lists.{or_else};
+ghost use Rattle.fh_base.specs.Lists.{or_else};
 ghost use Rattle.unit_model.specs.declared.cells.Cell.{Cell};
 ghost use Rattle.unit_model.specs.declared.verdicts.CommandVerdict.TheVariants.{Accepted};
 ghost use Rattle.slot_rings.specs.Verdicts.{uplink_after};
@@ -14,8 +14,8 @@ ghost use Rattle.slot_rings.specs.Written.{AreBlankElsewhere};
 ghost use Rattle.slot_rings.specs.declared.rows.Row.{Row};
 ghost use Rattle.slot_rings.specs.declared.rows.Span.{Span};
 ghost use Rattle.slot_rings.specs.Runs.{packed_block, packed_samples};
-ghost use Rattle.fh_time.specs.declared.carrier.TheConstants.{CARRIER_PRBS};
-ghost use Rattle.fh_time.specs.declared.symbols.TheConstants.{SLOT_SYMBOLS};
+ghost use Rattle.fh_base.specs.declared.carrier.TheConstants.{CARRIER_PRBS};
+ghost use Rattle.fh_base.specs.declared.symbols.TheConstants.{SLOT_SYMBOLS};
 ghost use Rattle.unit_model.specs.declared.uplink.TheConstants.{SLOT_SECTIONS};
 
 use crate::blocks::{Blocks, LentBlocks};
@@ -25,8 +25,7 @@ use crate::lists::reach;
 use crate::packed::PackedRun;
 use crate::rows::{EMPTY, Row, Span, row_at, span_of};
 use crate::written::{Spans, UNWRITTEN, widen, wipe};
-use fh_base::NoMemory;
-use fh_time::{PrbSpan, SLOT_SYMBOLS, Slot};
+use fh_base::{NoMemory, PrbSpan, SLOT_SYMBOLS, Slot};
 use std::alloc::Global;
 use std::marker::Model;
 use unit_model::{Allocation, Block, CommandVerdict, SLOT_SECTIONS};
@@ -55,7 +54,7 @@ pub(crate) struct Place {
 
 impl Model for Place {
     ghost use Rattle.std.specs.Prelude.{◌*◌, ◌≤◌, length, reverse, vec_capacity, None};
-    ghost use Rattle.fh_time.specs.declared.symbols.TheConstants.{SLOT_SYMBOLS};
+    ghost use Rattle.fh_base.specs.declared.symbols.TheConstants.{SLOT_SYMBOLS};
     ghost use Rattle.unit_model.specs.declared.uplink.TheConstants.{SLOT_SECTIONS};
     ghost use Rattle.slot_rings.specs.Places.{PlaceValue, no_claims};
     ghost use Rattle.slot_rings.specs.Rows.{AreRows};

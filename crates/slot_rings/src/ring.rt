@@ -1,19 +1,19 @@
 // The ring of places.
 ghost use Rattle.std.specs.Prelude.{◌≡◌, ◌≢◌, ℕ, ◌+◌, ◌*◌, ◌<◌, ◌≤◌, ◌||◌, ◌↔◌, true, false, [], length, get_or, replicate, reverse, is_some, IfOk, IfSome, None, Some, option_copied};
 ghost use Rattle.bfp_codec.specs.Layout.{HasWidth};
-ghost use Rattle.fh_time.specs.declared.values.Slot.{Slot};
-ghost use Rattle.fh_time.specs.Numbering.{symbols_of};
+ghost use Rattle.fh_base.specs.declared.values.Slot.{Slot};
+ghost use Rattle.fh_base.specs.Numbering.{symbols_of};
 ghost use Rattle.unit_model.specs.Claims.{cell_at, is_from};
-ghost use Rattle.unit_model.specs.Lists.{every, some, or_else};
+ghost use Rattle.fh_base.specs.Lists.{every, some, or_else};
 ghost use Rattle.unit_model.specs.Proper.{IsSlot};
 ghost use Rattle.unit_model.specs.declared.cells.Cell.{Cell};
 ghost use Rattle.unit_model.specs.declared.verdicts.CommandVerdict.TheVariants.{Accepted};
 ghost use Rattle.slot_rings.specs.Places.{blank, claim_in, empty_place, no_claims, is_place_of, is_due, is_in_use, is_reported, unreported, IsOpened, place_claim, place_uplink, cell_number};
 ghost use Rattle.slot_rings.specs.Runs.{packed_block, packed_samples};
 ghost use Rattle.slot_rings.specs.Verdicts.{verdict_by, claim_after, uplink_after};
-ghost use Rattle.fh_time.specs.declared.symbols.TheConstants.{SLOT_SYMBOLS};
+ghost use Rattle.fh_base.specs.declared.symbols.TheConstants.{SLOT_SYMBOLS};
 ghost use Rattle.unit_model.specs.declared.uplink.TheConstants.{SLOT_SECTIONS};
-ghost use Rattle.fh_time.specs.declared.carrier.TheConstants.{CARRIER_PRBS};
+ghost use Rattle.fh_base.specs.declared.carrier.TheConstants.{CARRIER_PRBS};
 
 use crate::index::place_index;
 use crate::lists::items_from;
@@ -23,8 +23,7 @@ use crate::place::Place;
 use crate::scans::{all_there, any_due};
 use crate::starts::{Starts, start_from};
 use crate::symbol_cells::SymbolCells;
-use fh_base::NoMemory;
-use fh_time::{Slot, Ticks};
+use fh_base::{NoMemory, Slot, Ticks};
 use std::alloc::Global;
 use std::marker::Model;
 use unit_model::{Allocation, Block, CommandVerdict};

@@ -1,14 +1,14 @@
 // What is known of the claims of a symbol.
 ghost use Rattle.std.specs.Prelude.{◌≡◌, ℕ, ◌+◌, ◌^◌, ◌<◌, ◌≤◌, ◌&&◌, nat_le, nat_lt, min, max, true, false};
 ghost use Rattle.unit_model.specs.Claims.{is_from, is_claimed, is_overlapped};
-ghost use Rattle.unit_model.specs.Lists.{every, some};
+ghost use Rattle.fh_base.specs.Lists.{every, some};
 ghost use Rattle.slot_rings.specs.Places.{claim_in};
 ghost use Rattle.slot_rings.specs.Rows.{row_at, run_claims, row_claims, claimed_run, Grows, HasNoneOutside};
 ghost use Rattle.slot_rings.specs.declared.rows.Row.TheVariants.{Known};
-ghost use Rattle.fh_time.specs.declared.symbols.TheConstants.{SLOT_SYMBOLS};
+ghost use Rattle.fh_base.specs.declared.symbols.TheConstants.{SLOT_SYMBOLS};
 
 use crate::claims::{CellClaims, NONE};
-use fh_time::SLOT_SYMBOLS;
+use fh_base::SLOT_SYMBOLS;
 use unit_model::Allocation;
 
 /// Cells of a symbol with claims on the same elements under one section id. No other cell of the symbol has any.

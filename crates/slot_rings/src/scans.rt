@@ -1,6 +1,6 @@
 // Tests over the cells of one symbol.
 ghost use Rattle.std.specs.Prelude.{◌≡◌, ℕ, ◌+◌, ◌^◌, ◌<◌, ◌≤◌, ◌&&◌, false, get_or, is_some};
-ghost use Rattle.unit_model.specs.Lists.{every, some};
+ghost use Rattle.fh_base.specs.Lists.{every, some};
 ghost use Rattle.slot_rings.specs.Blocks.{block_lent};
 ghost use Rattle.slot_rings.specs.Places.{claim_in, no_claims, is_due, is_reported};
 

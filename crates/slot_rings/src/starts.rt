@@ -1,14 +1,13 @@
 // From which tick on the symbols of the places may have cells to report.
 ghost use Rattle.std.specs.Prelude.{◌≡◌, ◌≢◌, ℕ, ℤ, ◌<◌, ◌≤◌, ◌≤ℤ◌, true, false, length, IfOk, IfSome, Some};
-ghost use Rattle.fh_time.specs.Air.{air_of};
-ghost use Rattle.fh_time.specs.Numbering.{symbols_of};
-ghost use Rattle.fh_time.specs.declared.values.Slot.{Slot};
+ghost use Rattle.fh_base.specs.Air.{air_of};
+ghost use Rattle.fh_base.specs.Numbering.{symbols_of};
+ghost use Rattle.fh_base.specs.declared.values.Slot.{Slot};
 ghost use Rattle.unit_model.specs.Claims.{is_from};
 ghost use Rattle.unit_model.specs.Proper.{IsSlot};
 ghost use Rattle.slot_rings.specs.Starts.{IsLeast, start_at};
 
-use fh_base::NoMemory;
-use fh_time::{Numerology, Slot, Ticks, air, shape};
+use fh_base::{NoMemory, Numerology, Slot, Ticks, air, shape};
 use std::alloc::Global;
 use std::marker::Model;
 use unit_model::Allocation;
@@ -60,7 +59,7 @@ pub(crate) struct Starts {
 
 impl Model for Starts {
     ghost use Rattle.std.specs.Prelude.{List};
-    ghost use Rattle.fh_time.specs.declared.values.Ticks.{Ticks as SpecTicks};
+    ghost use Rattle.fh_base.specs.declared.values.Ticks.{Ticks as SpecTicks};
     ghost use Rattle.slot_rings.specs.Starts.{IsLeast};
 
     ghost Value = { List SpecTicks };

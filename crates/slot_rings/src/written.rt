@@ -3,11 +3,11 @@ ghost use Rattle.std.specs.Prelude.{◌≡◌, ℕ, ◌+◌, ◌^◌, ◌<◌, �
 ghost use Rattle.unit_model.specs.Claims.{is_from};
 ghost use Rattle.slot_rings.specs.Places.{cell_number};
 ghost use Rattle.slot_rings.specs.Written.{AreBlankElsewhere, is_in_span, is_written};
-ghost use Rattle.fh_time.specs.declared.symbols.TheConstants.{SLOT_SYMBOLS};
+ghost use Rattle.fh_base.specs.declared.symbols.TheConstants.{SLOT_SYMBOLS};
 
 use crate::lists::overwrite;
 use crate::rows::Span;
-use fh_time::{PrbSpan, SLOT_SYMBOLS};
+use fh_base::{PrbSpan, SLOT_SYMBOLS};
 
 /// Of each symbol the PRBs whose cells may have been written.
 pub(crate) type Spans = [Span; SLOT_SYMBOLS];

@@ -1,23 +1,21 @@
 -- A picture that was drawn, or was not.
-use Rattle.std.proofs.Common.{true, ◌≡◌, ◌∙◌, ◌<◌, ℕ, List, [], Option, Result, Ok, Err, length, inl, inr, refl, sym, subst, arith}
+use Rattle.std.proofs.Common.{true, ◌≡◌, ◌∙◌, ℕ, List, [], Option, Result, Ok, Err, inl, inr, refl, sym, subst}
 use Rattle.std.specs.Io.KnownBytes.{append_known}
 use Rattle.fh_base.specs.Causes.{Counts}
 use Rattle.fh_base.specs.Told.{WritesFront, WritesPart}
 use Rattle.fh_base.specs.KnownLaws.{append_nothing}
 use Rattle.fh_base.proofs.Progress.{front_none, front_whole}
-use Rattle.picture_lines.specs.Refusals.{Draws, HasDrawCause}
-use Rattle.picture_lines.specs.declared.faults.DrawFault.{DrawFault}
-use Rattle.picture_lines.specs.declared.faults.DrawFault.TheVariants as draw
-use Rattle.picture_lines.specs.declared.faults.TextWhy.{TextWhy}
+use Rattle.pictures.specs.Refusals.{Draws, HasDrawCause}
+use Rattle.pictures.specs.declared.faults.DrawFault.{DrawFault}
+use Rattle.pictures.specs.declared.faults.DrawFault.TheVariants as draw
+use Rattle.pictures.specs.declared.faults.TextWhy.{TextWhy}
 use Rattle.top_call.specs.declared.status.Status.{Status}
 use Rattle.top_call.specs.declared.status.Status.TheVariants.{Done, BadText, WriteFault, NoMemory}
 use Rattle.top_call.specs.Answers.{Answer, of_picture}
 use Rattle.top_call.specs.Endings.{drawn_status}
 use Rattle.top_call.specs.Run.{Performs}
 use Rattle.top_call.proofs.Parts.{part_none}
-
-part_front : (old new : Option (List ℕ)) (text : List ℕ) → WritesPart old new text → WritesFront old new text
-part_front old new text part = let within : part.count < length text = part.within in record { count = part.count; within = omega arith; is = part.is }
+use Rattle.fh_base.proofs.Parts.{part_front}
 
 -- the picture of a text that is accepted
 drawn_ok : (wanted : Result (List ℕ) (ℕ × TextWhy)) (picture : List ℕ) (old new : Option (List ℕ)) (before now : ℕ) → wanted ≡ Ok picture → new ≡ append_known old picture → now ≡ before

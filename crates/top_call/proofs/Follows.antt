@@ -17,9 +17,9 @@ use Rattle.fh_document.specs.Document.{document_of}
 use Rattle.pcap_frames.specs.declared.refusals.PcapRefusal.{PcapRefusal}
 use Rattle.pcap_frames.specs.Checked.{checked as pcap_checked}
 use Rattle.pcap_frames.specs.Frames.{frames_of}
-use Rattle.grid_picture.specs.Picture.{drawn as grid_of, span_of}
-use Rattle.window_picture.specs.Picture.{drawn as windows_of}
-use Rattle.picture_lines.specs.declared.faults.TextWhy.{TextWhy}
+use Rattle.pictures.specs.Picture.{drawn as grid_of, span_of}
+use Rattle.pictures.specs.WindowPicture.{drawn as windows_of}
+use Rattle.pictures.specs.declared.faults.TextWhy.{TextWhy}
 use Rattle.pcap_lines.specs.Texts.{arrived_as, lines_of}
 use Rattle.plan_model.specs.Valid.{plan_refusal}
 use Rattle.plan_model.specs.declared.refusals.PlanWhy.{PlanWhy}

@@ -7,7 +7,7 @@ use Rattle.fh_document.specs.Document.{document_of}
 use Rattle.fh_document.specs.declared.document.Document.{Document}
 use Rattle.fh_document.specs.declared.refusals.DocFault.{DocFault}
 use Rattle.plan_model.specs.Sent.{SentFrame}
-use Rattle.plan_check.specs.declared.testing.PlanRefusal.{PlanRefusal}
+use Rattle.du_scheduler.specs.declared.testing.PlanRefusal.{PlanRefusal}
 use Rattle.top_call.specs.declared.status.Status.{Status}
 use Rattle.top_call.specs.Answers.{Answer, of_document, of_planned}
 use Rattle.top_call.specs.Endings.{unplanned_status}

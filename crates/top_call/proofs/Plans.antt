@@ -1,13 +1,13 @@
 -- A command over a document whose plan was tested.
-use Rattle.std.proofs.Common.{◌≡◌, ℕ, zero, suc, List, [], ◌∷◌, Option, None, Result, Err, refl, sym, subst}
-use Rattle.std.specs.Prelude.{slice_get, slice_index}
+use Rattle.std.proofs.Common.{◌≡◌, ℕ, List, Option, Result, Err, sym, subst}
+use Rattle.std.specs.Prelude.{slice_index}
 use Rattle.du_scheduler.specs.Plans.{Checks, HasToSend}
 use Rattle.du_scheduler.specs.declared.plans.Plan.{Plan as Schedule}
 use Rattle.fh_document.specs.declared.document.Document.{Document}
 use Rattle.plan_model.specs.Sent.{SentFrame}
 use Rattle.plan_model.specs.declared.refusals.PlanWhy.{PlanWhy}
-use Rattle.plan_check.specs.declared.testing.PlanRefusal.{PlanRefusal}
-use Rattle.plan_check.specs.declared.testing.PlanRefusal.TheVariants as refusal
+use Rattle.du_scheduler.specs.declared.testing.PlanRefusal.{PlanRefusal}
+use Rattle.du_scheduler.specs.declared.testing.PlanRefusal.TheVariants as refusal
 use Rattle.top_call.specs.declared.status.LineWhy.TheVariants.{Plan}
 use Rattle.top_call.specs.declared.status.Status.{Status}
 use Rattle.top_call.specs.declared.status.Status.TheVariants.{BadDocument}
@@ -17,12 +17,6 @@ use Rattle.top_call.specs.Run.{Performs}
 use Rattle.top_call.proofs.Documents.{refuses, wanting}
 
 -- ---- what is answered
-
--- the number that stands where no number does
-pub none_there : (xs : List ℕ) (k : ℕ) → slice_get xs k ≡ None → 0 ≡ slice_index xs k
-none_there [] k h = refl
-none_there (x ∷ xs) zero h = absurd (cc h)
-none_there (x ∷ xs) (suc k) h = none_there xs k h
 
 pub planned_as : (answer : Document → Answer) (d : Document) (left : List SentFrame) (p : Schedule) (old new : Option (List ℕ)) (before now : ℕ) (status : Status)
     → HasToSend d.config d.plan left p → Performs (answer d) old new before now status → Performs (of_planned answer d) old new before now status

@@ -11,17 +11,17 @@ use Rattle.fh_base.specs.declared.fault.ReadAllFault.TheVariants as source
 use Rattle.fh_base.proofs.Known.{prepend_nothing, came_all}
 use Rattle.fh_base.specs.KnownLaws.{append_nothing}
 use Rattle.fh_base.proofs.Progress.{front_none}
-use Rattle.explain_text.proofs.DocumentLemmas.{explained as is_explained}
+use Rattle.document_texts.proofs.DocumentLemmas.{explained as is_explained}
 use Rattle.fh_document.specs.Document.{document_of}
 use Rattle.fh_document.specs.declared.document.Document.{Document}
 use Rattle.fh_document.specs.Proper.{IsDocument}
 use Rattle.fh_document.proofs.Properness.{document_of_in}
 use Rattle.fronthaul_replay.proofs.LawLemmas.{is_sound}
-use Rattle.idle_replay.proofs.IdleLemmas.{is_idle}
+use Rattle.document_texts.proofs.IdleLemmas.{is_idle}
 use Rattle.idle_spans.specs.Tables.{AreFrames}
-use Rattle.sent_text.specs.Laws.{IsListed}
-use Rattle.sent_text.proofs.RowLemmas.{is_listed}
-use Rattle.shared_text.proofs.Summing.{summed, unit_sound}
+use Rattle.document_texts.specs.SentLaws.{IsListed}
+use Rattle.document_texts.proofs.RowLemmas.{is_listed}
+use Rattle.document_texts.proofs.Summing.{summed, unit_sound}
 use Rattle.top_call.specs.declared.status.Status.{Status}
 use Rattle.top_call.specs.declared.status.Status.TheVariants.{Done, BadWords, BadDocument, BadCapture, ReadFault, WriteFault, NoMemory, TooLong, CheckFails, BadPcap, BadText, NoFit}
 use Rattle.top_call.specs.Answers.{Answer, answer_of, asked, is_reading, reads}

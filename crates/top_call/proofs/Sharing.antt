@@ -2,9 +2,9 @@
 use Rattle.std.proofs.Common.{◌≡◌, ℕ, List, Option, Result, Ok, Err, OnOk, OnErr, sym, subst}
 use Rattle.std.specs.Io.KnownBytes.{append_known}
 use Rattle.fh_base.specs.Told.{WritesFront, WritesPart}
-use Rattle.shared_text.specs.Faults.{HasShareCause}
-use Rattle.shared_text.specs.declared.faults.ShareFault.{ShareFault}
-use Rattle.shared_text.specs.declared.faults.ShareFault.TheVariants as share
+use Rattle.document_texts.specs.Faults.{HasShareCause}
+use Rattle.document_texts.specs.declared.faults.ShareFault.{ShareFault}
+use Rattle.document_texts.specs.declared.faults.ShareFault.TheVariants as share
 use Rattle.top_call.specs.declared.status.Status.{Status}
 use Rattle.top_call.specs.declared.status.Status.TheVariants.{Done}
 use Rattle.top_call.specs.Answers.{Answer}

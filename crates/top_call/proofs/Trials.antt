@@ -14,7 +14,7 @@ use Rattle.fh_document.specs.declared.refusals.DocWhy.{DocWhy}
 use Rattle.fh_document.proofs.Properness.{document_of_in}
 use Rattle.generated_laws.specs.Documents.{document}
 use Rattle.generated_laws.proofs.Read.{are_read}
-use Rattle.plain_documents.proofs.Generated.{generated_are_undisturbed}
+use Rattle.document_traffic.proofs.Generated.{generated_are_undisturbed}
 use Rattle.fronthaul_replay.proofs.LawLemmas.{is_sound}
 use Rattle.command_words.specs.Words.{command_of}
 use Rattle.command_words.specs.declared.commands.Command.TheVariants.{Trial}

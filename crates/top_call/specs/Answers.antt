@@ -17,9 +17,9 @@ use Rattle.pcap_frames.specs.declared.refusals.PcapRefusal.{PcapRefusal}
 use Rattle.pcap_frames.specs.declared.values.Whose.{Whose}
 use Rattle.pcap_frames.specs.Checked.{checked as pcap_checked}
 use Rattle.pcap_frames.specs.Frames.{frames_of}
-use Rattle.grid_picture.specs.Picture.{drawn as grid_of, span_of}
-use Rattle.window_picture.specs.Picture.{drawn as windows_of}
-use Rattle.picture_lines.specs.declared.faults.TextWhy.{TextWhy}
+use Rattle.pictures.specs.Picture.{drawn as grid_of, span_of}
+use Rattle.pictures.specs.WindowPicture.{drawn as windows_of}
+use Rattle.pictures.specs.declared.faults.TextWhy.{TextWhy}
 use Rattle.pcap_lines.specs.Texts.{arrived_as, lines_of}
 use Rattle.plan_model.specs.Valid.{plan_refusal}
 use Rattle.plan_model.specs.declared.refusals.PlanWhy.{PlanWhy}
@@ -31,10 +31,10 @@ use Rattle.window_plan.specs.Fit.{fit_text}
 use Rattle.window_plan.specs.Windows.{windows_text}
 use Rattle.window_plan.specs.declared.refusals.NoFit.{NoFit as Refusal}
 use Rattle.window_plan.specs.Fitting.{fitted}
-use Rattle.sent_text.specs.Text.{sent_text}
-use Rattle.explain_text.specs.Text.{explanation}
-use Rattle.shared_text.specs.Shared.{shared_text}
-use Rattle.idle_replay.specs.Idle.{document_idle}
+use Rattle.document_texts.specs.SentText.{sent_text}
+use Rattle.document_texts.specs.Text.{explanation}
+use Rattle.document_texts.specs.Shared.{shared_text}
+use Rattle.document_texts.specs.Idle.{document_idle}
 use Rattle.top_call.specs.declared.status.LineWhy.TheVariants.{Doc, Plan}
 use Rattle.top_call.specs.declared.status.Status.{Status}
 use Rattle.top_call.specs.declared.status.Status.TheVariants.{Done, BadWords, BadDocument, BadCapture, CheckFails, BadPcap, BadText, NoFit}

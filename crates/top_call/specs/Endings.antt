@@ -11,14 +11,14 @@ use Rattle.fh_document.specs.declared.refusals.DocFault.{DocFault}
 use Rattle.fh_document.specs.declared.refusals.DocFault.TheVariants as doc
 use Rattle.fronthaul_replay.specs.declared.report.TextFault.{TextFault}
 use Rattle.fronthaul_replay.specs.declared.report.TextFault.TheVariants as text
-use Rattle.plan_check.specs.declared.testing.PlanRefusal.{PlanRefusal}
-use Rattle.plan_check.specs.declared.testing.PlanRefusal.TheVariants as plan
+use Rattle.du_scheduler.specs.declared.testing.PlanRefusal.{PlanRefusal}
+use Rattle.du_scheduler.specs.declared.testing.PlanRefusal.TheVariants as plan
 use Rattle.pcap_frames.specs.declared.refusals.PcapFault.{PcapFault}
 use Rattle.pcap_frames.specs.declared.refusals.PcapFault.TheVariants as pcap
-use Rattle.picture_lines.specs.declared.faults.DrawFault.{DrawFault}
-use Rattle.picture_lines.specs.declared.faults.DrawFault.TheVariants as draw
-use Rattle.shared_text.specs.declared.faults.ShareFault.{ShareFault}
-use Rattle.shared_text.specs.declared.faults.ShareFault.TheVariants as share
+use Rattle.pictures.specs.declared.faults.DrawFault.{DrawFault}
+use Rattle.pictures.specs.declared.faults.DrawFault.TheVariants as draw
+use Rattle.document_texts.specs.declared.faults.ShareFault.{ShareFault}
+use Rattle.document_texts.specs.declared.faults.ShareFault.TheVariants as share
 use Rattle.top_call.specs.declared.status.LineWhy.TheVariants.{Doc, Plan}
 use Rattle.top_call.specs.declared.status.Status.{Status}
 use Rattle.top_call.specs.declared.status.Status.TheVariants.{Done, BadDocument, BadCapture, ReadFault, WriteFault, NoMemory, TooLong, BadPcap, BadText}

@@ -6,17 +6,17 @@ use Rattle.command_words.specs.declared.commands.Command.{Command}
 use Rattle.command_words.specs.declared.commands.Command.TheVariants.{Explain, Trial}
 use Rattle.fh_base.specs.Causes.{Counts, Rose}
 use Rattle.fh_base.specs.Told.{WritesFront, WritesPart}
-use Rattle.explain_text.specs.Explained.{IsExplainedDocument}
-use Rattle.explain_text.specs.Text.{HasFewFrames}
+use Rattle.document_texts.specs.Explained.{IsExplainedDocument}
+use Rattle.document_texts.specs.Text.{HasFewFrames}
 use Rattle.fh_document.specs.Document.{document_of}
 use Rattle.fh_document.specs.declared.document.Document.{Document}
 use Rattle.fronthaul_replay.specs.Laws.{IsSound}
 use Rattle.plan_model.specs.Valid.{IsValid}
-use Rattle.idle_replay.specs.Idle.{IsIdle}
+use Rattle.document_texts.specs.Idle.{IsIdle}
 use Rattle.idle_spans.specs.Tables.{AreFrames}
-use Rattle.sent_text.specs.Laws.{IsListed}
-use Rattle.shared_text.specs.Summed.{IsSummed}
-use Rattle.unit_documents.specs.Units.{unit_of}
+use Rattle.document_texts.specs.SentLaws.{IsListed}
+use Rattle.document_texts.specs.Summed.{IsSummed}
+use Rattle.document_texts.specs.Units.{unit_of}
 use Rattle.top_call.specs.declared.status.Status.{Status}
 use Rattle.top_call.specs.declared.status.Status.TheVariants.{Done, BadWords, BadDocument, BadCapture, ReadFault, WriteFault, NoMemory, TooLong, CheckFails, BadPcap, BadText, NoFit}
 use Rattle.top_call.specs.Answers.{Answer, asked, is_reading}

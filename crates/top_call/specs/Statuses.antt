@@ -7,8 +7,8 @@ use Rattle.pcap_frames.specs.declared.refusals.PcapRefusal.{PcapRefusal}
 use Rattle.pcap_frames.specs.Refusals.{name_of as pcap_name}
 use Rattle.plan_model.specs.declared.refusals.PlanWhy.{PlanWhy}
 use Rattle.plan_model.specs.declared.refusals.PlanWhy.TheVariants.{UnknownEndpoint, Range, Overlap, TooManySections, SequenceDense}
-use Rattle.picture_lines.specs.Refusals.{why_name as text_name}
-use Rattle.picture_lines.specs.declared.faults.TextWhy.{TextWhy}
+use Rattle.pictures.specs.Refusals.{why_name as text_name}
+use Rattle.pictures.specs.declared.faults.TextWhy.{TextWhy}
 use Rattle.fh_base.specs.Words.{spaced_signed_text}
 use Rattle.window_config.specs.declared.relations.Failing.{Failing}
 use Rattle.window_config.specs.Relations.{name_of as relation_name}

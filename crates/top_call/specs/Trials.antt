@@ -5,7 +5,7 @@ use Rattle.fh_document.specs.Document.{document_of}
 use Rattle.fh_document.specs.Generated.{generated}
 use Rattle.generated_laws.specs.Documents.{document}
 use Rattle.document_traffic.specs.Undisturbed.{IsTakenInOnce, RadiatesOnce}
-use Rattle.measured_traffic.specs.Replayed.{traffic_of}
+use Rattle.document_traffic.specs.Replayed.{traffic_of}
 use Rattle.fronthaul_replay.specs.Laws.{IsSound}
 use Rattle.top_call.specs.Answers.{counted, of_document, of_planned, tried}
 

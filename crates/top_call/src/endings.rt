@@ -3,13 +3,13 @@ ghost use Rattle.std.specs.Prelude.{◌≡◌, slice_index};
 ghost use Rattle.top_call.specs.Endings.{drawn_status, ending_of, pcap_status, share_status, text_status, source_status, unplanned_status, unread_status};
 
 use crate::status::{LineWhy, Status};
+use document_texts::ShareFault;
 use du_scheduler::PlanRefusal;
 use fh_base::{List, ReadAllFault, SinkFault};
 use fh_document::{DocFault, Document};
 use fronthaul_replay::TextFault;
 use pcap_frames::PcapFault;
-use picture_lines::DrawFault;
-use shared_text::ShareFault;
+use pictures::DrawFault;
 
 /// How a run ends whose whole text was to be written, and which then ends with `status`.
 pub(crate) fn ending_of(written: Result<(), SinkFault>, status: Status) -> Status

@@ -10,7 +10,7 @@ use capture_records::CaptureWhy;
 use du_scheduler::PlanWhy;
 use fh_base::{Line, Sink, SinkFault, write_all_to};
 use pcap_frames::PcapRefusal;
-use picture_lines::TextWhy;
+use pictures::TextWhy;
 use window_config::Failing;
 use window_plan::NoFit;
 

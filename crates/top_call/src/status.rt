@@ -5,7 +5,7 @@ use capture_records::CaptureWhy;
 use du_scheduler::PlanWhy;
 use fh_document::DocWhy;
 use pcap_frames::PcapRefusal;
-use picture_lines::TextWhy;
+use pictures::TextWhy;
 use thiserror::Error;
 use window_config::Failing;
 use window_plan::NoFit;

@@ -1,10 +1,10 @@
 -- Two slots that are live have two places.
 use Rattle.std.proofs.Common.{◌≡◌, ℕ, ℤ, pos, ◌<◌, ◌+ℤ◌, ◌<ℤ◌, length, arith}
 use Rattle.std.proofs.lemmas.Int.{ints}
-use Rattle.fh_time.specs.Numbering.{IsSlotOf, slot_number}
-use Rattle.fh_time.specs.declared.numerology.Numerology.{Numerology}
-use Rattle.fh_time.specs.declared.values.Slot.{Slot}
-use Rattle.fh_time.proofs.Order.{same_slot}
+use Rattle.fh_base.specs.Numbering.{IsSlotOf, slot_number}
+use Rattle.fh_base.specs.declared.numerology.Numerology.{Numerology}
+use Rattle.fh_base.specs.declared.values.Slot.{Slot}
+use Rattle.fh_base.proofs.Order.{same_slot}
 use Rattle.window_config.specs.declared.delays.Delays.{Delays}
 use Rattle.unit_model.specs.Terms.{Side}
 use Rattle.unit_model.specs.Proper.{IsSlot}

@@ -3,7 +3,7 @@ use Rattle.std.proofs.Common.{◌≡◌, ℕ, ◌+◌, ◌<◌, ◌≤◌, Bool,
 use Rattle.std.specs.Prelude.{All, get_or, is_some}
 use Rattle.std.specs.Option.{option_map}
 use Rattle.std.proofs.lemmas.Option.{slice_get-map}
-use Rattle.fh_time.specs.Numbering.{symbols_of}
+use Rattle.fh_base.specs.Numbering.{symbols_of}
 use Rattle.unit_model.specs.Terms.{Ru, Du, Side}
 use Rattle.bfp_codec.specs.declared.samples.Wide.{Wide}
 use Rattle.window_config.specs.Limits.{IsWithinLimits}
@@ -18,7 +18,7 @@ use Rattle.window_config.proofs.Live.{live_on_command}
 use Rattle.unit_model.specs.Blocks.{data_class, data_prb_count, data_verdict, data_verdict_in, first_data_prb, has_all, with_timely}
 use Rattle.unit_model.specs.Claims.{cell_at}
 use Rattle.unit_model.specs.Commands.{allocation_of, command_class, command_slot, command_verdict, is_for, verdict_in, with_accepted}
-use Rattle.unit_model.specs.Lists.{every}
+use Rattle.fh_base.specs.Lists.{every}
 use Rattle.unit_model.specs.Proper.{IsAt, IsProperCommand, IsSlot}
 use Rattle.unit_model.specs.declared.allocations.Allocation.{Allocation}
 use Rattle.unit_model.specs.declared.decoded.ControlSection.{ControlSection}
@@ -31,18 +31,18 @@ use Rattle.unit_model.proofs.SoundLemmas.{sound_command}
 use Rattle.unit_model.specs.Sides.{IsLiveOn}
 use Rattle.slot_rings.specs.Rings.{RingValue, ring_block}
 use Rattle.unit_cells.specs.Cells.{AreRings, CellsValue, HoldsLive, IsOf, endpoint_in, endpoints_of, index_from, ring_of}
-use Rattle.unit_cells.specs.Headings.{IsProperHeading, data_under, with_heading}
+use Rattle.unit_model.specs.Headings.{IsProperHeading, data_under, with_heading}
 use Rattle.unit_cells.specs.Keeping.{Keeps, LiveAreApart, SameReported}
 use Rattle.unit_cells.specs.Steps.{Fills, InRing, Takes}
 use Rattle.unit_cells.specs.Told.{IsTold}
-use Rattle.unit_cells.specs.declared.heading.DataHeading.{DataHeading}
+use Rattle.unit_model.specs.declared.heading.DataHeading.{DataHeading}
 use Rattle.unit_cells.proofs.ApartLemmas.{one_slot}
 use Rattle.unit_cells.proofs.FillLemmas.{all_there, begun_keeps, fill_keeps, live_is, slot_is, slot_of}
 use Rattle.unit_cells.proofs.KeepLemmas.{IsStep, at_config, at_rings, held_for, reports_still, ring_endpoint}
 use Rattle.unit_cells.proofs.RingsLemmas.{read_is, rings_with}
 use Rattle.unit_cells.proofs.TakeLemmas.{kept_is, takes_keeps, verdict_is}
 use Rattle.unit_laws.proofs.LiveLemmas.{second_most, third_most}
-use Rattle.fh_time.proofs.Orders.{not_negative}
+use Rattle.fh_base.proofs.Orders.{not_negative}
 use Rattle.std.specs.Int.Signed.{≤ℤ_refl}
 
 -- ---- commands

@@ -4,7 +4,7 @@ use Rattle.std.specs.Prelude.{All, is_some}
 use Rattle.std.proofs.lemmas.Bool.{and_from, cases_Bool, cases_eq, eq-eqb}
 use Rattle.std.proofs.lemmas.Bool.Decides.{nat_tests}
 use Rattle.std.proofs.lemmas.List.Elements.{All-cons, All-head, All-tail}
-use Rattle.fh_time.specs.declared.values.Slot.{Slot}
+use Rattle.fh_base.specs.declared.values.Slot.{Slot}
 use Rattle.bfp_codec.specs.declared.samples.Wide.{Wide}
 use Rattle.window_config.specs.Limits.{IsWithinLimits}
 use Rattle.window_config.specs.declared.config.Config.{Config}
@@ -14,7 +14,7 @@ use Rattle.window_config.specs.declared.verdicts.Class.{Class}
 use Rattle.window_config.specs.declared.verdicts.Class.TheVariants as class
 use Rattle.unit_model.specs.Blocks.{block_at, data_class, data_covers, data_prb_count, data_slot, every_data_cell, first_data_prb, has_all, with_timely}
 use Rattle.unit_model.specs.Claims.{cell_at, claim_at, is_from, same_slot, same_way}
-use Rattle.unit_model.specs.Lists.{every, or_else}
+use Rattle.fh_base.specs.Lists.{every, or_else}
 use Rattle.unit_model.specs.Terms.{Side, is_down}
 use Rattle.unit_model.specs.Proper.{IsAt, IsSlot}
 use Rattle.unit_model.specs.Standing.{IsCell, uplink_of}
@@ -31,16 +31,16 @@ use Rattle.unit_laws.proofs.LookupLemmas.{has_all_by_lookup}
 use Rattle.slot_rings.specs.Rings.{RingValue, ring_block, ring_claim, ring_uplink}
 use Rattle.slot_rings.specs.Runs.{packed_block}
 use Rattle.unit_cells.specs.Cells.{CellsValue, block_from, claim_from, ring_of, uplink_from}
-use Rattle.unit_cells.specs.Headings.{IsProperHeading, IsSoundHeading, data_under}
+use Rattle.unit_model.specs.Headings.{IsProperHeading, IsSoundHeading, data_under}
 use Rattle.unit_cells.specs.Keeping.{Keeps}
 use Rattle.unit_cells.specs.Steps.{Fills}
 use Rattle.unit_cells.specs.Told.{IsTold, told_block_at}
-use Rattle.unit_cells.specs.declared.heading.DataHeading.{DataHeading}
+use Rattle.unit_model.specs.declared.heading.DataHeading.{DataHeading}
 use Rattle.unit_cells.proofs.KeepLemmas.{IsStep, cell_in_ring, lifted, ring_is}
 use Rattle.unit_cells.proofs.TimeLemmas.{live_at}
 use Rattle.unit_cells.proofs.ToldLemmas.{told_next, told_nothing, told_other, told_whole}
 use Rattle.unit_model.proofs.ClaimLemmas.{within as run_below, starts_before as from_first, within_carrier, way_self as same_as_itself, slot_self as slot_own}
-use Rattle.fh_time.proofs.Orders.{same_below}
+use Rattle.fh_base.proofs.Orders.{same_below}
 use Rattle.std.specs.Int.Signed.{≤ℤ_refl}
 
 -- ---- a step that leaves claims and uplink sections as they are

@@ -5,9 +5,9 @@ use Rattle.std.specs.Option.{option_map}
 use Rattle.std.proofs.lemmas.Bool.{cases_Bool, cases_eq}
 use Rattle.std.proofs.lemmas.Int.{ints}
 use Rattle.std.proofs.lemmas.Option.{slice_get-map, slice_get_within}
-use Rattle.fh_time.specs.Numbering.{symbols_of}
-use Rattle.fh_time.specs.declared.numerology.Numerology.{Numerology}
-use Rattle.fh_time.specs.declared.values.Slot.{Slot}
+use Rattle.fh_base.specs.Numbering.{symbols_of}
+use Rattle.fh_base.specs.declared.numerology.Numerology.{Numerology}
+use Rattle.fh_base.specs.declared.values.Slot.{Slot}
 use Rattle.window_config.specs.declared.config.Config.{Config}
 use Rattle.window_config.specs.declared.delays.Delays.{Delays}
 use Rattle.window_config.specs.declared.endpoints.EndpointConfig.{EndpointConfig}
@@ -29,11 +29,11 @@ use Rattle.unit_cells.specs.Cells.{AreRings, CellsValue, HoldsLive, IsOf, block_
 use Rattle.unit_cells.specs.Keeping.{Keeps, SameReported}
 use Rattle.unit_cells.specs.Told.{told_block_at}
 use Rattle.unit_cells.proofs.ApartLemmas.{one_slot}
-use Rattle.unit_cells.proofs.ListLemmas.{get_set_other, get_set_same}
 use Rattle.unit_cells.proofs.StepLemmas.{same_index}
 use Rattle.unit_model.proofs.ClaimLemmas.{same_slot_is as slot_is, slot_self as slot_own}
-use Rattle.fh_time.proofs.Options.{some_is as some_equal}
+use Rattle.fh_base.proofs.Options.{some_is as some_equal}
 use Rattle.std.specs.Int.Signed.{≤ℤ_refl}
+use Rattle.ecpri_fragments.proofs.Numbers.{put_other as get_set_other, put_own as get_set_same}
 
 -- the ring of an endpoint is that endpoint's
 pub ring_endpoint : (v : CellsValue) (k : ℕ) (e : EndpointConfig) (r : RingValue) → IsAt (endpoints_of v) k e → ring_of v k ≡ Some r → r.endpoint ≡ e

@@ -1,6 +1,5 @@
 pub mod StepLemmas
 pub mod NumberLemmas
-pub mod ListLemmas
 pub mod ApartLemmas
 pub mod ToldLemmas
 pub mod KeepLemmas

@@ -3,7 +3,7 @@ use Rattle.std.proofs.Common.{◌≡◌, ◌≢◌, ℕ, ℤ, ◌<◌, ◌≤◌
 use Rattle.std.specs.Prelude.{◌||◌, slice_get}
 use Rattle.std.proofs.lemmas.Bool.{cases_Bool, cases_eq, false_from_ne_true}
 use Rattle.std.proofs.lemmas.Option.{slice_get_within}
-use Rattle.fh_time.specs.declared.values.Slot.{Slot}
+use Rattle.fh_base.specs.declared.values.Slot.{Slot}
 use Rattle.unit_model.specs.Terms.{Side}
 use Rattle.window_config.specs.declared.config.Config.{Config}
 use Rattle.window_config.specs.declared.endpoints.EndpointConfig.{EndpointConfig}
@@ -17,11 +17,11 @@ use Rattle.unit_cells.specs.Cells.{CellsValue, IsCellIn, block_from, cells_claim
 use Rattle.unit_cells.specs.Keeping.{Keeps, SameKnown}
 use Rattle.unit_cells.specs.Steps.{InRing, SetsReported}
 use Rattle.unit_cells.proofs.KeepLemmas.{cell_of_ring, parted, ring_endpoint}
-use Rattle.unit_cells.proofs.ListLemmas.{get_set_other, get_set_same}
 use Rattle.unit_cells.proofs.StepLemmas.{same_index}
 use Rattle.unit_cells.proofs.TimeLemmas.{no_block_from, no_claim_from, no_reported_from, no_uplink_from}
 use Rattle.unit_model.proofs.ClaimLemmas.{same_slot_is as slot_is, slot_self as slot_own}
-use Rattle.fh_time.proofs.Orders.{unequal}
+use Rattle.fh_base.proofs.Orders.{unequal}
+use Rattle.ecpri_fragments.proofs.Numbers.{put_other as get_set_other, put_own as get_set_same}
 
 pub keeps_same : (side : Side) (c : Config) (clock : ℤ) (old new : CellsValue) (acc : List Allocation) (ds : List UserSection) → SameKnown old new → Keeps side c clock old acc ds → Keeps side c clock new acc ds
 keeps_same side c clock old new acc ds same keeps = record {

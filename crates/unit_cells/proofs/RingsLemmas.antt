@@ -9,8 +9,8 @@ use Rattle.std.proofs.lemmas.Bool.{cases_eq}
 use Rattle.std.proofs.lemmas.List.{length-map, map-append, take_more}
 use Rattle.std.proofs.lemmas.List.Elements.{All-nil}
 use Rattle.std.proofs.lemmas.Option.{get_or_from_slice_get, slice_get-map, slice_get_read, slice_get_within}
-use Rattle.fh_time.specs.Numbering.{IsSlotOf, slot_number}
-use Rattle.fh_time.specs.declared.values.Slot.{Slot}
+use Rattle.fh_base.specs.Numbering.{IsSlotOf, slot_number}
+use Rattle.fh_base.specs.declared.values.Slot.{Slot}
 use Rattle.window_config.specs.Limits.{IsBound, IsWithinLimits}
 use Rattle.window_config.specs.Rings.{IsLive}
 use Rattle.window_config.specs.declared.config.Config.{Config}
@@ -27,8 +27,8 @@ use Rattle.unit_cells.specs.Cells.{AreRings, CellsValue, HoldsLive, block_from, 
 use Rattle.unit_cells.specs.Keeping.{Keeps}
 use Rattle.unit_cells.specs.Told.{told_block_at}
 use Rattle.unit_cells.specs.Steps.{InRing}
-use Rattle.unit_cells.proofs.ListLemmas.{get_set_other, get_set_same}
-use Rattle.fh_time.proofs.Options.{some_is as some_equal}
+use Rattle.fh_base.proofs.Options.{some_is as some_equal}
+use Rattle.ecpri_fragments.proofs.Numbers.{put_other as get_set_other, put_own as get_set_same}
 
 pub at_within : (v : CellsValue) (ep : ℕ) (e : EndpointConfig) → IsAt (endpoints_of v) ep e → ep < length v.rings
 at_within v ep e at = subst (λ (n : ℕ). ep < n) (length-map v.rings endpoint_in) (slice_get_within (endpoints_of v) ep e at)

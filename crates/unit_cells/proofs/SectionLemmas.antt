@@ -1,7 +1,7 @@
 -- The PRBs of a section.
 use Rattle.std.proofs.Common.{◌≡◌, ℕ, ◌+◌, ◌<◌, ◌≤◌, false, refl, arith}
 use Rattle.std.proofs.lemmas.Bool.Decides.{nat_tests}
-use Rattle.fh_time.specs.Carrier.{count_of, first_of, is_outside}
+use Rattle.fh_base.specs.Carrier.{count_of, first_of, is_outside}
 use Rattle.unit_cells.proofs.FillLemmas.{from_is}
 use Rattle.unit_model.proofs.ClaimLemmas.{within_carrier}
 

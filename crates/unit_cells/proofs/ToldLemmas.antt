@@ -10,14 +10,14 @@ use Rattle.slot_rings.specs.Runs.{packed_block}
 use Rattle.std.proofs.lemmas.List.Elements.{All-head, All-tail}
 use Rattle.bfp_codec.specs.declared.samples.Wide.{Wide}
 use Rattle.unit_model.specs.Blocks.{block_at, block_of, data_covers, data_prb_count, first_data_prb}
-use Rattle.unit_model.specs.Lists.{or_else}
+use Rattle.fh_base.specs.Lists.{or_else}
 use Rattle.unit_model.specs.declared.cells.Block.{Block}
 use Rattle.unit_model.specs.declared.cells.Cell.{Cell}
 use Rattle.unit_model.specs.declared.decoded.UserSection.{UserSection}
 use Rattle.unit_laws.proofs.CellLemmas.{data_covers_is}
-use Rattle.unit_cells.specs.Headings.{data_under}
+use Rattle.unit_model.specs.Headings.{data_under}
 use Rattle.unit_cells.specs.Told.{IsTold, reaches, told_block_at, told_block_in}
-use Rattle.unit_cells.specs.declared.heading.DataHeading.{DataHeading}
+use Rattle.unit_model.specs.declared.heading.DataHeading.{DataHeading}
 use Rattle.unit_model.proofs.ClaimLemmas.{starts_before as from_first, from_within}
 use Rattle.unit_laws.proofs.ChangeLemmas.{or_else_none as or_none}
 

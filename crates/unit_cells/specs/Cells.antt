@@ -1,7 +1,7 @@
 -- The rings of all endpoints of a unit, and what they answer of a cell.
 use Rattle.std.specs.Prelude.{◌≡◌, ℕ, ℤ, pos, ◌+◌, ◌<◌, ◌≤◌, ◌+ℤ◌, ◌<ℤ◌, Bool, false, List, [], length, map, slice_get, Option, Some, None}
-use Rattle.fh_time.specs.declared.values.Slot.{Slot}
-use Rattle.fh_time.specs.Numbering.{IsSlotOf, slot_number, symbols_of}
+use Rattle.fh_base.specs.declared.values.Slot.{Slot}
+use Rattle.fh_base.specs.Numbering.{IsSlotOf, slot_number, symbols_of}
 use Rattle.unit_model.specs.Terms.{Side}
 use Rattle.window_config.specs.Limits.{IsWithinLimits}
 use Rattle.window_config.specs.declared.config.Config.{Config}

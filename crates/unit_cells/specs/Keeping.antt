@@ -1,7 +1,7 @@
 -- How the rings stand to what a unit makes of its arrivals: they answer for slots that are live, and hold nothing of slots
 -- that no message can name yet.
 use Rattle.std.specs.Prelude.{◌≡◌, ℕ, ℤ, ◌<◌, true, List, All}
-use Rattle.fh_time.specs.declared.values.Slot.{Slot}
+use Rattle.fh_base.specs.declared.values.Slot.{Slot}
 use Rattle.unit_model.specs.Terms.{Side, is_down}
 use Rattle.window_config.specs.declared.config.Config.{Config}
 use Rattle.window_config.specs.declared.endpoints.EndpointConfig.{EndpointConfig}

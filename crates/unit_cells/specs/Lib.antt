@@ -1,4 +1,3 @@
-pub mod Headings
 pub mod Told
 pub mod Cells
 pub mod Keeping

@@ -1,7 +1,7 @@
 -- The blocks of cells where sections of data may be told only in part.
 use Rattle.std.specs.Prelude.{◌-◌, ◌≤◌, Bool, ◌&&◌, nat_lt, if◌then◌else◌, List, [], ◌∷◌, length, Option, Some, None}
 use Rattle.unit_model.specs.Blocks.{block_of, data_covers, data_prb_count, first_data_prb}
-use Rattle.unit_model.specs.Lists.{or_else}
+use Rattle.fh_base.specs.Lists.{or_else}
 use Rattle.unit_model.specs.declared.cells.Block.{Block}
 use Rattle.unit_model.specs.declared.cells.Cell.{Cell}
 use Rattle.unit_model.specs.declared.decoded.UserSection.{UserSection}

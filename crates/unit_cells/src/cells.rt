@@ -1,7 +1,7 @@
 // The rings of all endpoints.
 ghost use Rattle.std.specs.Prelude.{◌≡◌, ◌≢◌, ℕ, ℤ, ◌+◌, ◌*◌, ◌<◌, ◌≤◌, ◌||◌, true, false, List, [], ◌∷◌, ◌++◌, All, length, is_some, IfOk, Some};
-ghost use Rattle.fh_time.specs.Numbering.{symbols_of};
-ghost use Rattle.fh_time.specs.declared.values.Slot.{Slot};
+ghost use Rattle.fh_base.specs.Numbering.{symbols_of};
+ghost use Rattle.fh_base.specs.declared.values.Slot.{Slot};
 ghost use Rattle.unit_model.specs.Terms.{Side as SpecSide, Ru};
 ghost use Rattle.bfp_codec.specs.Layout.{HasWidth, length_of};
 ghost use Rattle.bfp_codec.specs.declared.samples.Wide.{Wide};
@@ -11,7 +11,7 @@ ghost use Rattle.window_config.specs.declared.verdicts.Class.TheVariants.{OnTime
 ghost use Rattle.unit_model.specs.Blocks.{data_class, data_prb_count, data_slot, data_verdict, first_data_prb};
 ghost use Rattle.unit_model.specs.Claims.{cell_at};
 ghost use Rattle.unit_model.specs.Commands.{allocation_of, command_verdict, with_accepted};
-ghost use Rattle.unit_model.specs.Lists.{every};
+ghost use Rattle.fh_base.specs.Lists.{every};
 ghost use Rattle.unit_model.specs.Proper.{IsAt, IsProperCommand, IsSlot};
 ghost use Rattle.unit_model.specs.declared.allocations.Allocation.{Allocation};
 ghost use Rattle.unit_model.specs.declared.cells.Cell.{Cell};
@@ -19,22 +19,20 @@ ghost use Rattle.unit_model.specs.declared.decoded.UserSection.{UserSection};
 ghost use Rattle.slot_rings.specs.Places.{is_in_use};
 ghost use Rattle.slot_rings.specs.Rings.{RingValue, ring_block};
 ghost use Rattle.slot_rings.specs.Runs.{packed_samples, unpacked_run};
-ghost use Rattle.unit_cells.specs.Headings.{IsProperHeading, data_under, with_heading};
+ghost use Rattle.unit_model.specs.Headings.{IsProperHeading, data_under, with_heading};
 ghost use Rattle.unit_cells.specs.Told.{IsTold};
 
-use crate::heading::DataHeading;
 use crate::rings::{fill, fill_run, make_ring, set_used_reported, take};
 use crate::sections::{data_class, data_slot, prb_at};
 use air_source::Side;
 use bfp_codec::{Method, Wide};
-use fh_base::NoMemory;
-use fh_time::Slot;
+use fh_base::{NoMemory, Slot};
 use slot_rings::{PackedRun, SlotRing};
 use std::alloc::Global;
 use std::marker::Model;
 use unit_model::{
-    Allocation, Block, CommandVerdict, ControlSection, DataVerdict, allocation_of, command_class,
-    is_for,
+    Allocation, Block, CommandVerdict, ControlSection, DataHeading, DataVerdict, allocation_of,
+    command_class, is_for,
 };
 use window_config::{Class, Config, Delays};
 

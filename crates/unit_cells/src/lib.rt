@@ -15,9 +15,7 @@
 #![tactic(auto)]
 
 mod cells;
-mod heading;
 mod rings;
 mod sections;
 
 pub use cells::UnitCells;
-pub use heading::DataHeading;

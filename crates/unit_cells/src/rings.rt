@@ -1,7 +1,7 @@
 // What is done to the ring of one endpoint.
 ghost use Rattle.std.specs.Prelude.{◌≡◌, ◌+◌, ◌<◌, ◌≤◌, [], ◌∷◌, length, true, IfOk};
 ghost use Rattle.bfp_codec.specs.Layout.{HasWidth};
-ghost use Rattle.fh_time.specs.Numbering.{symbols_of};
+ghost use Rattle.fh_base.specs.Numbering.{symbols_of};
 ghost use Rattle.unit_model.specs.Proper.{IsSlot};
 ghost use Rattle.window_config.specs.Limits.{IsReach, IsWithinLimits};
 ghost use Rattle.unit_model.specs.Sides.{reach_of};
@@ -10,11 +10,10 @@ ghost use Rattle.slot_rings.specs.Runs.{packed_samples};
 ghost use Rattle.slot_rings.specs.Verdicts.{verdict_by};
 ghost use Rattle.unit_cells.specs.Cells.{HoldsLive};
 ghost use Rattle.unit_cells.specs.Steps.{Claims, Takes, Fills, SetsReported};
-ghost use Rattle.fh_time.specs.declared.carrier.TheConstants.{CARRIER_PRBS};
+ghost use Rattle.fh_base.specs.declared.carrier.TheConstants.{CARRIER_PRBS};
 
 use air_source::Side;
-use fh_base::NoMemory;
-use fh_time::Slot;
+use fh_base::{NoMemory, Slot};
 use slot_rings::{PackedRun, SlotRing};
 use std::alloc::Global;
 use unit_model::{Allocation, Block, CommandVerdict};

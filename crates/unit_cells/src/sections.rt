@@ -3,26 +3,12 @@ ghost use Rattle.std.specs.Prelude.{◌≡◌, pos, neg_ℤ, ◌^◌, ◌≤ℤ�
 ghost use Rattle.window_config.specs.Limits.{IsWithinLimits};
 ghost use Rattle.unit_model.specs.Blocks.{data_slot, data_start, data_class, first_data_prb, data_prb_count};
 ghost use Rattle.unit_model.specs.Proper.{IsSlot};
-ghost use Rattle.unit_cells.specs.Headings.{IsSoundHeading, data_under};
+ghost use Rattle.unit_model.specs.Headings.{IsSoundHeading, data_under};
 
-use crate::heading::DataHeading;
 use air_source::Side;
-use fh_time::{PrbSpan, Slot, Ticks, air, resolve};
+use fh_base::{Slot, Ticks, air, resolve};
+use unit_model::DataHeading;
 use window_config::{Class, Delays, class, class_up, data_window};
-
-impl DataHeading {
-    /// The PRBs of its carrier that it has.
-    pub fn prbs(&self) -> PrbSpan
-        ensures first { result.first ≡ first_data_prb (data_under self.now []) }
-        ensures count { result.count ≡ data_prb_count (data_under self.now []) }
-    {
-        PrbSpan::named(
-            self.section.start_prb,
-            self.section.num_prb,
-            self.endpoint.prbs,
-        )
-    }
-}
 
 /// The PRB of the carrier that is number `k` of a section's, 0 for its first one.
 #[tactic(auto, using(crate::proofs::SectionLemmas::prb_within, crate::proofs::SectionLemmas::prbs_within))]

@@ -1,7 +1,7 @@
 -- The tests that an accepted command passed.
 use Rattle.std.proofs.Common.{◌≡◌, Bool, true, false, List, refl}
 use Rattle.std.specs.Prelude.{if◌then◌else◌}
-use Rattle.fh_time.specs.Carrier.{is_outside}
+use Rattle.fh_base.specs.Carrier.{is_outside}
 use Rattle.window_config.specs.declared.verdicts.Class.{Class}
 use Rattle.window_config.specs.declared.verdicts.Class.TheVariants as class
 use Rattle.unit_model.specs.Claims.{repeats, overlaps}

@@ -2,7 +2,7 @@
 use Rattle.std.proofs.Common.{◌≡◌, ℕ, ℤ, Bool, true, false, List, [], ◌∷◌, ◌++◌, Option, Some, None, Result, Ok, Err, refl, sym, ap, ◌∙◌, subst, append_assoc}
 use Rattle.std.specs.Prelude.{All, ◌==◌, ◌||◌, not, nat_lt, length, map, cond, if◌then◌else◌}
 use Rattle.std.proofs.lemmas.List.Elements.{All-nil, All-cons, All-head, All-tail, All-append}
-use Rattle.fh_time.specs.Numbering.{shape_of}
+use Rattle.fh_base.specs.Numbering.{shape_of}
 use Rattle.air_source.specs.declared.events.Side.{Side}
 use Rattle.air_source.specs.declared.events.Side.TheVariants.{Ru, Du}
 use Rattle.cplane_sections.specs.declared.values.CHead.{CHead}
@@ -21,7 +21,7 @@ use Rattle.uplane_sections.specs.declared.values.UHead.{UHead}
 use Rattle.uplane_sections.specs.declared.values.URefusal.{URefusal}
 use Rattle.window_config.specs.declared.endpoints.EndpointConfig.{EndpointConfig}
 use Rattle.unit_model.specs.Decoding.{Backwards, Gathering, SectionBlocks, Sections, data_now, data_sections, data_told, data_with, decode, decoded_from, decoded_now, decoded_with, gathered, has_way, nothing_told, sections_of}
-use Rattle.unit_model.specs.Lists.{onto}
+use Rattle.fh_base.specs.Lists.{onto}
 use Rattle.unit_model.specs.Meetings.{Arrival, Meeting, Ignored, Commands, Piece, command, command_read, commands, commands_with, control_met, find_endpoint, fragment_of, fragments, meet, meetings, met_by, met_in}
 use Rattle.unit_model.specs.declared.decoded.ControlSection.{ControlSection}
 use Rattle.unit_model.specs.declared.decoded.UserSection.{UserSection}

@@ -1,15 +1,15 @@
 -- Of slots that are not live yet, the radio unit knows nothing.
 use Rattle.std.proofs.Common.{◌≡◌, ℕ, ℤ, List, [], ◌∷◌, refl, ap, ◌∙◌}
 use Rattle.std.specs.Prelude.{All, None, ◌==◌, if◌then◌else◌}
-use Rattle.fh_time.specs.Air.{air_of}
+use Rattle.fh_base.specs.Air.{air_of}
 use Rattle.unit_model.specs.Terms.{Side, Ru, is_down}
-use Rattle.fh_time.specs.declared.values.Slot.{Slot}
+use Rattle.fh_base.specs.declared.values.Slot.{Slot}
 use Rattle.window_config.specs.Limits.{IsWithinLimits}
 use Rattle.window_config.specs.Rings.{ru_reach_of}
 use Rattle.window_config.specs.declared.config.Config.{Config}
 use Rattle.window_config.specs.declared.endpoints.EndpointConfig.{EndpointConfig}
 use Rattle.unit_model.specs.Claims.{cell_at}
-use Rattle.unit_model.specs.Lists.{in_order}
+use Rattle.fh_base.specs.Lists.{in_order}
 use Rattle.unit_model.specs.Meetings.{Arrival}
 use Rattle.unit_model.specs.Radiated.{Known, air_cell, cell_report, symbol_report}
 use Rattle.unit_model.specs.Reports.{accepted_of, commands_of, ru_known}
@@ -21,8 +21,8 @@ use Rattle.unit_laws.specs.Histories.{NoClaimsAhead, NoUplinkAhead, NoReportsAhe
 use Rattle.unit_laws.proofs.FarLemmas.{accepted_reached, far_unclaimed, far_no_uplink}
 use Rattle.unit_laws.proofs.HistoryLemmas.{commands_are_heard}
 use Rattle.unit_laws.proofs.LookupLemmas.{jobs_of_their_slot}
-use Rattle.unit_model.proofs.SweepLaws.{each_none as each_nothing}
 use Rattle.unit_model.proofs.ClaimLemmas.{none_used as unused}
+use Rattle.fh_base.proofs.EachLemmas.{each_none as each_nothing}
 
 reached : (c : Config) (clock : ℤ) (arrivals : List Arrival) → IsWithinLimits c.delays → AreInTime clock arrivals
     → All (IsReached c.endpoints (ru_reach_of c.delays) clock) (accepted_of c arrivals)

@@ -3,14 +3,14 @@ use Rattle.std.proofs.Common.{◌≡◌, ℕ, ℤ, ◌<◌, ◌<ℤ◌, Bool, tr
 use Rattle.std.specs.Prelude.{◌==◌, nat_lt, int_lt}
 use Rattle.std.specs.Ordering.{int_eq}
 use Rattle.std.proofs.lemmas.Bool.{and_from, eq-eqb, lt-ltb, or_left, or_right}
-use Rattle.fh_time.specs.declared.values.Slot.{Slot}
+use Rattle.fh_base.specs.declared.values.Slot.{Slot}
 use Rattle.unit_model.specs.Claims.{same_slot}
 use Rattle.unit_model.specs.Order.{comes_before, slot_before, symbol_before}
 use Rattle.unit_model.specs.declared.symbol_start.SymbolStart.{SymbolStart}
 use Rattle.std.proofs.lemmas.Bool.Decides.{nat_tests}
 use Rattle.std.proofs.lemmas.Int.{ints}
 use Rattle.unit_model.proofs.ClaimLemmas.{same_slot_is}
-use Rattle.fh_time.proofs.Orders.{under_is as is_less, is_same}
+use Rattle.fh_base.proofs.Orders.{under_is as is_less, is_same}
 
 -- slots of which none is before the other
 pub slot_cases : (a b : Slot) → slot_before a b ≡ false → slot_before b a ≡ false → same_slot a b ≡ true

@@ -4,8 +4,8 @@ use Rattle.unit_model.specs.Terms.{Du}
 use Rattle.window_config.specs.declared.config.Config.{Config}
 use Rattle.unit_model.specs.Radiated.{Known, first_clock, wait_of}
 use Rattle.unit_model.specs.Standing.{due, past_of, still_reported}
-use Rattle.unit_laws.proofs.SweepLemmas.{sweep-none}
-use Rattle.fh_time.proofs.Orders.{over}
+use Rattle.unit_model.proofs.SweepLemmas.{sweep-none}
+use Rattle.fh_base.proofs.Orders.{over}
 
 pub nothing_past : (c : Config) (k : Known) → due Du c.delays c.endpoints k [] (past_of Du first_clock) ≡ []
 unfolding due

@@ -8,7 +8,7 @@ use Rattle.window_config.specs.declared.verdicts.Class.TheVariants as class
 use Rattle.unit_model.specs.Blocks.{block_at, block_in, block_of, data_class, data_covers, timely, with_timely}
 use Rattle.unit_model.specs.Claims.{claim_at, claim_of, names}
 use Rattle.unit_model.specs.Commands.{accepted, allocation_of, command_verdict, with_accepted}
-use Rattle.unit_model.specs.Lists.{or_else}
+use Rattle.fh_base.specs.Lists.{or_else}
 use Rattle.unit_model.specs.declared.allocations.Allocation.{Allocation}
 use Rattle.unit_model.specs.declared.cells.Block.{Block}
 use Rattle.unit_model.specs.declared.cells.Cell.{Cell}

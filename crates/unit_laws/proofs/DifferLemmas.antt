@@ -6,23 +6,23 @@ use Rattle.std.specs.Ordering.{int_eq}
 use Rattle.std.proofs.lemmas.Bool.{and_parts, and_from, eqb-true, eq-eqb, false_from_ne_true}
 use Rattle.std.proofs.lemmas.Int.{ints}
 use Rattle.std.proofs.lemmas.List.Elements.{All-nil, All-cons, All-head, All-tail, All-append, All-weaker, All-filter}
-use Rattle.fh_time.specs.Air.{air_of}
-use Rattle.fh_time.specs.Numbering.{slots_of, symbols_of}
-use Rattle.fh_time.specs.declared.values.Slot.{Slot}
+use Rattle.fh_base.specs.Air.{air_of}
+use Rattle.fh_base.specs.Numbering.{slots_of, symbols_of}
+use Rattle.fh_base.specs.declared.values.Slot.{Slot}
 use Rattle.unit_model.specs.Terms.{AirCell, is_down}
 use Rattle.eaxc_map.specs.Endpoints.{AppearOnce}
 use Rattle.window_config.specs.Endpoints.{ids_of}
 use Rattle.window_config.specs.declared.endpoints.EndpointConfig.{EndpointConfig}
 use Rattle.unit_model.specs.Claims.{same_slot, same_way}
-use Rattle.unit_model.specs.Lists.{each, each_tick}
+use Rattle.fh_base.specs.Lists.{each, each_tick}
 use Rattle.unit_model.specs.Proper.{IsAt}
 use Rattle.unit_model.specs.Standing.{same_cell}
 use Rattle.unit_model.specs.Sweeps.{OfSymbol, at_tick, first_swept, of_endpoint, of_endpoints, of_frame, of_slot, of_subframe, of_symbol, slot_at, sweep}
 use Rattle.unit_laws.specs.Due.{AreDifferent}
 use Rattle.unit_laws.proofs.FarLemmas.{endpoints_equal}
-use Rattle.unit_laws.proofs.SweepLemmas.{IsKept, each_related, of_symbol_related, of_slot_related, of_subframe_related, of_frame_related, of_endpoint_related, of_endpoints_related, at_tick_related, each_tick_related}
+use Rattle.unit_model.proofs.SweepLemmas.{IsKept, each_related, of_symbol_related, of_slot_related, of_subframe_related, of_frame_related, of_endpoint_related, of_endpoints_related, at_tick_related, each_tick_related}
 use Rattle.unit_model.proofs.ClaimLemmas.{same_way_is as ways_equal, same_slot_is as slots_equal, way_self, slot_self}
-use Rattle.fh_time.proofs.Orders.{both_ways, beyond_next, not_later}
+use Rattle.fh_base.proofs.Orders.{both_ways, beyond_next, not_later}
 
 -- ---- two reports of one cell
 

@@ -5,8 +5,8 @@ use Rattle.std.proofs.lemmas.Bool.{or_left, or_right}
 use Rattle.std.proofs.lemmas.Int.{by_lt_z}
 use Rattle.std.proofs.lemmas.List.Elements.{All-nil, All-cons, All-head, All-tail, All-weaker, All-filter, filter-append}
 use Rattle.std.proofs.lemmas.List.Folds.{list_any-append}
-use Rattle.fh_time.specs.Air.{air_of}
-use Rattle.fh_time.specs.declared.values.Slot.{Slot}
+use Rattle.fh_base.specs.Air.{air_of}
+use Rattle.fh_base.specs.declared.values.Slot.{Slot}
 use Rattle.unit_model.specs.Terms.{AirCell, Side, is_down}
 use Rattle.window_config.specs.declared.delays.Delays.{Delays}
 use Rattle.window_config.specs.declared.endpoints.EndpointConfig.{EndpointConfig}
@@ -16,8 +16,8 @@ use Rattle.unit_model.specs.Standing.{due, is_reported, same_cell, still_reporte
 use Rattle.unit_model.specs.Sweeps.{sweep}
 use Rattle.unit_laws.specs.Due.{AreDifferent, ReportedAreDifferent, DueAreDifferent, AllIsDue, DueInPieces, DueOnce}
 use Rattle.unit_laws.proofs.DifferLemmas.{IsOther, IsOwn, TellsOwn, all_kept, differ-append, differ-filter, differ-parts, each_differ, not_less, other_swap, same_self, sweep_differ}
-use Rattle.unit_laws.proofs.SweepLemmas.{IsKept, each_related, sweep_related, sweep-append, sweep-none, sweep-same}
-use Rattle.fh_time.proofs.Orders.{up_to, weak}
+use Rattle.unit_model.proofs.SweepLemmas.{IsKept, each_related, sweep_related, sweep-append, sweep-none, sweep-same}
+use Rattle.fh_base.proofs.Orders.{up_to, weak}
 
 -- ---- filters
 

@@ -2,9 +2,9 @@
 use Rattle.std.proofs.Common.{◌≡◌, ℕ, ℤ, pos, ◌+◌, ◌*◌, ◌+ℤ◌, ◌-ℤ◌, ◌*ℤ◌, ◌≤ℤ◌, ◌<ℤ◌, List, [], ◌++◌, refl, ap, ◌∙◌, arith, append-nil}
 use Rattle.std.specs.Int.{int_max}
 use Rattle.std.proofs.lemmas.Int.{clamps, ints}
-use Rattle.fh_time.specs.Kinds.{kind_start}
-use Rattle.fh_time.specs.declared.values.Slot.{Slot}
-use Rattle.fh_time.proofs.Euclid.{frame_floor}
+use Rattle.fh_base.specs.Kinds.{kind_start}
+use Rattle.fh_base.specs.declared.values.Slot.{Slot}
+use Rattle.fh_base.proofs.Euclid.{frame_floor}
 use Rattle.unit_model.specs.Terms.{Ru}
 use Rattle.window_config.specs.Limits.{IsWithinLimits}
 use Rattle.window_config.specs.Rings.{ru_reach_of}
@@ -17,14 +17,14 @@ use Rattle.unit_model.specs.Times.{end_of_time, last_landing}
 use Rattle.unit_model.specs.Uplink.{jobs, symbol_jobs}
 use Rattle.unit_laws.specs.Ends.{CellsEnd, JobsEnd, NoCellsLater, NoJobsLater}
 use Rattle.unit_laws.specs.Far.{IsFar}
-use Rattle.unit_laws.specs.Swept.{IsSwept}
+use Rattle.unit_model.specs.Swept.{IsSwept}
 use Rattle.unit_laws.proofs.AheadLemmas.{no_jobs_ahead, no_reports_ahead}
-use Rattle.unit_laws.proofs.SweepLemmas.{sweep-append, tick-nothing}
-use Rattle.fh_time.specs.declared.frames.TheConstants.{FRAME}
+use Rattle.unit_model.proofs.SweepLemmas.{sweep-append, tick-nothing}
+use Rattle.fh_base.specs.declared.frames.TheConstants.{FRAME}
 use Rattle.window_config.specs.declared.delays.TheConstants.{MOST_DELAY}
 use Rattle.unit_model.proofs.SweepLaws.{sweep_quiet as sweep-nothing}
-use Rattle.fh_time.specs.declared.nanoseconds.TheConstants.{NANOSECOND}
-use Rattle.fh_time.specs.declared.symbols.TheConstants.{SUBFRAME}
+use Rattle.fh_base.specs.declared.nanoseconds.TheConstants.{NANOSECOND}
+use Rattle.fh_base.specs.declared.symbols.TheConstants.{SUBFRAME}
 
 most_before : (up advance command : ℤ) → up ≤ℤ pos MOST_DELAY → advance ≤ℤ pos MOST_DELAY → command ≤ℤ pos MOST_DELAY
     → int_max (int_max up (up +ℤ advance)) command ≤ℤ pos 4000000
@@ -34,11 +34,11 @@ pub reach_small : (d : Delays) → IsWithinLimits d → (ru_reach_of d).before �
 reach_small d limits = most_before d.t2a_up.max d.advance d.t2a_cp_ul.max limits.t2a_up.high limits.advance.high limits.t2a_cp_ul.high
 
 -- a slot of one of the frames that are gone over at a tick begins less than 100 ms before it
-begins_later : (clock tick q frame before : ℤ) (offset : ℕ) → (clock +ℤ pos 1536000000000) ≤ℤ tick → tick <ℤ (q *ℤ FRAME +ℤ FRAME)
+pub begins_later : (clock tick q frame before : ℤ) (offset : ℕ) → (clock +ℤ pos 1536000000000) ≤ℤ tick → tick <ℤ (q *ℤ FRAME +ℤ FRAME)
     → (q -ℤ pos 5) ≤ℤ frame → before ≤ℤ pos 4000000 → clock <ℤ ((frame *ℤ FRAME +ℤ pos offset) -ℤ (before *ℤ pos NANOSECOND))
 begins_later clock tick q frame before offset a b c d = omega (arith, ints)
 
-far_later : (d : Delays) (es : List EndpointConfig) (ep : ℕ) (e : EndpointConfig) (slot : Slot) (symbol : ℕ) (clock tick : ℤ) → IsWithinLimits d
+pub far_later : (d : Delays) (es : List EndpointConfig) (ep : ℕ) (e : EndpointConfig) (slot : Slot) (symbol : ℕ) (clock tick : ℤ) → IsWithinLimits d
     → (clock +ℤ pos 1536000000000) ≤ℤ tick → IsSwept es ep e slot symbol tick → IsFar e.numerology (ru_reach_of d) clock slot
 far_later d es ep e slot symbol clock tick limits later swept =
     begins_later clock tick (frame_of_tick tick) slot.frame (ru_reach_of d).before (slot.subframe * SUBFRAME + kind_start e.numerology.kind slot.slot 0) later

@@ -3,9 +3,9 @@ use Rattle.std.proofs.Common.{◌≡◌, ℕ, ℤ, ◌-ℤ◌, false, List, [], 
 use Rattle.std.specs.Prelude.{All, Some, None, Option, ◌==◌, slice_get, unwrap_or, cond}
 use Rattle.std.proofs.lemmas.Bool.{and_parts, eqb-true}
 use Rattle.std.proofs.lemmas.List.Elements.{All-nil, All-cons, All-head, All-tail}
-use Rattle.fh_time.specs.Air.{air_of}
-use Rattle.fh_time.specs.declared.numerology.Numerology.{Numerology}
-use Rattle.fh_time.specs.declared.values.Slot.{Slot}
+use Rattle.fh_base.specs.Air.{air_of}
+use Rattle.fh_base.specs.declared.numerology.Numerology.{Numerology}
+use Rattle.fh_base.specs.declared.values.Slot.{Slot}
 use Rattle.window_config.specs.Rings.{ru_reach_of}
 use Rattle.window_config.specs.Windows.{ticks_of_ns}
 use Rattle.window_config.specs.declared.endpoints.EndpointConfig.{EndpointConfig}
@@ -20,7 +20,7 @@ use Rattle.unit_laws.specs.Touched.{is_uplink_of}
 use Rattle.unit_laws.proofs.ChangeLemmas.{accepted_more, claim_same, either_way}
 use Rattle.unit_laws.proofs.LiveLemmas.{command_live}
 use Rattle.unit_model.proofs.ClaimLemmas.{same_slot_is as slots_equal, covers_is}
-use Rattle.fh_time.proofs.Orders.{beyond}
+use Rattle.fh_base.proofs.Orders.{beyond}
 
 -- the endpoint with an index
 pub endpoints_equal : (es : List EndpointConfig) (i j : ℕ) (e f : EndpointConfig) → IsAt es i e → IsAt es j f → i ≡ j → e ≡ f

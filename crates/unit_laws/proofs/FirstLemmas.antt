@@ -6,22 +6,23 @@ use Rattle.std.specs.Ordering.{int_eq}
 use Rattle.std.proofs.lemmas.Bool.{cases_lt}
 use Rattle.std.proofs.lemmas.Bool.Decides.{Decides-int_eq}
 use Rattle.std.proofs.lemmas.Int.{ints}
-use Rattle.fh_time.specs.Air.{air_of}
-use Rattle.fh_time.specs.Numbering.{IsSlotOf, slots_of, symbols_of}
-use Rattle.fh_time.specs.declared.values.Slot.{Slot}
+use Rattle.fh_base.specs.Air.{air_of}
+use Rattle.fh_base.specs.Numbering.{IsSlotOf, slots_of, symbols_of}
+use Rattle.fh_base.specs.declared.values.Slot.{Slot}
 use Rattle.window_config.specs.declared.endpoints.EndpointConfig.{EndpointConfig}
-use Rattle.unit_model.specs.Lists.{each}
+use Rattle.fh_base.specs.Lists.{each}
 use Rattle.unit_model.specs.Order.{comes_before, symbol_before}
 use Rattle.unit_model.specs.Proper.{IsAt}
 use Rattle.unit_model.specs.Sweeps.{OfSymbol, at_tick, first_swept, of_endpoint, of_endpoints, of_frame, of_slot, of_subframe, of_symbol, slot_at, sweep}
 use Rattle.unit_model.specs.declared.symbol_start.SymbolStart.{SymbolStart}
-use Rattle.unit_model.proofs.SweepLaws.{gap_is, sweep_next, sweep_quiet as sweep-nothing}
-use Rattle.unit_laws.specs.Swept.{IsSwept}
-use Rattle.unit_laws.proofs.SweepLemmas.{IsKept, each_related, of_endpoints_related, of_endpoint_related, of_frame_related, of_slot_related, of_subframe_related, of_symbol_related, sweep-same, tick-nothing}
+use Rattle.unit_model.proofs.SweepLaws.{sweep_next, sweep_quiet as sweep-nothing}
+use Rattle.unit_model.specs.Swept.{IsSwept}
+use Rattle.unit_model.proofs.SweepLemmas.{IsKept, each_related, of_endpoints_related, of_endpoint_related, of_frame_related, of_slot_related, of_subframe_related, of_symbol_related, sweep-same, tick-nothing}
 use Rattle.unit_laws.specs.First.{FirstIsFirst, IsQuietBefore, IsSameAfter, IsSweptIn, NothingIsNothing, told_of}
 use Rattle.unit_laws.proofs.BeforeLemmas.{endpoint_before, frame_before, own_before, slot_comes_before, subframe_before, symbol_comes_before}
-use Rattle.fh_time.proofs.Orders.{beyond_next as after_next}
+use Rattle.fh_base.proofs.Orders.{beyond_next as after_next}
 use Rattle.unit_model.proofs.ClaimLemmas.{start_before}
+use Rattle.fh_base.proofs.EachLemmas.{gap_is}
 
 -- ---- two lists
 

@@ -2,21 +2,21 @@
 use Rattle.std.proofs.Common.{◌≡◌, ℕ, ℤ, pos, ◌+◌, ◌-◌, ◌*◌, ◌^◌, ◌<◌, ◌≤◌, ◌+ℤ◌, ◌-ℤ◌, ◌*ℤ◌, ◌≤ℤ◌, ◌<ℤ◌, refl, arith}
 use Rattle.std.specs.Prelude.{IfSome}
 use Rattle.std.proofs.lemmas.Int.{ints}
-use Rattle.fh_time.specs.Air.{air_of}
-use Rattle.fh_time.specs.Kinds.{kind_least_slot, kind_offsets, kind_slots, kind_span, kind_start}
-use Rattle.fh_time.specs.Numbering.{IsSlotOf, symbols_of}
-use Rattle.fh_time.specs.declared.kind.Kind.{Kind}
-use Rattle.fh_time.specs.declared.kind.Kind.TheVariants.{Ordinary, Offset, Extended}
-use Rattle.fh_time.specs.declared.numerology.Numerology.{Numerology}
-use Rattle.fh_time.specs.declared.spacing.Spacing.{Spacing}
-use Rattle.fh_time.specs.declared.spacing.Spacing.TheVariants.{Khz15, Khz30, Khz60, Khz120, Khz240, Khz1x25, Khz5}
-use Rattle.fh_time.specs.declared.values.Slot.{Slot}
-use Rattle.fh_time.proofs.Euclid.{frame_floor}
-use Rattle.fh_time.proofs.Order.{kind_covers, kind_left}
+use Rattle.fh_base.specs.Air.{air_of}
+use Rattle.fh_base.specs.Kinds.{kind_least_slot, kind_offsets, kind_slots, kind_span, kind_start}
+use Rattle.fh_base.specs.Numbering.{IsSlotOf, symbols_of}
+use Rattle.fh_base.specs.declared.kind.Kind.{Kind}
+use Rattle.fh_base.specs.declared.kind.Kind.TheVariants.{Ordinary, Offset, Extended}
+use Rattle.fh_base.specs.declared.numerology.Numerology.{Numerology}
+use Rattle.fh_base.specs.declared.spacing.Spacing.{Spacing}
+use Rattle.fh_base.specs.declared.spacing.Spacing.TheVariants.{Khz15, Khz30, Khz60, Khz120, Khz240, Khz1x25, Khz5}
+use Rattle.fh_base.specs.declared.values.Slot.{Slot}
+use Rattle.fh_base.proofs.Euclid.{frame_floor}
+use Rattle.fh_base.proofs.Order.{kind_covers, kind_left}
 use Rattle.unit_model.specs.Sweeps.{first_swept, frame_of_tick}
 use Rattle.unit_laws.specs.Runs.{OffsetsFit, SymbolsAreSwept}
-use Rattle.fh_time.specs.declared.frames.TheConstants.{FRAME}
-use Rattle.fh_time.specs.declared.symbols.TheConstants.{SUBFRAME}
+use Rattle.fh_base.specs.declared.frames.TheConstants.{FRAME}
+use Rattle.fh_base.specs.declared.symbols.TheConstants.{SUBFRAME}
 
 -- ---- how long after its frame a symbol starts
 

@@ -1,5 +1,5 @@
 -- What an air heard of each unit, among several events.
-use Rattle.std.proofs.Common.{◌≡◌, ℕ, ℤ, pos, ◌+ℤ◌, ◌-ℤ◌, Bool, true, false, List, [], ◌∷◌, ◌++◌, refl, sym, ap, ap₂, ◌∙◌}
+use Rattle.std.proofs.Common.{◌≡◌, ℕ, ℤ, pos, ◌+ℤ◌, ◌-ℤ◌, Bool, true, false, List, [], ◌∷◌, ◌++◌, refl, ap, ap₂, ◌∙◌}
 use Rattle.std.specs.Prelude.{All, ◌==◌, if◌then◌else◌, map}
 use Rattle.std.proofs.lemmas.List.Elements.{All-filter, All-head, All-tail}
 use Rattle.air_source.specs.Units.{is_down}
@@ -7,31 +7,25 @@ use Rattle.air_source.specs.declared.events.AirCell.{AirCell}
 use Rattle.air_source.specs.declared.events.Event.{Event}
 use Rattle.air_source.specs.declared.events.Event.TheVariants as event
 use Rattle.air_source.specs.declared.events.Side.{Side}
-use Rattle.air_source.specs.declared.events.Side.TheVariants.{Ru, Du}
-use Rattle.fh_time.specs.Air.{air_of}
-use Rattle.fh_time.specs.declared.values.Slot.{Slot}
+use Rattle.fh_base.specs.Air.{air_of}
+use Rattle.fh_base.specs.declared.values.Slot.{Slot}
 use Rattle.window_config.specs.declared.delays.Delays.{Delays}
 use Rattle.window_config.specs.declared.endpoints.EndpointConfig.{EndpointConfig}
 use Rattle.unit_model.specs.Claims.{cell_at}
 use Rattle.unit_model.specs.Events.{arrival_told, arrivals_told, result_event}
-use Rattle.unit_model.specs.Heard.{arrivals_heard, cells_heard, is_of}
-use Rattle.unit_model.specs.Lists.{onto}
+use Rattle.unit_model.specs.Heard.{cells_heard, is_of}
 use Rattle.unit_model.specs.Meetings.{Arrival}
 use Rattle.unit_model.specs.Radiated.{Known, air_cell, cell_report, first_clock, symbol_report, used_mask, wait_of}
 use Rattle.unit_model.specs.Standing.{due, still_reported}
 use Rattle.unit_model.specs.Sweeps.{at_tick}
 use Rattle.unit_model.specs.declared.results.DelayResult.{DelayResult}
-use Rattle.unit_model.proofs.OntoLemmas.{onto_none, onto_one}
-use Rattle.unit_model.proofs.ToldLemmas.{none_told, told_kept, told_next, told_next_alone}
+use Rattle.unit_model.proofs.ToldLemmas.{told_kept}
 use Rattle.unit_laws.proofs.DifferLemmas.{all_kept}
 use Rattle.unit_laws.proofs.DueLemmas.{unheard, one_or_none}
-use Rattle.unit_laws.proofs.SweepLemmas.{at_tick_related, each_related, sweep_related}
+use Rattle.unit_model.proofs.SweepLemmas.{at_tick_related, each_related, sweep_related}
+use Rattle.unit_model.proofs.ArrivalLemmas.{own}
 
 -- ---- which unit's
-
-own : (side : Side) → is_of side side ≡ true
-own Ru = refl
-own Du = refl
 
 is_own : (side other : Side) → other ≡ side → is_of side other ≡ true
 is_own side other same = ap (is_of side) same ∙ own side
@@ -123,65 +117,3 @@ cells-arrivals side other results xs =
     told_kept (λ es. cells_heard side es ≡ []) (cells-none side) (λ es fs p q. cells-append side es fs ∙ ap₂ ◌++◌ p q) other (cells-told side other) results xs
 
 -- ---- arrivals
-
-pub arrivals-append : (side : Side) (earlier : List Arrival) (xs ys : List Event)
-    → arrivals_heard side earlier (xs ++ ys) ≡ arrivals_heard side (arrivals_heard side earlier xs) ys
-unfolding arrivals_heard
-arrivals-append side earlier [] ys = refl
-arrivals-append side earlier (event.Cell a ∷ xs) ys = arrivals-append side earlier xs ys
-arrivals-append side earlier (event.Arrival at_side at frame ∷ xs) ys = arrivals-append side _ xs ys
-arrivals-append side earlier (event.Delay at at_side id value ∷ xs) ys = arrivals-append side earlier xs ys
-arrivals-append side earlier (event.Count at_side k value ∷ xs) ys = arrivals-append side earlier xs ys
-
-pub arrivals-none : (side : Side) (earlier : List Arrival) → arrivals_heard side earlier [] ≡ earlier
-unfolding arrivals_heard
-arrivals-none side earlier = refl
-
-pub arrivals-cells : (side : Side) (earlier : List Arrival) (cs : List AirCell) → arrivals_heard side earlier (map event.Cell cs) ≡ earlier
-unfolding arrivals_heard
-arrivals-cells side earlier [] = refl
-arrivals-cells side earlier (a ∷ cs) = arrivals-cells side earlier cs
-
--- results tell no frame
-pub arrivals-results : (side other : Side) (earlier : List Arrival) (at : ℤ) (rs : List DelayResult) → arrivals_heard side earlier (map (result_event other at) rs) ≡ earlier
-unfolding arrivals_heard
-arrivals-results side other earlier at [] = refl
-arrivals-results side other earlier at (r ∷ rs) = arrivals-results side other earlier at rs
-
--- a frame, of this unit and of the other
-pub arrival-own : (side : Side) (earlier : List Arrival) (x : Arrival) (rs : List DelayResult) → arrivals_heard side earlier (arrival_told side x rs) ≡ x ∷ earlier
-unfolding arrivals_heard
-arrival-own side earlier x rs =
-    ap (λ (b : Bool). arrivals_heard side (let zs : List Arrival = if b then x ∷ earlier else earlier in zs) (map (result_event side x.at) rs)) (own side)
-    ∙ arrivals-results side side (x ∷ earlier) x.at rs
-
-pub arrival-other : (side other : Side) (earlier : List Arrival) (x : Arrival) (rs : List DelayResult) → is_of side other ≡ false
-    → arrivals_heard side earlier (arrival_told other x rs) ≡ earlier
-unfolding arrivals_heard
-arrival-other side other earlier x rs apart =
-    ap (λ (b : Bool). arrivals_heard side (let zs : List Arrival = if b then x ∷ earlier else earlier in zs) (map (result_event other x.at) rs)) apart
-    ∙ arrivals-results side other earlier x.at rs
-
--- frames, each with its results
-pub arrivals-own : (side : Side) (earlier : List Arrival) (results : List (List DelayResult)) (xs : List Arrival)
-    → arrivals_heard side earlier (arrivals_told side results xs) ≡ onto earlier xs
-arrivals-own side earlier results [] = ap (arrivals_heard side earlier) (none_told side results) ∙ arrivals-none side earlier ∙ sym (onto_none earlier)
-arrivals-own side earlier [] (x ∷ xs) =
-    ap (arrivals_heard side earlier) (told_next_alone side x xs)
-    ∙ arrivals-append side earlier (arrival_told side x []) (arrivals_told side [] xs)
-    ∙ ap (λ (zs : List Arrival). arrivals_heard side zs (arrivals_told side [] xs)) (arrival-own side earlier x [])
-    ∙ arrivals-own side (x ∷ earlier) [] xs
-    ∙ sym (onto_one earlier x xs)
-arrivals-own side earlier (r ∷ results) (x ∷ xs) =
-    ap (arrivals_heard side earlier) (told_next side r results x xs)
-    ∙ arrivals-append side earlier (arrival_told side x r) (arrivals_told side results xs)
-    ∙ ap (λ (zs : List Arrival). arrivals_heard side zs (arrivals_told side results xs)) (arrival-own side earlier x r)
-    ∙ arrivals-own side (x ∷ earlier) results xs
-    ∙ sym (onto_one earlier x xs)
-
-pub arrivals-other : (side other : Side) (earlier : List Arrival) (results : List (List DelayResult)) (xs : List Arrival) → is_of side other ≡ false
-    → arrivals_heard side earlier (arrivals_told other results xs) ≡ earlier
-arrivals-other side other earlier results xs apart =
-    told_kept (λ es. arrivals_heard side earlier es ≡ earlier) (arrivals-none side earlier)
-    (λ es fs p q. arrivals-append side earlier es fs ∙ ap (λ (zs : List Arrival). arrivals_heard side zs fs) p ∙ q) other
-    (λ a rs. arrival-other side other earlier a rs apart) results xs

@@ -1,8 +1,8 @@
 -- What is known of all that was read of some arrivals.
-use Rattle.std.proofs.Common.{◌≡◌, ℕ, ℤ, suc, ◌+◌, ◌≤ℤ◌, Bool, true, false, List, [], ◌∷◌, Option, Some, None, Result, Ok, Err, refl, sym, ap, subst, arith}
-use Rattle.std.specs.Prelude.{All, ◌==◌, ◌||◌, not, nat_lt, length, if◌then◌else◌, unwrap_or}
+use Rattle.std.proofs.Common.{◌≡◌, ℕ, ℤ, ◌≤ℤ◌, Bool, true, false, List, [], ◌∷◌, Option, Some, None, Result, Ok, Err, refl, sym, subst}
+use Rattle.std.specs.Prelude.{All, ◌==◌, ◌||◌, not, nat_lt, length, if◌then◌else◌}
 use Rattle.std.proofs.lemmas.List.Elements.{All-nil, All-cons, All-head, All-tail, All-append, All-weaker}
-use Rattle.fh_time.specs.Numbering.{shape_of}
+use Rattle.fh_base.specs.Numbering.{shape_of}
 use Rattle.unit_model.specs.Terms.{Side, Ru, Du}
 use Rattle.cplane_sections.specs.declared.values.CHead.{CHead}
 use Rattle.cplane_sections.specs.declared.values.CRefusal.{CRefusal}
@@ -16,45 +16,22 @@ use Rattle.ecpri_frames.specs.Gathering.{whole_messages}
 use Rattle.ecpri_frames.specs.Messages.{Message}
 use Rattle.window_config.specs.declared.endpoints.EndpointConfig.{EndpointConfig}
 use Rattle.unit_model.specs.Decoding.{data_now, data_sections, data_told, decoded_now}
-use Rattle.unit_model.specs.Lists.{onto}
+use Rattle.fh_base.specs.Lists.{onto}
 use Rattle.ecpri_fragments.specs.Pieces.{joined}
-use Rattle.unit_model.specs.Meetings.{Arrival, Meeting, Ignored, Commands, Piece, command_read, commands, control_met, find_endpoint, find_from, fragment_of, fragments, meet, meetings, met_by, met_in}
+use Rattle.unit_model.specs.Meetings.{Arrival, Meeting, Ignored, Commands, Piece, command_read, commands, control_met, find_endpoint, fragment_of, fragments, meet, meetings, met_by, met_in}
 use Rattle.unit_model.specs.Proper.{IsAt, IsTime, IsProperCommand, IsProperData}
 use Rattle.unit_model.specs.Reports.{hold_of}
 use Rattle.unit_model.specs.Standing.{AreInTime}
 use Rattle.unit_laws.specs.Far.{IsHeard, IsHeardData}
 use Rattle.unit_laws.specs.Histories.{CommandsAreHeard, DataAreHeard, CommandsAreProper, DataAreProper}
-use Rattle.unit_laws.proofs.OrderLemmas.{All-onto}
 use Rattle.unit_laws.proofs.ReadLemmas.{IsReadCommand, IsReadData, commands_read, decode_read}
 use Rattle.ecpri_frames.specs.declared.heads.TheConstants.{ONE_WAY_DELAY, REAL_TIME_CONTROL, IQ_DATA}
 use Rattle.ecpri_fragments.proofs.Standing.{all_stood}
-use Rattle.fh_time.proofs.Orders.{at_most}
+use Rattle.fh_base.proofs.Orders.{at_most}
 use Rattle.std.specs.Int.Signed.{≤ℤ_refl}
 use Rattle.ecpri_fragments.specs.Sequence.{id_of, sequence_of, application, is_fragmented}
-
--- the endpoint that was found
-record Found (es : List EndpointConfig) (start ep : ℕ) (e : EndpointConfig) : Type 0 where
-  place : ℕ
-  ep_is : ep ≡ start + place
-  at : IsAt es place e
-
-find_at : (start : ℕ) (es : List EndpointConfig) (id ep : ℕ) (e : EndpointConfig) → find_from start es id ≡ Some (ep, e) → Found es start ep e
-find_at start [] id ep e h = absurd cc
-find_at start (f ∷ fs) id ep e h = go (f.id == id) h (find_at (start + 1) fs id ep e)
-  where
-    go : (b : Bool) → (if b then Some (start, f) else find_from (start + 1) fs id) ≡ Some (ep, e) → (find_from (start + 1) fs id ≡ Some (ep, e) → Found fs (start + 1) ep e)
-        → Found (f ∷ fs) start ep e
-    go true found rest =
-        let number : start ≡ ep = ap (λ (o : Option (ℕ × EndpointConfig)). (unwrap_or o (start, f)).0) found in
-        let same : f ≡ e = ap (λ (o : Option (ℕ × EndpointConfig)). (unwrap_or o (start, f)).1) found in
-        record { place = 0; ep_is = omega (arith, number); at = ap (λ (x : EndpointConfig). Some x) same }
-    go false found rest = let r = rest found in record { place = suc r.place; ep_is = omega (arith, r.ep_is); at = r.at }
-
-pub found_at : (es : List EndpointConfig) (id ep : ℕ) (e : EndpointConfig) → find_endpoint es id ≡ Some (ep, e) → IsAt es ep e
-found_at es id ep e h =
-    let found = find_at 0 es id ep e h in
-    let same : found.place ≡ ep = omega (arith, found.ep_is) in
-    subst (λ (k : ℕ). IsAt es k e) same found.at
+use Rattle.fh_base.proofs.OntoLemmas.{All-onto}
+use Rattle.unit_model.proofs.EndpointLemmas.{found_at}
 
 -- ---- fragments up to a time
 

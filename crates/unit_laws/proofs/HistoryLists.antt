@@ -3,7 +3,7 @@ use Rattle.std.proofs.Common.{◌≡◌, Bool, true, false, not, ◌||◌, cond,
 use Rattle.std.specs.Prelude.{filter}
 use Rattle.std.proofs.lemmas.List.Elements.{filter-append}
 use Rattle.air_source.specs.declared.events.AirCell.{AirCell}
-use Rattle.unit_laws.proofs.SweepLemmas.{IsKept}
+use Rattle.unit_model.proofs.SweepLemmas.{IsKept}
 
 pub both_nothing : {A : Type 0} (xs ys : List A) → xs ++ ys ≡ [] → (xs ≡ []) × (ys ≡ [])
 both_nothing [] ys h = (refl, h)

@@ -4,10 +4,8 @@ pub mod CellLemmas
 pub mod ChangeLemmas
 pub mod FarLemmas
 pub mod OrderLemmas
-pub mod ListLemmas
 pub mod ReportLemmas
 pub mod PastLemmas
-pub mod SweepLemmas
 pub mod DifferLemmas
 pub mod DueLemmas
 pub mod SentLemmas
@@ -29,3 +27,6 @@ pub mod AddedLemmas
 pub mod ArrivingLemmas
 pub mod SendingLemmas
 pub mod HeardLemmas
+pub mod SoundLemmas
+pub mod JudgedListLemmas
+pub mod WidthLemmas

@@ -8,7 +8,7 @@ use Rattle.window_config.specs.Windows.{data_window_of, command_window_of}
 use Rattle.window_config.specs.declared.delays.Delays.{Delays}
 use Rattle.window_config.proofs.Live.{live_on_time, live_on_time_up, live_on_command}
 use Rattle.unit_model.specs.Terms.{Side, Ru, Du}
-use Rattle.fh_time.specs.Numbering.{symbols_of}
+use Rattle.fh_base.specs.Numbering.{symbols_of}
 use Rattle.unit_model.specs.Blocks.{data_class, data_slot}
 use Rattle.unit_model.specs.Commands.{command_slot, command_verdict}
 use Rattle.unit_model.specs.Sides.{IsLiveOn}
@@ -18,7 +18,7 @@ use Rattle.unit_model.specs.declared.decoded.UserSection.{UserSection}
 use Rattle.unit_model.specs.declared.verdicts.CommandVerdict.TheVariants.{Accepted}
 use Rattle.window_config.specs.declared.verdicts.Class.TheVariants.{OnTime}
 use Rattle.unit_laws.proofs.AcceptanceLemmas.{accepted_is_acceptable}
-use Rattle.fh_time.proofs.Orders.{low_one as some_more, not_negative}
+use Rattle.fh_base.proofs.Orders.{low_one as some_more, not_negative}
 use Rattle.std.specs.Int.Signed.{≤ℤ_refl}
 
 first_most : (a b c : ℤ) → a ≤ℤ int_max (int_max a b) c

@@ -5,12 +5,12 @@ use Rattle.std.specs.List.{list_any}
 use Rattle.std.proofs.lemmas.Bool.{and_from, eq-eqb}
 use Rattle.std.proofs.lemmas.List.{append-nil, reverse-append}
 use Rattle.std.proofs.lemmas.List.Elements.{filter-append}
-use Rattle.fh_time.specs.Air.{air_of}
+use Rattle.fh_base.specs.Air.{air_of}
 use Rattle.unit_model.specs.Terms.{AirCell, is_down}
 use Rattle.unit_model.specs.Blocks.{block_at, data_prb_count, data_slot, every_data_cell, first_data_prb, has_all}
 use Rattle.unit_model.specs.Claims.{cell_at, cell_of, claim_at, covers, every_cell, first_prb, is_claimed, is_from, is_overlapped, overlaps, prb_count, repeats, same_slot, same_way, some_cell}
 use Rattle.unit_model.specs.Commands.{is_uplink, uplink_in}
-use Rattle.unit_model.specs.Lists.{every, in_order, some}
+use Rattle.fh_base.specs.Lists.{every, in_order, some}
 use Rattle.unit_model.specs.Proper.{IsAt, IsSlot}
 use Rattle.unit_model.specs.Radiated.{air_cell}
 use Rattle.unit_model.specs.Standing.{cell_heard, same_cell, uplink_of}

@@ -2,7 +2,7 @@
 use Rattle.std.proofs.Common.{ℕ, ℤ, zero, suc, ◌+◌, ◌≤◌, Bool, true, false, List, [], ◌∷◌, Option, Some, None, Result, Ok, Err, arith}
 use Rattle.std.specs.Prelude.{All, ◌==◌, ◌||◌, not, nat_lt, length, drop, if◌then◌else◌}
 use Rattle.std.proofs.lemmas.List.Elements.{All-nil, All-cons, All-head, All-tail, All-map, All-weaker}
-use Rattle.fh_time.specs.Numbering.{shape_of}
+use Rattle.fh_base.specs.Numbering.{shape_of}
 use Rattle.unit_model.specs.Terms.{Side, Ru, Du}
 use Rattle.cplane_sections.specs.declared.values.CHead.{CHead}
 use Rattle.cplane_sections.specs.declared.values.CRefusal.{CRefusal}
@@ -14,16 +14,11 @@ use Rattle.cplane_sections.specs.Tests.{checked}
 use Rattle.ecpri_frames.specs.Gathering.{whole_messages}
 use Rattle.ecpri_frames.specs.Messages.{Message}
 use Rattle.window_config.specs.declared.endpoints.EndpointConfig.{EndpointConfig}
-use Rattle.unit_model.specs.Lists.{onto}
 use Rattle.unit_model.specs.Meetings.{Arrival, Meeting, Ignored, Commands, Piece, command, command_read, commands, control_met, find_endpoint, meet, meetings, met_by, met_in, fragment_of}
 use Rattle.unit_laws.specs.Past.{IsInOrder, CommandsAreInOrder}
 use Rattle.ecpri_frames.specs.declared.heads.TheConstants.{ONE_WAY_DELAY, REAL_TIME_CONTROL, IQ_DATA}
 use Rattle.ecpri_fragments.specs.Sequence.{id_of, sequence_of, application, is_fragmented}
-
-pub All-onto : {A : Type 0} (P : A → Type 0) (earlier xs : List A) → All P earlier → All P xs → All P (onto earlier xs)
-unfolding onto
-All-onto P earlier [] before now = before
-All-onto P earlier (x ∷ xs) before now = All-onto P (x ∷ earlier) xs (All-cons P x earlier (All-head P x xs now) before) (All-tail P x xs now)
+use Rattle.fh_base.proofs.OntoLemmas.{All-onto}
 
 -- the maintained symbol number is never below the one that it began with
 sections_from : (n kind : ℕ) (bytes : List ℕ) (place before : ℕ) → All (λ (s : CSection). before ≤ s.symbol) (sections_of n kind bytes place before)

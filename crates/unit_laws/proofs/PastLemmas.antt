@@ -5,9 +5,9 @@ use Rattle.std.proofs.lemmas.Bool.{and_parts, eqb-true}
 use Rattle.std.proofs.lemmas.Int.{ints}
 use Rattle.std.proofs.lemmas.List.{append-nil, reverse-append}
 use Rattle.std.proofs.lemmas.List.Elements.{filter-append}
-use Rattle.fh_time.specs.Air.{air_of}
-use Rattle.fh_time.specs.declared.values.Slot.{Slot}
-use Rattle.fh_time.proofs.Order.{symbols_in_order}
+use Rattle.fh_base.specs.Air.{air_of}
+use Rattle.fh_base.specs.declared.values.Slot.{Slot}
+use Rattle.fh_base.proofs.Order.{symbols_in_order}
 use Rattle.unit_model.specs.Terms.{Side, Ru, Du, is_down}
 use Rattle.window_config.specs.Limits.{IsWithinLimits}
 use Rattle.window_config.specs.Windows.{command_window_of, data_window_of}
@@ -18,7 +18,7 @@ use Rattle.window_config.proofs.Timing.{class_on_time, class_up_on_time}
 use Rattle.unit_model.specs.Blocks.{data_class, data_slot, data_start}
 use Rattle.unit_model.specs.Claims.{cell_at, covers, in_mask, is_from, same_slot}
 use Rattle.unit_model.specs.Commands.{accepted, allocation_of, command_class, command_slot, command_start, is_uplink}
-use Rattle.unit_model.specs.Lists.{in_order}
+use Rattle.fh_base.specs.Lists.{in_order}
 use Rattle.unit_model.specs.Proper.{IsAt}
 use Rattle.unit_model.specs.Radiated.{wait_of}
 use Rattle.unit_model.specs.Uplink.{is_before, job_of, sends_in, symbol_jobs}
@@ -32,7 +32,7 @@ use Rattle.unit_laws.proofs.ChangeLemmas.{accepted_more, either_way, only_accept
 use Rattle.unit_laws.proofs.FarLemmas.{endpoints_equal}
 use Rattle.unit_laws.proofs.ReportLemmas.{report_of_cells}
 use Rattle.unit_model.proofs.ClaimLemmas.{same_slot_is as slots_equal, starts_before as from_first, covers_is}
-use Rattle.fh_time.specs.declared.nanoseconds.TheConstants.{NANOSECOND}
+use Rattle.fh_base.specs.declared.nanoseconds.TheConstants.{NANOSECOND}
 
 later : (least s at : ℤ) → pos 1 ≤ℤ least → (least *ℤ pos NANOSECOND) ≤ℤ (s -ℤ at) → at <ℤ s
 later least s at some h = omega (arith, ints)

@@ -2,14 +2,14 @@
 use Rattle.std.proofs.Common.{◌≡◌, ℕ, ℤ, ◌+◌, ◌<◌, ◌≤◌, ◌≤ℤ◌, Bool, true, false, List, [], ◌∷◌, Option, Some, None, length, refl, arith}
 use Rattle.std.specs.Prelude.{All, map, cond}
 use Rattle.std.proofs.lemmas.List.Elements.{All-nil, All-cons, All-head, All-tail, All-map, All-weaker}
-use Rattle.fh_time.specs.Numbering.{shape_of, slots_of, symbols_of}
+use Rattle.fh_base.specs.Numbering.{shape_of, slots_of, symbols_of}
 use Rattle.unit_model.specs.Terms.{Side, UHead, URefusal}
 use Rattle.cplane_sections.specs.declared.values.CHead.{CHead}
 use Rattle.cplane_sections.specs.declared.values.CSection.{CSection}
 use Rattle.cplane_sections.specs.Header.{kind_of}
 use Rattle.cplane_sections.specs.Message.{Admits, AreAdmitted, MessageFits, SectionFits, sections_in}
 use Rattle.uplane_sections.specs.Messages.{told}
-use Rattle.fh_time.specs.Carrier.{is_outside}
+use Rattle.fh_base.specs.Carrier.{is_outside}
 use Rattle.window_config.specs.declared.endpoints.EndpointConfig.{EndpointConfig}
 use Rattle.unit_model.specs.Blocks.{data_prb_count}
 use Rattle.unit_model.specs.Decoding.{SectionBlocks, Gathering, nothing_told, gathered, has_way, data_with, decoded_from, decode, Sections, Backwards, sections_of}

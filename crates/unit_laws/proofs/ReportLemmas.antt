@@ -1,7 +1,7 @@
 -- What is reported of a symbol rests on its cells.
 use Rattle.std.proofs.Common.{◌≡◌, ℕ, ℤ, zero, suc, ◌+◌, ◌*◌, ◌<◌, ◌≤◌, List, [], ◌∷◌, refl, ap, ap₂, ◌∙◌, arith}
 use Rattle.std.specs.Prelude.{Option, ◌==◌, if◌then◌else◌}
-use Rattle.fh_time.specs.Air.{air_of}
+use Rattle.fh_base.specs.Air.{air_of}
 use Rattle.unit_model.specs.Terms.{AirCell, Side, is_down}
 use Rattle.window_config.specs.declared.endpoints.EndpointConfig.{EndpointConfig}
 use Rattle.unit_model.specs.Claims.{cell_at}
@@ -10,7 +10,7 @@ use Rattle.unit_model.specs.declared.cells.Block.{Block}
 use Rattle.unit_model.specs.declared.cells.Cell.{Cell}
 use Rattle.unit_model.specs.declared.cells.Claim.{Claim}
 use Rattle.unit_laws.specs.Past.{ReportIsOfItsCells}
-use Rattle.unit_laws.proofs.ListLemmas.{each_same}
+use Rattle.fh_base.proofs.CommonLemmas.{each_same}
 
 pub used_same : (f g : ℕ → Option Claim) (n : ℕ) → ((re : ℕ) → re < n → f re ≡ g re) → used_below f n ≡ used_below g n
 unfolding used_below

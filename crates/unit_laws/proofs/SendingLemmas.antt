@@ -4,15 +4,15 @@ use Rattle.std.specs.Prelude.{All, ◌==◌, cond, filter, if◌then◌else◌, 
 use Rattle.std.proofs.lemmas.Bool.{and_parts, eqb-true}
 use Rattle.std.proofs.lemmas.List.{reverse-append}
 use Rattle.std.proofs.lemmas.List.Elements.{All-nil, All-cons, All-head, All-tail, All-append}
-use Rattle.fh_time.specs.Air.{air_of}
-use Rattle.fh_time.specs.Carrier.{is_outside}
-use Rattle.fh_time.specs.declared.values.Slot.{Slot}
+use Rattle.fh_base.specs.Air.{air_of}
+use Rattle.fh_base.specs.Carrier.{is_outside}
+use Rattle.fh_base.specs.declared.values.Slot.{Slot}
 use Rattle.window_config.specs.declared.delays.Delays.{Delays}
 use Rattle.window_config.specs.declared.endpoints.EndpointConfig.{EndpointConfig}
 use Rattle.air_source.specs.declared.events.Side.TheVariants.{Ru}
 use Rattle.unit_model.specs.Commands.{accepted, allocation_of, command_verdict, is_uplink, with_accepted}
 use Rattle.unit_model.specs.Claims.{is_from, same_slot}
-use Rattle.unit_model.specs.Lists.{in_order, put_in}
+use Rattle.fh_base.specs.Lists.{in_order, put_in}
 use Rattle.unit_model.specs.Proper.{IsAt, IsProperAllocation, IsProperCommand, IsSlot}
 use Rattle.unit_model.specs.ProperJobs.{IsProperJob}
 use Rattle.unit_model.specs.Radiated.{first_clock}
@@ -24,11 +24,11 @@ use Rattle.unit_model.specs.declared.jobs.UplinkJob.{UplinkJob}
 use Rattle.unit_model.specs.declared.verdicts.CommandVerdict.{CommandVerdict}
 use Rattle.unit_model.specs.declared.verdicts.CommandVerdict.TheVariants.{Mismatch, Late, Early, Range, Repeat, Overlap, Full, Accepted}
 use Rattle.unit_model.proofs.VerdictLemmas.{accepted_proper}
-use Rattle.unit_laws.specs.Swept.{IsSwept}
+use Rattle.unit_model.specs.Swept.{IsSwept}
 use Rattle.unit_laws.proofs.DifferLemmas.{all_kept}
 use Rattle.unit_laws.proofs.FarLemmas.{endpoints_equal}
 use Rattle.unit_laws.proofs.HistoryLemmas.{commands_are_proper}
-use Rattle.unit_laws.proofs.SweepLemmas.{sweep_related}
+use Rattle.unit_model.proofs.SweepLemmas.{sweep_related}
 use Rattle.unit_laws.specs.Sending.{JobsAreProper}
 use Rattle.unit_laws.proofs.HistoryTicks.{before_next}
 use Rattle.unit_model.proofs.ClaimLemmas.{same_slot_is as slots_equal}

@@ -2,8 +2,8 @@
 use Rattle.std.proofs.Common.{◌≡◌, ℕ, ℤ, pos, ◌+ℤ◌, ◌-ℤ◌, ◌≤ℤ◌, ◌<ℤ◌, List, ◌∷◌, ◌++◌, sym, ap, arith}
 use Rattle.std.specs.Prelude.{filter}
 use Rattle.std.proofs.lemmas.Int.{ints, by_lt_z}
-use Rattle.fh_time.specs.Air.{air_of}
-use Rattle.fh_time.specs.declared.values.Slot.{Slot}
+use Rattle.fh_base.specs.Air.{air_of}
+use Rattle.fh_base.specs.declared.values.Slot.{Slot}
 use Rattle.unit_model.specs.Terms.{AirCell, Side, Ru, Du}
 use Rattle.window_config.specs.declared.delays.Delays.{Delays}
 use Rattle.window_config.specs.declared.endpoints.EndpointConfig.{EndpointConfig}
@@ -19,8 +19,8 @@ use Rattle.unit_laws.specs.Sent.{JobsBegin, JobsAppend, CommandLeavesSent}
 use Rattle.unit_laws.specs.Told.{CommandLeavesReported, DataLeaveReported, CommandLeavesDue, DataLeaveDue}
 use Rattle.unit_laws.proofs.DueLemmas.{unheard}
 use Rattle.unit_laws.proofs.PastLemmas.{command_leaves_jobs, command_leaves_reports, data_leave_reports}
-use Rattle.unit_laws.proofs.SweepLemmas.{sweep-append, sweep-none, sweep-same}
-use Rattle.fh_time.proofs.Orders.{weak, next_order, next_later}
+use Rattle.unit_model.proofs.SweepLemmas.{sweep-append, sweep-none, sweep-same}
+use Rattle.fh_base.proofs.Orders.{weak, next_order, next_later}
 
 pub jobs_append : JobsAppend
 unfolding jobs

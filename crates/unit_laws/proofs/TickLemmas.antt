@@ -3,11 +3,11 @@ use Rattle.std.proofs.Common.{◌≡◌, ℕ, ℤ, pos, ◌<◌, ◌+ℤ◌, ◌
 use Rattle.std.specs.Prelude.{filter}
 use Rattle.std.proofs.lemmas.Int.{ints, by_lt_z}
 use Rattle.std.proofs.lemmas.List.{drop-drop, drop_at}
-use Rattle.fh_time.specs.Air.{air_of, span_of}
-use Rattle.fh_time.specs.Numbering.{symbols_of}
-use Rattle.fh_time.specs.declared.numerology.Numerology.{Numerology}
-use Rattle.fh_time.specs.declared.values.Slot.{Slot}
-use Rattle.fh_time.proofs.Order.{symbol_in_span}
+use Rattle.fh_base.specs.Air.{air_of, span_of}
+use Rattle.fh_base.specs.Numbering.{symbols_of}
+use Rattle.fh_base.specs.declared.numerology.Numerology.{Numerology}
+use Rattle.fh_base.specs.declared.values.Slot.{Slot}
+use Rattle.fh_base.proofs.Order.{symbol_in_span}
 use Rattle.unit_model.specs.Terms.{AirCell, Ru}
 use Rattle.window_config.specs.Limits.{IsWithinLimits}
 use Rattle.window_config.specs.Rings.{IsLive, ru_reach_of}
@@ -22,8 +22,8 @@ use Rattle.unit_model.specs.Uplink.{jobs}
 use Rattle.unit_laws.specs.Far.{IsFar}
 use Rattle.unit_laws.specs.Ticks.{LiveLater, LaterSymbolsAreAhead, IsLiveSlot, DueAfterClock, GivenInOrder}
 use Rattle.unit_laws.proofs.DueLemmas.{unheard}
-use Rattle.unit_laws.proofs.SweepLemmas.{sweep-append}
-use Rattle.fh_time.proofs.Orders.{not_negative, up_to as to_last, at_most}
+use Rattle.unit_model.proofs.SweepLemmas.{sweep-append}
+use Rattle.fh_base.proofs.Orders.{not_negative, up_to as to_last, at_most}
 
 live_or_far : (n : Numerology) (r : Reach) (clock : ℤ) (slot : Slot) → clock ≤ℤ (air_of n slot 0 +ℤ pos (span_of n) +ℤ ticks_of_ns r.after)
     → IsLive n r.before r.after clock slot ⊎ IsFar n r clock slot

@@ -1,6 +1,6 @@
 -- What it is to be accepted: a command passed all of its tests.
 use Rattle.std.specs.Prelude.{◌≡◌, true, false, List}
-use Rattle.fh_time.specs.Carrier.{is_outside}
+use Rattle.fh_base.specs.Carrier.{is_outside}
 use Rattle.window_config.specs.declared.delays.Delays.{Delays}
 use Rattle.window_config.specs.declared.verdicts.Class.TheVariants.{OnTime}
 use Rattle.unit_model.specs.Claims.{repeats, overlaps}

@@ -4,7 +4,7 @@ use Rattle.window_config.specs.declared.endpoints.EndpointConfig.{EndpointConfig
 use Rattle.unit_model.specs.Order.{comes_before}
 use Rattle.unit_model.specs.Sweeps.{OfSymbol, sweep}
 use Rattle.unit_model.specs.declared.symbol_start.SymbolStart.{SymbolStart}
-use Rattle.unit_laws.specs.Swept.{IsSwept}
+use Rattle.unit_model.specs.Swept.{IsSwept}
 
 -- what is told of a symbol
 abbrev pub told_of : {A : Type 0} → OfSymbol A → SymbolStart → List A

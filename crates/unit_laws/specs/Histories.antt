@@ -1,7 +1,7 @@
 -- What is known of all that a unit read of some arrivals, whose times do not go back, and what that says of slots that are not
 -- live yet.
 use Rattle.std.specs.Prelude.{◌≡◌, ℕ, ℤ, List, [], All, None}
-use Rattle.fh_time.specs.declared.values.Slot.{Slot}
+use Rattle.fh_base.specs.declared.values.Slot.{Slot}
 use Rattle.unit_model.specs.Terms.{Side}
 use Rattle.window_config.specs.Limits.{IsWithinLimits}
 use Rattle.window_config.specs.Rings.{ru_reach_of}

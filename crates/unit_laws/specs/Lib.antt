@@ -2,7 +2,6 @@ pub mod Acceptance
 pub mod Changes
 pub mod Far
 pub mod Past
-pub mod Swept
 pub mod Due
 pub mod Sent
 pub mod Told
@@ -16,3 +15,5 @@ pub mod Touched
 pub mod First
 pub mod Arriving
 pub mod Sending
+pub mod Sound
+pub mod Widths

@@ -1,12 +1,12 @@
 -- Each symbol is gone over at the tick at which it starts.
 use Rattle.std.specs.Prelude.{ℕ, ◌^◌, ◌<◌, List, IfSome}
-use Rattle.fh_time.specs.Air.{air_of}
-use Rattle.fh_time.specs.Numbering.{IsSlotOf, offsets_of, symbols_of}
-use Rattle.fh_time.specs.declared.numerology.Numerology.{Numerology}
-use Rattle.fh_time.specs.declared.values.Slot.{Slot}
+use Rattle.fh_base.specs.Air.{air_of}
+use Rattle.fh_base.specs.Numbering.{IsSlotOf, offsets_of, symbols_of}
+use Rattle.fh_base.specs.declared.numerology.Numerology.{Numerology}
+use Rattle.fh_base.specs.declared.values.Slot.{Slot}
 use Rattle.window_config.specs.declared.endpoints.EndpointConfig.{EndpointConfig}
 use Rattle.unit_model.specs.Proper.{IsAt}
-use Rattle.unit_laws.specs.Swept.{IsSwept}
+use Rattle.unit_model.specs.Swept.{IsSwept}
 
 -- an offset endpoint's timeOffset and cpLength have 16 bits
 abbrev pub OffsetsFit : Numerology → Type 0

@@ -1,9 +1,9 @@
 -- What a unit tells at ticks that come after its clock: at the radio unit only live slots tell anything.
 use Rattle.std.specs.Prelude.{◌≡◌, ℕ, ℤ, pos, ◌<◌, ◌+ℤ◌, ◌-ℤ◌, ◌≤ℤ◌, List, [], ◌++◌, ◌⊎◌}
-use Rattle.fh_time.specs.Air.{air_of}
-use Rattle.fh_time.specs.Numbering.{symbols_of}
-use Rattle.fh_time.specs.declared.numerology.Numerology.{Numerology}
-use Rattle.fh_time.specs.declared.values.Slot.{Slot}
+use Rattle.fh_base.specs.Air.{air_of}
+use Rattle.fh_base.specs.Numbering.{symbols_of}
+use Rattle.fh_base.specs.declared.numerology.Numerology.{Numerology}
+use Rattle.fh_base.specs.declared.values.Slot.{Slot}
 use Rattle.unit_model.specs.Terms.{AirCell, Side}
 use Rattle.window_config.specs.Rings.{IsLive, ru_reach_of}
 use Rattle.window_config.specs.declared.config.Config.{Config}

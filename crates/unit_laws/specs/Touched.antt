@@ -1,6 +1,6 @@
 -- The uplink sections of a slot.
 use Rattle.std.specs.Prelude.{ℕ, ◌==◌, ◌&&◌, Bool}
-use Rattle.fh_time.specs.declared.values.Slot.{Slot}
+use Rattle.fh_base.specs.declared.values.Slot.{Slot}
 use Rattle.unit_model.specs.Claims.{same_slot}
 use Rattle.unit_model.specs.Commands.{is_uplink}
 use Rattle.unit_model.specs.declared.allocations.Allocation.{Allocation}

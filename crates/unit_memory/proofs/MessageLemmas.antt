@@ -9,9 +9,9 @@ use Rattle.fault_counters.specs.Counts.{capped, count_of, once, times}
 use Rattle.unit_model.specs.Terms.{URefusal, UHead, USection, UFeed}
 use Rattle.unit_model.specs.Counts.{decoded_counted}
 use Rattle.fault_counters.specs.declared.kinds.Counter.{Counter}
-use Rattle.fh_time.specs.Numbering.{shape_of}
-use Rattle.fh_time.specs.declared.values.Shape.{Shape}
-use Rattle.fh_time.specs.declared.values.Ticks.{Ticks}
+use Rattle.fh_base.specs.Numbering.{shape_of}
+use Rattle.fh_base.specs.declared.values.Shape.{Shape}
+use Rattle.fh_base.specs.declared.values.Ticks.{Ticks}
 use Rattle.uplane_sections.specs.declared.steps.UFeed.TheVariants as feed
 use Rattle.uplane_sections.specs.Messages.{Item, Telling, told}
 use Rattle.window_config.specs.declared.config.Config.{Config}
@@ -20,7 +20,7 @@ use Rattle.unit_model.specs.Decoding.{Backwards, Decoded, Gathering, SectionBloc
 use Rattle.unit_model.specs.declared.allocations.Allocation.{Allocation}
 use Rattle.unit_model.specs.declared.decoded.UserSection.{UserSection}
 use Rattle.unit_cells.specs.Cells.{CellsValue}
-use Rattle.unit_cells.specs.declared.heading.DataHeading.{DataHeading}
+use Rattle.unit_model.specs.declared.heading.DataHeading.{DataHeading}
 use Rattle.uplane_messages.specs.Left.{TellsFirst, NothingLeft}
 use Rattle.uplane_messages.specs.Whole.{AreSections, IsWhole}
 use Rattle.unit_memory.specs.Holding.{HoldsData}

@@ -10,8 +10,8 @@ use Rattle.ecpri_fragments.specs.declared.verdict.Verdict.{Verdict}
 use Rattle.ecpri_fragments.specs.declared.verdict.Verdict.TheVariants as verdicts
 use Rattle.ecpri_frames.specs.Messages.{Message}
 use Rattle.fault_counters.specs.declared.kinds.Counter.{Counter}
-use Rattle.fh_time.specs.Numbering.{shape_of}
-use Rattle.fh_time.specs.declared.values.Ticks.{Ticks}
+use Rattle.fh_base.specs.Numbering.{shape_of}
+use Rattle.fh_base.specs.declared.values.Ticks.{Ticks}
 use Rattle.air_source.specs.declared.events.Side.{Side}
 use Rattle.window_config.specs.declared.config.Config.{Config}
 use Rattle.window_config.specs.declared.delays.Delays.{Delays}
@@ -26,9 +26,9 @@ use Rattle.unit_model.specs.declared.allocations.Allocation.{Allocation}
 use Rattle.unit_model.specs.declared.decoded.ControlSection.{ControlSection}
 use Rattle.unit_model.specs.declared.decoded.UserSection.{UserSection}
 use Rattle.unit_cells.specs.Cells.{CellsValue}
-use Rattle.unit_cells.specs.Headings.{data_under}
+use Rattle.unit_model.specs.Headings.{data_under}
 use Rattle.unit_memory.specs.Holding.{HoldsData}
-use Rattle.unit_memory.specs.Judgements.{Judgement, Commanded, Fragmented, Given, Turned, Unread, judged_by, judged_commands, judged_data, judged_decoded, judged_in, judged_message, judged_now, judged_piece, judged_whole}
+use Rattle.unit_model.specs.Judgements.{Judgement, Commanded, Fragmented, Given, Turned, Unread, judged_by, judged_commands, judged_data, judged_decoded, judged_in, judged_message, judged_now, judged_piece, judged_whole}
 use Rattle.unit_memory.specs.declared.memory.UnitMemory.{UnitMemory}
 use Rattle.unit_memory.proofs.MessageLemmas.{Treated, heading_of, sections_with}
 use Rattle.unit_memory.proofs.StepLemmas.{CommandsSoFar}

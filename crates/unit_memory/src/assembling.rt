@@ -15,15 +15,15 @@ ghost use Rattle.unit_model.specs.declared.allocations.Allocation.{Allocation};
 ghost use Rattle.unit_model.specs.declared.decoded.UserSection.{UserSection};
 ghost use Rattle.unit_cells.specs.Cells.{endpoints_of};
 ghost use Rattle.unit_memory.specs.Holding.{HoldsData};
-ghost use Rattle.unit_memory.specs.Judgements.{judged_piece};
+ghost use Rattle.unit_model.specs.Judgements.{judged_piece};
 ghost use Rattle.unit_memory.specs.Parts.{CameSome, LeavesReported};
 
-use crate::Listener;
 use crate::taking::take_message_told;
 use ecpri_fragments::{Assembly, SeqField, Taken, Verdict};
 use fault_counters::Counters;
-use fh_time::Ticks;
+use fh_base::Ticks;
 use unit_cells::UnitCells;
+use unit_model::Listener;
 use window_config::EndpointConfig;
 
 /// Takes a fragment to an endpoint, and treats the message that it makes whole, if it does.

@@ -8,7 +8,7 @@ ghost use Rattle.ecpri_frames.specs.Messages.{is_delay, pdu};
 ghost use Rattle.fault_counters.specs.declared.kinds.Counter.{Counter};
 ghost use Rattle.unit_cells.specs.Cells.{IsOf, cells_reported};
 ghost use Rattle.unit_cells.specs.Keeping.{SameReported};
-ghost use Rattle.unit_model.specs.Lists.{onto};
+ghost use Rattle.fh_base.specs.Lists.{onto};
 ghost use Rattle.unit_model.specs.Meetings.{Arrival, Meeting, met_in};
 ghost use Rattle.unit_model.specs.Proper.{IsTime};
 ghost use Rattle.unit_model.specs.Reports.{hold_of};
@@ -16,16 +16,14 @@ ghost use Rattle.unit_model.specs.declared.cells.Cell.{Cell};
 ghost use Rattle.window_config.specs.Configs.{IsConfig};
 ghost use Rattle.window_config.specs.declared.config.Config.{Config as SpecConfig};
 
-use crate::{Deaf, Listener};
 use air_source::Side;
 use ecpri_fragments::Assembly;
 use ecpri_frames::{Messages, ONE_WAY_DELAY, REAL_TIME_CONTROL, messages};
 use fault_counters::Counters;
-use fh_base::NoMemory;
-use fh_time::{Ticks, of_ns};
+use fh_base::{NoMemory, Ticks, of_ns};
 use std::alloc::Global;
 use unit_cells::UnitCells;
-use unit_model::Delivered;
+use unit_model::{Deaf, Delivered, Listener};
 use window_config::{Config, EndpointConfig};
 
 /// What became of a frame that arrived.
@@ -67,7 +65,7 @@ pub struct UnitMemory {
 
 impl UnitMemory {
     ghost use Rattle.unit_memory.specs.Control.{has_control, has_delay, is_control};
-    ghost use Rattle.unit_memory.specs.Judgements.{judged_in, judgements};
+    ghost use Rattle.unit_model.specs.Judgements.{judged_in, judgements};
     ghost use Rattle.unit_memory.specs.Memory.{Holds, HoldsSome, arrival_at};
     ghost use Rattle.unit_memory.specs.Parts.{LeavesReported, MemoryStands, MemoryStandsForSome};
 

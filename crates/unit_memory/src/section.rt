@@ -5,7 +5,7 @@ ghost use Rattle.window_config.specs.declared.config.Config.{Config};
 ghost use Rattle.uplane_messages.specs.Left.{left_of};
 ghost use Rattle.unit_model.specs.Blocks.{data_prb_count};
 ghost use Rattle.unit_cells.specs.Cells.{IsOf, endpoints_of};
-ghost use Rattle.unit_cells.specs.Headings.{IsProperHeading, data_under};
+ghost use Rattle.unit_model.specs.Headings.{IsProperHeading, data_under};
 ghost use Rattle.unit_cells.specs.Keeping.{SameReported};
 ghost use Rattle.bfp_codec.specs.declared.samples.Wide.{Wide};
 ghost use Rattle.fault_counters.specs.declared.kinds.Counter.{Counter as SpecCounter};
@@ -13,13 +13,12 @@ ghost use Rattle.unit_model.specs.Blocks.{data_verdict, timely};
 ghost use Rattle.unit_model.specs.declared.allocations.Allocation.{Allocation};
 ghost use Rattle.unit_model.specs.declared.decoded.UserSection.{UserSection};
 ghost use Rattle.unit_memory.specs.Holding.{HoldsData};
-ghost use Rattle.unit_memory.specs.Judgements.{Given};
+ghost use Rattle.unit_model.specs.Judgements.{Given};
 ghost use Rattle.unit_memory.specs.Sections.{AreBehind, Came, Filled, FillsSome, AreSectionsBehind};
 
-use crate::Listener;
 use fault_counters::Counters;
-use unit_cells::{DataHeading, UnitCells};
-use unit_model::data_counter;
+use unit_cells::UnitCells;
+use unit_model::{DataHeading, Listener, data_counter};
 use uplane_messages::DataWalk;
 
 /// Gives the cell of PRB number `k` of a section its block, which comes next and which the pieces cut.

@@ -10,7 +10,7 @@ ghost use Rattle.fault_counters.specs.Counts.{once, times};
 ghost use Rattle.window_config.specs.declared.config.Config.{Config};
 ghost use Rattle.unit_model.specs.Counts.{piece_counted, refusal_counted};
 ghost use Rattle.unit_model.specs.Decoding.{data_now, data_told};
-ghost use Rattle.unit_model.specs.Lists.{onto};
+ghost use Rattle.fh_base.specs.Lists.{onto};
 ghost use Rattle.unit_model.specs.Meetings.{Arrival, Meeting, commands_with, fragment_with, meet as met_by_definition};
 ghost use Rattle.unit_model.specs.Met.{IsRead};
 ghost use Rattle.unit_model.specs.Proper.{IsAt, IsProperCommand, IsTime};
@@ -19,17 +19,17 @@ ghost use Rattle.unit_model.specs.declared.decoded.ControlSection.{ControlSectio
 ghost use Rattle.unit_model.specs.declared.decoded.UserSection.{UserSection};
 ghost use Rattle.unit_cells.specs.Cells.{endpoints_of};
 ghost use Rattle.unit_model.specs.Commands.{accepted, command_verdict};
-ghost use Rattle.unit_memory.specs.Judgements.{Commanded, judged_commands, judged_message, judged_piece};
+ghost use Rattle.unit_model.specs.Judgements.{Commanded, judged_commands, judged_message, judged_piece};
 
+use crate::UnitMemory;
 use crate::assembling::assemble;
-use crate::{Listener, UnitMemory};
 use air_source::Side;
 use cplane_sections::{CHead, sections};
 use ecpri_fragments::SeqField;
 use ecpri_frames::{PduRefusal, WholeMessage};
 use fault_counters::Counter;
-use fh_time::Ticks;
-use unit_model::{ControlSection, Met, command_counter, fragment_counter, meet};
+use fh_base::Ticks;
+use unit_model::{ControlSection, Listener, Met, command_counter, fragment_counter, meet};
 use window_config::EndpointConfig;
 
 impl UnitMemory {

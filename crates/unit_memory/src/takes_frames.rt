@@ -5,7 +5,7 @@ ghost use Rattle.unit_model.specs.Standing.{History, arrived, at_clock};
 ghost use Rattle.unit_memory.specs.Control.{has_delay};
 ghost use Rattle.unit_model.specs.declared.allocations.Allocation.{Allocation};
 
-use fh_time::Ticks;
+use fh_base::Ticks;
 
 /// A unit that takes frames, one after the other.
 pub trait TakesFrames {

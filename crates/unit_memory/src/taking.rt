@@ -1,6 +1,6 @@
 // A whole message.
 ghost use Rattle.std.specs.Prelude.{◌≡◌, ◌≢◌, ℕ, ◌+◌, [], ◌++◌, ◌≤ℤ◌, true, List, map, Some};
-ghost use Rattle.fh_time.specs.Numbering.{shape_of};
+ghost use Rattle.fh_base.specs.Numbering.{shape_of};
 ghost use Rattle.bfp_codec.specs.Layout.{HasWidth};
 ghost use Rattle.air_source.specs.declared.events.Side.{Side as SpecSide};
 ghost use Rattle.ecpri_fragments.specs.Assemblies.{message_of};
@@ -18,16 +18,16 @@ ghost use Rattle.unit_model.specs.declared.decoded.UserSection.{UserSection};
 ghost use Rattle.unit_cells.specs.Cells.{IsOf, endpoints_of};
 ghost use Rattle.unit_cells.specs.Keeping.{SameReported};
 ghost use Rattle.unit_memory.specs.Holding.{HoldsData};
-ghost use Rattle.unit_memory.specs.Judgements.{judged_data, judged_whole};
+ghost use Rattle.unit_model.specs.Judgements.{judged_data, judged_whole};
 ghost use Rattle.unit_memory.specs.Sections.{items_of};
 
 use crate::section::take_section;
-use crate::{Deaf, Listener};
 use air_source::Side;
 use ecpri_fragments::Lease;
 use fault_counters::{Counter, Counters};
-use fh_time::shape;
-use unit_cells::{DataHeading, UnitCells};
+use fh_base::shape;
+use unit_cells::UnitCells;
+use unit_model::{DataHeading, Deaf, Listener};
 use uplane_messages::{DataWalk, tested};
 use uplane_sections::{UFeed, UHead};
 use window_config::EndpointConfig;

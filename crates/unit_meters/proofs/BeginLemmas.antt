@@ -18,10 +18,10 @@ use Rattle.delay_model.specs.Doings.{Doings, told_in, with_begins}
 use Rattle.delay_measure.specs.After.{begins}
 use Rattle.fh_document.specs.Proper.{IsMeasure}
 use Rattle.fh_document.specs.declared.document.Measure.{Measure}
-use Rattle.fh_time.proofs.Orders.{above_next}
-use Rattle.fh_time.specs.declared.values.Ticks.{Ticks}
-use Rattle.frame_network.specs.Queues.{AreRising, first_time, landing_of}
-use Rattle.frame_network.specs.declared.landings.Landing.{Landing}
+use Rattle.fh_base.proofs.Orders.{above_next}
+use Rattle.fh_base.specs.declared.values.Ticks.{Ticks}
+use Rattle.frame_ways.specs.Queues.{AreRising, first_time, landing_of}
+use Rattle.frame_ways.specs.declared.landings.Landing.{Landing}
 use Rattle.frame_ways.proofs.LandLemmas.{refused_from, rest_within, taken_all}
 use Rattle.frame_ways.specs.Listed.{AreFrom}
 use Rattle.unit_meters.specs.Begins.{AreWithin, HasBegun, MetersStand, begin_of, begin_then, begins_among, begins_of, begins_waiting}

@@ -11,9 +11,9 @@ use Rattle.std.proofs.lemmas.Option.{get_or_from_slice_get, slice_get_within}
 use Rattle.delay_laws.specs.Ticks.{Begin, due}
 use Rattle.fh_document.specs.Proper.{IsMeasure}
 use Rattle.fh_document.specs.declared.document.Measure.{Measure}
-use Rattle.fh_time.specs.declared.values.Ticks.{Ticks}
-use Rattle.frame_network.specs.declared.landings.Landing.{Landing}
-use Rattle.frame_network.specs.Queues.{IsPlaced, at_time, enumerated, enumerated_from, landing_of}
+use Rattle.fh_base.specs.declared.values.Ticks.{Ticks}
+use Rattle.frame_ways.specs.declared.landings.Landing.{Landing}
+use Rattle.frame_ways.specs.Queues.{IsPlaced, at_time, enumerated, enumerated_from, landing_of}
 use Rattle.frame_ways.proofs.ListLemmas.{all_from, all_within}
 use Rattle.frame_ways.specs.Listed.{AreFrom}
 use Rattle.unit_meters.specs.Begins.{AreWithin, begin_of, begin_time, begins_among, measure_at}

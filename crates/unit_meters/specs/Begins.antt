@@ -11,9 +11,9 @@ use Rattle.delay_laws.specs.Ticks.{Begin, due}
 use Rattle.delay_model.specs.Doings.{Doings, with_begins}
 use Rattle.fh_document.specs.Proper.{IsMeasure}
 use Rattle.fh_document.specs.declared.document.Measure.{Measure}
-use Rattle.fh_time.specs.declared.values.Ticks.{Ticks}
-use Rattle.frame_network.specs.Queues.{at_time}
-use Rattle.frame_network.specs.declared.landings.Landing.{Landing}
+use Rattle.fh_base.specs.declared.values.Ticks.{Ticks}
+use Rattle.frame_ways.specs.Queues.{at_time}
+use Rattle.frame_ways.specs.declared.landings.Landing.{Landing}
 use Rattle.frame_ways.specs.Listed.{AreFrom}
 use Rattle.window_config.specs.Windows.{ticks_of_ns}
 use Rattle.unit_meters.specs.declared.meters.Meters.{Meters}

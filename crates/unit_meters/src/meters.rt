@@ -6,10 +6,9 @@ ghost use Rattle.unit_meters.specs.Begins.{begin_time};
 use air_source::Side;
 use delay_exchange::UnitMeter;
 use delay_measure::Compensation;
-use fh_base::{List, NoMemory};
+use fh_base::{List, NoMemory, Ticks, of_ns};
 use fh_document::Measure;
-use fh_time::{Ticks, of_ns};
-use frame_network::LandingQueue;
+use frame_ways::LandingQueue;
 use std::alloc::Global;
 
 /// The delay measurement of both units, and the measurements that have not begun yet.
@@ -53,7 +52,7 @@ impl<'a> Meters<'a> {
     ghost use Rattle.delay_laws.specs.Ticks.{Begin, due};
     ghost use Rattle.delay_measure.specs.Kept.{IsInRange};
     ghost use Rattle.delay_model.specs.Doings.{Doings, nothing, with_begins};
-    ghost use Rattle.fh_time.specs.Least.{IsLeastOf};
+    ghost use Rattle.fh_base.specs.Least.{IsLeastOf};
     ghost use Rattle.unit_meters.specs.Begins.{Awaits, HasBegun, MetersStand, NoneBeginsTo, begin_of, begins_of};
 
     /// All these measurements wait, with the compensation of each unit.

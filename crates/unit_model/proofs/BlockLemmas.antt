@@ -9,7 +9,7 @@ use Rattle.window_config.specs.declared.delays.Delays.{Delays}
 use Rattle.window_config.specs.declared.verdicts.Class.{Class}
 use Rattle.window_config.specs.declared.verdicts.Class.TheVariants as class
 use Rattle.unit_model.specs.Blocks.{timely, with_timely, data_class}
-use Rattle.unit_model.specs.Lists.{or_else}
+use Rattle.fh_base.specs.Lists.{or_else}
 use Rattle.unit_model.specs.declared.cells.Block.{Block}
 use Rattle.unit_model.specs.declared.decoded.UserSection.{UserSection}
 

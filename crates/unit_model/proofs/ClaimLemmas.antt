@@ -5,15 +5,15 @@ use Rattle.std.specs.Prelude.{◌==◌, Option, None, if◌then◌else◌, is_so
 use Rattle.std.specs.Ordering.{int_eq}
 use Rattle.std.proofs.lemmas.Bool.{and_parts, eqb-true, and_from, eq-eqb, or_left, cases_eq, or_right, cases_Bool}
 use Rattle.std.proofs.lemmas.Bool.Decides.{Decides-int_eq, nat_tests}
-use Rattle.fh_time.specs.declared.values.Slot.{Slot}
-use Rattle.fh_time.proofs.Order.{same_fields}
+use Rattle.fh_base.specs.declared.values.Slot.{Slot}
+use Rattle.fh_base.proofs.Order.{same_fields}
 use Rattle.unit_model.specs.Radiated.{is_used, used_below}
 use Rattle.unit_model.specs.declared.cells.Claim.{Claim}
-use Rattle.fh_time.specs.Carrier.{is_outside, first_of, count_of}
-use Rattle.unit_model.specs.Lists.{every, some}
+use Rattle.fh_base.specs.Carrier.{is_outside, first_of, count_of}
+use Rattle.fh_base.specs.Lists.{every, some}
 use Rattle.unit_model.specs.Order.{comes_before}
 use Rattle.unit_model.specs.declared.symbol_start.SymbolStart.{SymbolStart}
-use Rattle.fh_time.proofs.Orders.{under_is as is_less}
+use Rattle.fh_base.proofs.Orders.{under_is as is_less}
 use Rattle.unit_model.specs.declared.allocations.Allocation.{Allocation}
 use Rattle.unit_model.specs.declared.cells.Cell.{Cell}
 

@@ -6,7 +6,6 @@ pub mod Read
 pub mod Whole
 pub mod CommandLaws
 pub mod CountLemmas
-pub mod OntoLemmas
 pub mod SectionLemmas
 pub mod UplinkLaws
 pub mod ReachLaws
@@ -15,3 +14,7 @@ pub mod ClaimLemmas
 pub mod GatheringLemmas
 pub mod InTimeLemmas
 pub mod ToldLemmas
+pub mod EndpointLemmas
+pub mod ArrivalLemmas
+pub mod SweepLemmas
+pub mod CommonLemmas

@@ -6,24 +6,24 @@ use Rattle.std.specs.Int.{int_gap}
 use Rattle.std.specs.List.{slice_get}
 use Rattle.std.proofs.lemmas.Bool.Decides.{Decides-int_eq}
 use Rattle.std.proofs.lemmas.Int.{ints}
-use Rattle.fh_time.specs.declared.kind.Kind.{Kind}
-use Rattle.fh_time.specs.declared.kind.Kind.TheVariants.{Ordinary, Offset, Extended}
-use Rattle.fh_time.specs.declared.numerology.Numerology.{Numerology}
-use Rattle.fh_time.specs.declared.spacing.Spacing.TheVariants.{Khz15, Khz30, Khz60, Khz120, Khz240, Khz1x25, Khz5}
-use Rattle.fh_time.specs.declared.values.Slot.{Slot}
-use Rattle.fh_time.specs.Air.{air_of}
-use Rattle.fh_time.specs.Frame.{frame_start}
-use Rattle.fh_time.specs.Kinds.{kind_start, kind_slots, kind_symbols}
-use Rattle.fh_time.specs.Numbering.{slots_of, symbols_of, IsSlotOf}
-use Rattle.fh_time.proofs.Euclid.{frame_floor}
-use Rattle.fh_time.proofs.Order.{kind_covers, kind_left}
+use Rattle.fh_base.specs.declared.kind.Kind.{Kind}
+use Rattle.fh_base.specs.declared.kind.Kind.TheVariants.{Ordinary, Offset, Extended}
+use Rattle.fh_base.specs.declared.numerology.Numerology.{Numerology}
+use Rattle.fh_base.specs.declared.spacing.Spacing.TheVariants.{Khz15, Khz30, Khz60, Khz120, Khz240, Khz1x25, Khz5}
+use Rattle.fh_base.specs.declared.values.Slot.{Slot}
+use Rattle.fh_base.specs.Air.{air_of}
+use Rattle.fh_base.specs.Frame.{frame_start}
+use Rattle.fh_base.specs.Kinds.{kind_start, kind_slots, kind_symbols}
+use Rattle.fh_base.specs.Numbering.{slots_of, symbols_of, IsSlotOf}
+use Rattle.fh_base.proofs.Euclid.{frame_floor}
+use Rattle.fh_base.proofs.Order.{kind_covers, kind_left}
 use Rattle.window_config.specs.declared.endpoints.EndpointConfig.{EndpointConfig}
-use Rattle.unit_model.specs.Lists.{each, each_tick}
+use Rattle.fh_base.specs.Lists.{each, each_tick}
 use Rattle.unit_model.specs.Proper.{IsAt}
 use Rattle.unit_model.specs.Sweeps.{OfSymbol, slot_at, frame_of_tick, first_swept, frames_swept, of_symbol, of_slot, of_subframe, of_frame, of_endpoint, of_endpoints, at_tick, sweep}
-use Rattle.unit_model.proofs.SweepLaws.{each_split, ticks_split, gap_is, gap_parts}
-use Rattle.fh_time.specs.declared.frames.TheConstants.{FRAME}
-use Rattle.fh_time.specs.declared.symbols.TheConstants.{SUBFRAME}
+use Rattle.fh_base.specs.declared.frames.TheConstants.{FRAME}
+use Rattle.fh_base.specs.declared.symbols.TheConstants.{SUBFRAME}
+use Rattle.fh_base.proofs.EachLemmas.{each_split, ticks_split, gap_is, gap_parts}
 
 -- ---- how late a symbol may start
 

@@ -2,15 +2,15 @@
 use Rattle.std.proofs.Common.{ℕ, ℤ, pos, neg_ℤ, ◌+ℤ◌, ◌-ℤ◌, ◌*ℤ◌, ◌≤ℤ◌, ◌<ℤ◌, refl, arith}
 use Rattle.std.proofs.lemmas.Int.{ints}
 use Rattle.std.specs.Int.{int_div_euclid, int_rem_euclid}
-use Rattle.fh_time.specs.Frame.{IsFrame, absolute_frame, first_frame}
-use Rattle.fh_time.proofs.Euclid.{frame_floor, frame_near, rest_small}
+use Rattle.fh_base.specs.Frame.{IsFrame, absolute_frame, first_frame}
+use Rattle.fh_base.proofs.Euclid.{frame_floor, frame_near, rest_small}
 use Rattle.unit_model.specs.Blocks.{data_slot}
 use Rattle.unit_model.specs.Commands.{command_slot}
 use Rattle.unit_model.specs.Proper.{IsTime, IsSlot}
 use Rattle.unit_model.specs.Sound.{IsSoundCommand, IsSoundData}
 use Rattle.unit_model.specs.declared.decoded.ControlSection.{ControlSection}
 use Rattle.unit_model.specs.declared.decoded.UserSection.{UserSection}
-use Rattle.fh_time.specs.declared.frames.TheConstants.{FRAME}
+use Rattle.fh_base.specs.declared.frames.TheConstants.{FRAME}
 use Rattle.unit_model.specs.Radiated.{first_clock}
 
 -- the frame nearest to a time that a unit may be given is one whose symbols' times can be told

@@ -3,8 +3,8 @@ use Rattle.std.proofs.Common.{◌≡◌, ℕ, ℤ, zero, suc, ◌+◌, ◌-◌, 
 use Rattle.std.specs.Prelude.{All, nat_lt, nat_le, not, ◌&&◌, ◌||◌, ◌==◌}
 use Rattle.std.proofs.lemmas.List.Elements.{All-map, All-cons, All-nil, All-weaker}
 use Rattle.std.proofs.lemmas.Bool.Decides.{nat_tests}
-use Rattle.fh_time.specs.declared.values.Shape.{Shape}
-use Rattle.fh_time.specs.Numbering.{shape_of, slots_of}
+use Rattle.fh_base.specs.declared.values.Shape.{Shape}
+use Rattle.fh_base.specs.Numbering.{shape_of, slots_of}
 use Rattle.air_source.specs.declared.events.Side.{Side}
 use Rattle.bfp_codec.specs.declared.methods.Format.{Format}
 use Rattle.bfp_codec.specs.declared.methods.Method.{Method}
@@ -14,14 +14,14 @@ use Rattle.uplane_sections.specs.declared.values.URefusal.{URefusal}
 use Rattle.uplane_sections.specs.declared.values.USection.{USection}
 use Rattle.uplane_sections.specs.declared.values.UWhy.TheVariants.{Truncated, Version, SlotRange, SymbolRange, EveryOtherRb, PrbRange, Method as UnknownMethod}
 use Rattle.uplane_sections.specs.Header.{symbolId, subframeId, slotId, payloadVersion, head_of}
-use Rattle.fh_time.specs.Carrier.{is_outside, first_of, count_of}
+use Rattle.fh_base.specs.Carrier.{is_outside, first_of, count_of}
 use Rattle.uplane_sections.specs.Section.{rb, is_method, startPrbu, numPrbu, symInc, header_size, method_of, section_of, size_of}
 use Rattle.uplane_sections.specs.Messages.{Item, Head, Section, Telling, refused, after, blocks, section_at, sections, told}
 use Rattle.window_config.specs.declared.endpoints.EndpointConfig.{EndpointConfig}
 use Rattle.unit_model.specs.Decoding.{SectionBlocks, Gathering, nothing_told, without_blocks, longer, gathered, has_way, data_with, decoded_from, decode, Sections, Backwards, sections_of}
 use Rattle.unit_model.specs.declared.decoded.UserSection.{UserSection}
 use Rattle.unit_model.specs.Proper.{IsAt, IsTime, IsProperData}
-use Rattle.fh_time.proofs.Orders.{not_lt, not_le, neither_le}
+use Rattle.fh_base.proofs.Orders.{not_lt, not_le, neither_le}
 use Rattle.uplane_sections.proofs.Refusing.{passes, refusal_at}
 
 -- a section that passed the tests, with all its PRBs

@@ -2,19 +2,19 @@
 -- verdicts are this project's profile).
 use Rattle.std.specs.Prelude.{ℕ, ℤ, ◌-◌, ◌==◌, Bool, ◌&&◌, is_some, if◌then◌else◌, List, [], ◌∷◌, Option, Some, None}
 use Rattle.std.specs.List.{slice_index_or}
-use Rattle.fh_time.specs.declared.values.Slot.{Slot}
-use Rattle.fh_time.specs.Air.{air_of}
-use Rattle.fh_time.specs.Frame.{absolute_frame}
+use Rattle.fh_base.specs.declared.values.Slot.{Slot}
+use Rattle.fh_base.specs.Air.{air_of}
+use Rattle.fh_base.specs.Frame.{absolute_frame}
 use Rattle.air_source.specs.declared.events.Side.{Side}
 use Rattle.air_source.specs.declared.events.Side.TheVariants.{Ru, Du}
-use Rattle.fh_time.specs.Carrier.{first_of, count_of}
+use Rattle.fh_base.specs.Carrier.{first_of, count_of}
 use Rattle.window_config.specs.declared.delays.Delays.{Delays}
 use Rattle.window_config.specs.declared.verdicts.Class.{Class}
 use Rattle.window_config.specs.declared.verdicts.Class.TheVariants as class
 use Rattle.window_config.specs.Classes.{class_of, class_up_of}
 use Rattle.window_config.specs.Windows.{data_window_of}
 use Rattle.unit_model.specs.Claims.{cell_at, same_slot, same_way, is_from}
-use Rattle.unit_model.specs.Lists.{every, or_else}
+use Rattle.fh_base.specs.Lists.{every, or_else}
 use Rattle.unit_model.specs.declared.cells.Block.{Block}
 use Rattle.unit_model.specs.declared.cells.Cell.{Cell}
 use Rattle.unit_model.specs.declared.decoded.UserSection.{UserSection}

@@ -1,6 +1,6 @@
 -- The sections of whole U-plane messages (O-RAN.WG4.CUS, U-plane messages; their fragments: eCPRI transport header).
 use Rattle.std.specs.Prelude.{ℕ, ℤ, not, if◌then◌else◌, Bool, List, [], ◌∷◌, ◌++◌, map, Option, Some, None}
-use Rattle.fh_time.specs.Numbering.{shape_of}
+use Rattle.fh_base.specs.Numbering.{shape_of}
 use Rattle.air_source.specs.declared.events.Side.{Side}
 use Rattle.air_source.specs.declared.events.Side.TheVariants.{Ru, Du}
 use Rattle.bfp_codec.specs.declared.samples.Wide.{Wide}

@@ -1,4 +1,3 @@
-pub mod Lists
 pub mod Meetings
 pub mod Decoding
 pub mod Claims
@@ -21,3 +20,6 @@ pub mod Events
 pub mod Heard
 pub mod Starts
 pub mod Terms
+pub mod Headings
+pub mod Swept
+pub mod Judgements

@@ -1,7 +1,7 @@
 -- What a unit makes of each whole message of a frame, in the order of the tests that it meets (eCPRI 2.0, sections 3.1.3 and
 -- 3.2.4; O-RAN.WG4.CUS, the eCPRI transport header; the order of the tests is this project's profile).
 use Rattle.std.specs.Prelude.{ℕ, ℤ, ◌+◌, ◌==◌, ◌||◌, not, nat_lt, if◌then◌else◌, List, [], ◌∷◌, length, map, Option, Some, None, Result, Ok, Err}
-use Rattle.fh_time.specs.Numbering.{shape_of}
+use Rattle.fh_base.specs.Numbering.{shape_of}
 use Rattle.air_source.specs.declared.events.Side.{Side}
 use Rattle.air_source.specs.declared.events.Side.TheVariants.{Ru, Du}
 use Rattle.cplane_sections.specs.declared.values.CHead.{CHead}
@@ -17,7 +17,7 @@ use Rattle.ecpri_frames.specs.Messages.{Message}
 use Rattle.fault_counters.specs.declared.kinds.Counter.{Counter}
 use Rattle.fault_counters.specs.declared.kinds.Counter.TheVariants.{OtherType, Delay, Short, UnknownEndpoint, WrongWay, CRefused}
 use Rattle.window_config.specs.declared.endpoints.EndpointConfig.{EndpointConfig}
-use Rattle.unit_model.specs.Lists.{onto}
+use Rattle.fh_base.specs.Lists.{onto}
 use Rattle.unit_model.specs.declared.decoded.ControlSection.{ControlSection}
 use Rattle.ecpri_frames.specs.declared.heads.TheConstants.{ONE_WAY_DELAY, REAL_TIME_CONTROL, IQ_DATA}
 

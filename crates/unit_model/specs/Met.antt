@@ -1,6 +1,6 @@
 -- A whole message with its tests behind it, as the definitions see it.
 use Rattle.std.specs.Prelude.{ℕ, ℤ, List, ◌<◌}
-use Rattle.fh_time.specs.Numbering.{shape_of}
+use Rattle.fh_base.specs.Numbering.{shape_of}
 use Rattle.cplane_sections.specs.declared.values.CHead.{CHead}
 use Rattle.cplane_sections.specs.Message.{Admits, MessageFits, sections_in}
 use Rattle.cplane_sections.specs.Tests.{IsHeadOf}

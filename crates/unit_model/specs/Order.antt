@@ -1,7 +1,7 @@
 -- The order in which symbols are told: by their starts, and at one tick by endpoint, slot and symbol (this project's profile).
 use Rattle.std.specs.Prelude.{ℕ, Bool, ◌&&◌, ◌||◌, ◌==◌, nat_lt, int_lt}
 use Rattle.std.specs.Ordering.{int_eq}
-use Rattle.fh_time.specs.declared.values.Slot.{Slot}
+use Rattle.fh_base.specs.declared.values.Slot.{Slot}
 use Rattle.unit_model.specs.Claims.{same_slot}
 use Rattle.unit_model.specs.declared.symbol_start.SymbolStart.{SymbolStart}
 

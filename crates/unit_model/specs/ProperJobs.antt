@@ -1,8 +1,8 @@
 -- What is known of the uplink messages that the radio unit gives: they can be sent as they are.
 use Rattle.std.specs.Prelude.{◌≡◌, ℤ, ◌<◌, ◌≤ℤ◌, List, false}
-use Rattle.fh_time.specs.Air.{air_of}
-use Rattle.fh_time.specs.Carrier.{is_outside}
-use Rattle.fh_time.specs.Numbering.{symbols_of}
+use Rattle.fh_base.specs.Air.{air_of}
+use Rattle.fh_base.specs.Carrier.{is_outside}
+use Rattle.fh_base.specs.Numbering.{symbols_of}
 use Rattle.window_config.specs.declared.endpoints.EndpointConfig.{EndpointConfig}
 use Rattle.unit_model.specs.Proper.{IsAt, IsSlot}
 use Rattle.unit_model.specs.Radiated.{first_clock}

@@ -1,8 +1,8 @@
 -- What a unit reports of a cell at its moment: at the radio unit what radiates, at the distributed unit what was taken in (this
 -- project's profile).
 use Rattle.std.specs.Prelude.{ℕ, zero, suc, ℤ, pos, ◌+◌, ◌*◌, ◌-ℤ◌, ◌+ℤ◌, ◌==◌, Bool, false, not, if◌then◌else◌, List, [], ◌∷◌, Option, Some, None}
-use Rattle.fh_time.specs.declared.values.Slot.{Slot}
-use Rattle.fh_time.specs.Air.{air_of}
+use Rattle.fh_base.specs.declared.values.Slot.{Slot}
+use Rattle.fh_base.specs.Air.{air_of}
 use Rattle.air_source.specs.declared.events.AirCell.{AirCell}
 use Rattle.air_source.specs.declared.events.Side.{Side}
 use Rattle.air_source.specs.declared.events.Side.TheVariants.{Ru, Du}
@@ -12,14 +12,14 @@ use Rattle.window_config.specs.declared.endpoints.EndpointConfig.{EndpointConfig
 use Rattle.window_config.specs.Windows.{ticks_of_ns}
 use Rattle.unit_model.specs.Blocks.{block_at}
 use Rattle.unit_model.specs.Claims.{cell_at, claim_at}
-use Rattle.unit_model.specs.Lists.{each}
+use Rattle.fh_base.specs.Lists.{each}
 use Rattle.unit_model.specs.Sweeps.{sweep}
 use Rattle.unit_model.specs.declared.allocations.Allocation.{Allocation}
 use Rattle.unit_model.specs.declared.cells.Block.{Block}
 use Rattle.unit_model.specs.declared.cells.Cell.{Cell}
 use Rattle.unit_model.specs.declared.cells.Claim.{Claim}
 use Rattle.unit_model.specs.declared.decoded.UserSection.{UserSection}
-use Rattle.fh_time.specs.declared.frames.TheConstants.{FRAME}
+use Rattle.fh_base.specs.declared.frames.TheConstants.{FRAME}
 use Rattle.air_source.specs.Units.{is_down}
 
 -- an element is in use: it is claimed, and not as idle

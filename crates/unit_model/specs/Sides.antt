@@ -1,6 +1,6 @@
 -- The two units: how far the messages of data of a unit lie from their symbols, and so which slots are live (this project's profile).
 use Rattle.std.specs.Prelude.{ℕ, ℤ}
-use Rattle.fh_time.specs.declared.values.Slot.{Slot}
+use Rattle.fh_base.specs.declared.values.Slot.{Slot}
 use Rattle.air_source.specs.declared.events.Side.{Side}
 use Rattle.air_source.specs.declared.events.Side.TheVariants.{Ru, Du}
 use Rattle.window_config.specs.Rings.{IsLive, du_reach_of, ru_reach_of}

@@ -1,7 +1,7 @@
 -- What the verdicts need of decoded sections and of what they name, whichever endpoints there are.
 use Rattle.std.specs.Prelude.{◌≡◌, ◌+◌, ◌<◌, ◌≤◌, length, false}
-use Rattle.fh_time.specs.Numbering.{slots_of, symbols_of}
-use Rattle.fh_time.specs.Carrier.{is_outside}
+use Rattle.fh_base.specs.Numbering.{slots_of, symbols_of}
+use Rattle.fh_base.specs.Carrier.{is_outside}
 use Rattle.unit_model.specs.Blocks.{data_prb_count}
 use Rattle.unit_model.specs.Proper.{IsTime}
 use Rattle.unit_model.specs.declared.allocations.Allocation.{Allocation}

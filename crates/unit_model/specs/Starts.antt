@@ -1,12 +1,12 @@
 -- A symbol and its start, and what is told of it.
 use Rattle.std.specs.Prelude.{ℕ, List, map, filter, reverse}
-use Rattle.fh_time.specs.declared.values.Slot.{Slot}
-use Rattle.fh_time.specs.Air.{air_of}
+use Rattle.fh_base.specs.declared.values.Slot.{Slot}
+use Rattle.fh_base.specs.Air.{air_of}
 use Rattle.air_source.specs.declared.events.AirCell.{AirCell}
 use Rattle.air_source.specs.declared.events.Side.{Side}
 use Rattle.window_config.specs.declared.endpoints.EndpointConfig.{EndpointConfig}
 use Rattle.unit_model.specs.Claims.{cell_at}
-use Rattle.unit_model.specs.Lists.{each, in_order}
+use Rattle.fh_base.specs.Lists.{each, in_order}
 use Rattle.unit_model.specs.Radiated.{Known, report_of}
 use Rattle.unit_model.specs.Uplink.{is_before, job_of, sends_in}
 use Rattle.unit_model.specs.declared.allocations.Allocation.{Allocation}

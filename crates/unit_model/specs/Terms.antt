@@ -1,11 +1,11 @@
 -- The terms in which units are spoken of, for the crates above: times, messages, units, windows and counters.
 
 -- times
-pub use Rattle.fh_time.specs.declared.values.Slot.{Slot}
-pub use Rattle.fh_time.specs.declared.values.Ticks.{Ticks}
-pub use Rattle.fh_time.specs.declared.numerology.Numerology.{Numerology}
-pub use Rattle.fh_time.specs.Numbering.{slots_of, symbols_of}
-pub use Rattle.fh_time.specs.Air.{air_of}
+pub use Rattle.fh_base.specs.declared.values.Slot.{Slot}
+pub use Rattle.fh_base.specs.declared.values.Ticks.{Ticks}
+pub use Rattle.fh_base.specs.declared.numerology.Numerology.{Numerology}
+pub use Rattle.fh_base.specs.Numbering.{slots_of, symbols_of}
+pub use Rattle.fh_base.specs.Air.{air_of}
 -- messages
 pub use Rattle.ecpri_frames.specs.declared.heads.Head.{Head}
 pub use Rattle.ecpri_fragments.specs.declared.sequence.SeqField.{SeqField}

@@ -1,6 +1,6 @@
 -- The times within which all happens (this project's profile).
 use Rattle.std.specs.Prelude.{ℕ, ℤ, pos, ◌+ℤ◌}
-use Rattle.fh_time.specs.declared.nanoseconds.TheConstants.{END_OF_TIME}
+use Rattle.fh_base.specs.declared.nanoseconds.TheConstants.{END_OF_TIME}
 use Rattle.std.specs.Int.{int_gap}
 use Rattle.unit_model.specs.Radiated.{first_clock}
 

@@ -1,11 +1,11 @@
 -- The uplink messages that the radio unit is to send: one for each symbol of each accepted uplink section (this project's profile).
 use Rattle.std.specs.Prelude.{ℕ, ℤ, pos, ◌+ℤ◌, ◌==◌, Bool, ◌&&◌, ◌||◌, nat_lt, List, map, filter, reverse}
-use Rattle.fh_time.specs.declared.values.Slot.{Slot}
-use Rattle.fh_time.specs.Air.{air_of}
+use Rattle.fh_base.specs.declared.values.Slot.{Slot}
+use Rattle.fh_base.specs.Air.{air_of}
 use Rattle.window_config.specs.declared.endpoints.EndpointConfig.{EndpointConfig}
 use Rattle.unit_model.specs.Claims.{same_slot, is_from}
 use Rattle.unit_model.specs.Commands.{is_uplink}
-use Rattle.unit_model.specs.Lists.{in_order}
+use Rattle.fh_base.specs.Lists.{in_order}
 use Rattle.unit_model.specs.Radiated.{first_clock}
 use Rattle.unit_model.specs.Sweeps.{sweep}
 use Rattle.unit_model.specs.declared.allocations.Allocation.{Allocation}

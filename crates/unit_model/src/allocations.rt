@@ -1,5 +1,5 @@
 // What a section names.
-use fh_time::Slot;
+use fh_base::Slot;
 use window_config::EndpointConfig;
 
 /// The resource elements that a section of the C-plane, or a line of a plan, names for its data.

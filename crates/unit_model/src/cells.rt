@@ -1,6 +1,6 @@
 // Cells, and what is said of them.
 use bfp_codec::Wide;
-use fh_time::Slot;
+use fh_base::Slot;
 
 /// One PRB in one symbol of an endpoint, in one direction.
 #[derive(Clone, Copy, Debug, PartialEq, Eq)]

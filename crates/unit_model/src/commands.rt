@@ -8,7 +8,7 @@ use crate::allocations::Allocation;
 use crate::decoded::ControlSection;
 use crate::slots::command_start;
 use cplane_sections::CBody;
-use fh_time::{Numerology, code, offsets};
+use fh_base::{Numerology, code, offsets};
 use window_config::{Class, Delays, class, command_window};
 
 /// Whether an endpoint has no offsets: it is an ordinary or an extended one.

@@ -1,8 +1,7 @@
 // The sections of messages that were read.
 use bfp_codec::Wide;
 use cplane_sections::{CHead, CSection};
-use fh_base::List;
-use fh_time::Ticks;
+use fh_base::{List, Ticks};
 use uplane_sections::{UHead, USection};
 use window_config::EndpointConfig;
 

@@ -1,6 +1,6 @@
 // What a unit answers beside verdicts.
 use ecpri_frames::PduRefusal;
-use fh_time::{Slot, Ticks};
+use fh_base::{Slot, Ticks};
 
 /// One symbol of an accepted uplink section, for which the radio unit sends a U-plane message.
 #[derive(Clone, Copy, Debug, PartialEq, Eq)]

@@ -12,7 +12,7 @@ use cplane_sections::{CHead, check};
 use ecpri_fragments::{SeqField, read_seq};
 use ecpri_frames::{IQ_DATA, ONE_WAY_DELAY, REAL_TIME_CONTROL, WholeMessage};
 use fault_counters::Counter;
-use fh_time::shape;
+use fh_base::shape;
 use window_config::EndpointConfig;
 
 /// What a whole message is to a unit.

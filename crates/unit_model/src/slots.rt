@@ -8,7 +8,7 @@ ghost use Rattle.unit_model.specs.Sound.{IsSoundCommand};
 use crate::allocations::Allocation;
 use crate::decoded::ControlSection;
 use cplane_sections::CBody;
-use fh_time::{Slot, Ticks, air, resolve};
+use fh_base::{Slot, Ticks, air, resolve};
 
 /// Whether two slots are the same one.
 pub fn same_slot(a: &Slot, b: &Slot) -> bool

@@ -3,7 +3,7 @@ ghost use Rattle.std.specs.Prelude.{◌≡◌};
 ghost use Rattle.unit_model.specs.Claims.{first_prb, prb_count};
 
 use crate::allocations::Allocation;
-use fh_time::PrbSpan;
+use fh_base::PrbSpan;
 
 impl Allocation {
     /// The PRBs of its carrier that it names.

@@ -3,7 +3,7 @@ ghost use Rattle.std.specs.Prelude.{◌≡◌};
 ghost use Rattle.unit_model.specs.Order.{comes_before, slot_before, symbol_before};
 
 use crate::slots::same_slot;
-use fh_time::{Slot, Ticks};
+use fh_base::{Slot, Ticks};
 use window_config::EndpointConfig;
 
 /// A symbol of an endpoint, and when it starts.

@@ -6,18 +6,17 @@ use Rattle.delay_exchange.specs.Units.{HasDoings}
 use Rattle.delay_exchange.specs.declared.unit.UnitMeter.{UnitMeter}
 use Rattle.delay_measure.specs.declared.edge.Compensation.{Compensation}
 use Rattle.delay_model.specs.Doings.{Doings, results_of, with_frame, with_frames}
-use Rattle.unit_laws.proofs.HeardLemmas.{arrivals-append, arrivals-own}
 use Rattle.unit_model.proofs.ToldLemmas.{none_told, told_next, told_one}
 use Rattle.unit_model.specs.Events.{arrival_told}
 use Rattle.unit_model.specs.Heard.{arrivals_heard}
-use Rattle.frame_deliveries.specs.Landing.{arrival_at, landing_at}
+use Rattle.frame_ways.specs.Landing.{arrival_at, landing_at}
 use Rattle.frame_ways.specs.Landed.{bytes_of}
 use Rattle.frame_ways.specs.Ways.{HasLanded, Lands, LandsNext, OnWay, landings_on}
 use Rattle.frame_ways.specs.declared.landed.Landed.{Landed}
 use Rattle.frame_ways.specs.declared.way.Way.{Way}
 use Rattle.frame_ways.proofs.SendLemmas.{none_landed}
-use Rattle.unit_model.proofs.OntoLemmas.{onto-append, onto_none}
-use Rattle.unit_model.specs.Lists.{onto}
+use Rattle.fh_base.proofs.OntoLemmas.{onto-append, onto_none}
+use Rattle.fh_base.specs.Lists.{onto}
 use Rattle.unit_model.specs.Meetings.{Arrival}
 use Rattle.unit_model.specs.Standing.{History, arrived, at_clock}
 use Rattle.unit_model.specs.declared.allocations.Allocation.{Allocation}
@@ -25,6 +24,7 @@ use Rattle.window_config.specs.declared.config.Config.{Config}
 use Rattle.unit_moments.specs.Landing.{HasTaken, HaveLanded, MayLand, clock_behind, landed, told_of_frame, told_of_frames}
 use Rattle.unit_moments.specs.Stops.{HaltsBehind, StopsBehind}
 use Rattle.unit_moments.proofs.StopLemmas.{halts_ahead, halts_behind, halts_moved, stops_ahead, stops_behind, stops_moved}
+use Rattle.unit_model.proofs.ArrivalLemmas.{arrivals-append, arrivals-own}
 
 -- ---- what a meter has of them, and what is told
 

@@ -5,7 +5,7 @@ ghost use Rattle.air_source.specs.declared.airs.AirFault.TheVariants.{Failed, No
 ghost use Rattle.delay_exchange.specs.Units.{HasDoings};
 ghost use Rattle.delay_measure.specs.declared.edge.Compensation.{Compensation};
 ghost use Rattle.delay_model.specs.Doings.{Doings, with_frame};
-ghost use Rattle.frame_deliveries.specs.Landing.{landing_at};
+ghost use Rattle.frame_ways.specs.Landing.{landing_at};
 ghost use Rattle.frame_ways.specs.Landed.{bytes_of};
 ghost use Rattle.frame_ways.specs.Ways.{OnWay, landings_on};
 ghost use Rattle.window_config.specs.declared.config.Config.{Config};
@@ -17,10 +17,8 @@ ghost use Rattle.unit_moments.specs.Stops.{HaltsBehind, StopsBehind};
 use crate::results::tell_results;
 use air_source::{Air, AirFault, Side};
 use delay_exchange::UnitMeter;
-use fh_base::NoMemory;
-use fh_time::Ticks;
-use frame_network::FramePool;
-use frame_ways::{Landed, Way};
+use fh_base::{NoMemory, Ticks};
+use frame_ways::{FramePool, Landed, Way};
 use unit_memory::TakesFrames;
 
 /// Gives a frame that arrives to the unit, and then to its meter, which is told it where it has a message of delay measurement: the unit

@@ -1,16 +1,16 @@
 -- Symbols of which nothing is to be reported after a time.
 use Rattle.std.proofs.Common.{◌≡◌, ℕ, ℤ, ◌-◌, ◌<◌, ◌≤ℤ◌, true, false, int_le, refl, sym, ap, ◌∙◌, subst, arith, Option, Some, None}
-use Rattle.fh_time.specs.declared.values.Ticks.{Ticks}
+use Rattle.fh_base.specs.declared.values.Ticks.{Ticks}
 use Rattle.std.specs.Prelude.{int_lt}
 use Rattle.std.proofs.lemmas.Int.{ints}
-use Rattle.fh_time.specs.declared.values.Slot.{Slot}
-use Rattle.fh_time.specs.Air.{air_of}
-use Rattle.fh_time.specs.Numbering.{symbols_of}
-use Rattle.fh_time.proofs.Order.{symbols_in_order}
+use Rattle.fh_base.specs.declared.values.Slot.{Slot}
+use Rattle.fh_base.specs.Air.{air_of}
+use Rattle.fh_base.specs.Numbering.{symbols_of}
+use Rattle.fh_base.proofs.Order.{symbols_in_order}
 use Rattle.window_config.specs.declared.endpoints.EndpointConfig.{EndpointConfig}
 use Rattle.unit_model.specs.Proper.{IsAt}
 use Rattle.unit_model.specs.declared.symbol_start.SymbolStart.{SymbolStart}
-use Rattle.unit_model.specs.Lists.{some}
+use Rattle.fh_base.specs.Lists.{some}
 use Rattle.slot_rings.specs.Places.{is_due}
 use Rattle.slot_rings.specs.Rings.{RingValue, ring_claim, ring_reported}
 use Rattle.slot_rings.specs.Starts.{IsDueFrom, ring_due}
@@ -19,7 +19,7 @@ use Rattle.unit_cells.proofs.KeepLemmas.{ring_endpoint}
 use Rattle.unit_symbols.specs.Symbols.{FitsFrom, HasNone, InSlot, IsSymbol}
 use Rattle.unit_symbols.proofs.SymbolLemmas.{endpoint_one, symbol_one}
 use Rattle.unit_symbols.specs.DueSymbols.{cell_in, is_left, is_left_after}
-use Rattle.fh_time.proofs.Orders.{and_false_2 as second_false}
+use Rattle.fh_base.proofs.Orders.{and_false_2 as second_false}
 use Rattle.std.proofs.lemmas.Bool.{and_left, and_parts}
 
 -- what is left of a symbol is what is due of it in its ring

@@ -3,12 +3,12 @@ use Rattle.std.proofs.Common.{◌≡◌, ℕ, ℤ, ◌-◌, ◌≤ℤ◌, inl, i
 use Rattle.std.specs.Prelude.{nat_lt, int_lt, if◌then◌else◌, filter, reverse}
 use Rattle.std.proofs.lemmas.Int.{ints}
 use Rattle.std.proofs.lemmas.Bool.{cases_Bool}
-use Rattle.fh_time.proofs.Orders.{both_ways}
+use Rattle.fh_base.proofs.Orders.{both_ways}
 use Rattle.std.proofs.lemmas.List.{length-drop, drop_all, nil_from_length}
 use Rattle.std.proofs.lemmas.Bool.Decides.{nat_tests}
-use Rattle.fh_time.specs.declared.values.Slot.{Slot}
+use Rattle.fh_base.specs.declared.values.Slot.{Slot}
 use Rattle.window_config.specs.declared.endpoints.EndpointConfig.{EndpointConfig}
-use Rattle.unit_model.specs.Lists.{in_order}
+use Rattle.fh_base.specs.Lists.{in_order}
 use Rattle.unit_model.specs.Order.{comes_before}
 use Rattle.unit_model.specs.Starts.{jobs_at, start_at}
 use Rattle.unit_model.specs.Uplink.{sends_in, symbol_jobs}

@@ -4,13 +4,13 @@ use Rattle.std.proofs.lemmas.Bool.{cases_Bool}
 use Rattle.unit_model.specs.Radiated.{used_below, used_mask}
 use Rattle.unit_model.specs.declared.cells.Claim.{Claim}
 use Rattle.unit_model.specs.declared.symbol_start.SymbolStart.{SymbolStart}
-use Rattle.unit_model.proofs.SweepLaws.{each_none}
-use Rattle.unit_laws.proofs.ListLemmas.{each_same}
 use Rattle.slot_rings.specs.Places.{is_due}
 use Rattle.unit_cells.specs.Cells.{CellsValue, cells_claim, cells_reported, cells_has, ring_of}
 use Rattle.unit_cells.proofs.TimeLemmas.{no_claim_from as unclaimed}
 use Rattle.unit_symbols.specs.DueSymbols.{cell_in, is_left, left_at, left_told}
 use Rattle.unit_model.proofs.ClaimLemmas.{some_not as some_at}
+use Rattle.fh_base.proofs.EachLemmas.{each_none}
+use Rattle.fh_base.proofs.CommonLemmas.{each_same}
 
 -- ---- of one cell
 

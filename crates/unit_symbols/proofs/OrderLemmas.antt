@@ -9,6 +9,7 @@ use Rattle.unit_model.specs.Claims.{same_slot}
 use Rattle.unit_model.specs.Order.{comes_before, slot_before}
 use Rattle.unit_model.specs.declared.symbol_start.SymbolStart.{SymbolStart}
 use Rattle.unit_model.proofs.ClaimLemmas.{slot_self as slot_own}
+use Rattle.fh_base.proofs.CommonLemmas.{then_symbol}
 
 -- ---- by a signed number, and then by something else
 
@@ -29,14 +30,6 @@ nat_between : (a b c : ℕ) (p q r : Bool) → (p ≡ false → q ≡ true → r
 nat_between a b c p q r h j k = grind (arith, nat_tests)
 
 -- ---- the order as one by six numbers
-
-then_symbol : (l e m f k g n : Bool) → ((l || (e && (m || (f && k)))) || ((e && (f && g)) && n)) ≡ (l || (e && (m || (f && (k || (g && n))))))
-then_symbol true e m f k g n = refl
-then_symbol false false m f k g n = refl
-then_symbol false true true f k g n = refl
-then_symbol false true false false k g n = refl
-then_symbol false true false true true g n = refl
-then_symbol false true false true false g n = refl
 
 abbrev by_symbol : SymbolStart → SymbolStart → Bool
 by_symbol a b = nat_lt a.slot.slot b.slot.slot || ((a.slot.slot == b.slot.slot) && (nat_lt a.symbol b.symbol || ((a.symbol == b.symbol) && false)))

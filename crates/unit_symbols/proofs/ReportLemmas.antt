@@ -7,13 +7,11 @@ use Rattle.air_source.specs.declared.events.AirCell.{AirCell}
 use Rattle.air_source.specs.declared.events.Event.{Event}
 use Rattle.air_source.specs.declared.events.Event.TheVariants.{Cell as Reported}
 use Rattle.air_source.specs.declared.events.Side.TheVariants.{Ru}
-use Rattle.unit_model.specs.Lists.{each}
+use Rattle.fh_base.specs.Lists.{each}
 use Rattle.unit_model.specs.Radiated.{report_of, used_mask}
 use Rattle.unit_model.specs.declared.cells.Block.{Block}
 use Rattle.unit_model.specs.declared.cells.Claim.{Claim}
 use Rattle.unit_model.specs.declared.symbol_start.SymbolStart.{SymbolStart}
-use Rattle.unit_model.proofs.SweepLaws.{each_more, each_none, each_split}
-use Rattle.unit_laws.proofs.ListLemmas.{each_same}
 use Rattle.slot_rings.specs.Places.{is_in_use}
 use Rattle.slot_rings.specs.Symbols.{lent_block, lent_claim, lent_reported}
 use Rattle.slot_rings.specs.declared.symbol_cells.SymbolCells.{SymbolCells}
@@ -23,6 +21,8 @@ use Rattle.unit_cells.specs.Cells.{CellsValue, block_from, claim_from, reported_
 use Rattle.unit_symbols.specs.DueSymbols.{CountsTold, ReportsTold, StopsAtCell, cell_in, left_at, left_told}
 use Rattle.unit_symbols.specs.Tellings.{StopsAtPrb, StopsInOne, lent_below, lent_told}
 use Rattle.unit_symbols.proofs.CountLemmas.{counts_none, counts_then}
+use Rattle.fh_base.proofs.EachLemmas.{each_more, each_none, each_split}
+use Rattle.fh_base.proofs.CommonLemmas.{each_same}
 
 -- ---- one PRB more
 

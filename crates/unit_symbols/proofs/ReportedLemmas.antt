@@ -4,11 +4,11 @@ use Rattle.std.specs.Prelude.{◌||◌}
 use Rattle.std.specs.List.{list_any}
 use Rattle.std.proofs.lemmas.Bool.{and_from, and_parts, cases_Bool, cases_eq, cases_lt, eq-eqb, eqb-true, ne_eqb, and_left}
 use Rattle.std.proofs.lemmas.List.Folds.{list_any-append}
-use Rattle.fh_time.specs.declared.values.Slot.{Slot}
+use Rattle.fh_base.specs.declared.values.Slot.{Slot}
 use Rattle.air_source.specs.declared.events.AirCell.{AirCell}
 use Rattle.air_source.specs.declared.events.Side.TheVariants.{Ru}
 use Rattle.unit_model.specs.Claims.{cell_at, same_slot}
-use Rattle.unit_model.specs.Lists.{each}
+use Rattle.fh_base.specs.Lists.{each}
 use Rattle.unit_model.specs.Radiated.{air_cell, used_mask}
 use Rattle.unit_model.specs.declared.cells.Cell.{Cell}
 use Rattle.unit_model.specs.declared.symbol_start.SymbolStart.{SymbolStart}
@@ -17,7 +17,7 @@ use Rattle.unit_cells.specs.Cells.{CellsValue, IsCellIn, cells_block, cells_clai
 use Rattle.unit_symbols.specs.DueSymbols.{cell_in, is_told, left_told}
 use Rattle.unit_symbols.specs.Symbols.{IsSymbol}
 use Rattle.unit_model.proofs.ClaimLemmas.{same_slot_is as slot_is, slot_self as slot_own}
-use Rattle.fh_time.proofs.Orders.{or_false, unequal, all_three}
+use Rattle.fh_base.proofs.Orders.{or_false, unequal, all_three}
 
 -- ---- tests
 

@@ -4,12 +4,12 @@ use Rattle.std.specs.Prelude.{IfSome, ◌&&◌, ◌||◌, ◌==◌, nat_lt, int_
 use Rattle.std.specs.Ordering.{int_eq}
 use Rattle.std.proofs.lemmas.Int.{ints}
 use Rattle.std.proofs.lemmas.Bool.Decides.{nat_tests, Decides-int_eq}
-use Rattle.fh_time.specs.declared.values.Ticks.{Ticks}
+use Rattle.fh_base.specs.declared.values.Ticks.{Ticks}
 use Rattle.std.proofs.lemmas.Bool.{cases_eq, cases_lt, false_from_ne_true}
 use Rattle.std.proofs.lemmas.Option.{slice_get_within}
-use Rattle.fh_time.specs.declared.values.Slot.{Slot}
-use Rattle.fh_time.specs.Numbering.{symbols_of}
-use Rattle.fh_time.proofs.Order.{symbols_in_order}
+use Rattle.fh_base.specs.declared.values.Slot.{Slot}
+use Rattle.fh_base.specs.Numbering.{symbols_of}
+use Rattle.fh_base.proofs.Order.{symbols_in_order}
 use Rattle.unit_model.specs.Order.{comes_before, symbol_before}
 use Rattle.unit_model.specs.declared.symbol_start.SymbolStart.{SymbolStart}
 use Rattle.unit_model.specs.Proper.{IsAt}
@@ -22,7 +22,7 @@ use Rattle.unit_symbols.specs.declared.finding.Lead.{Lead}
 use Rattle.unit_symbols.specs.declared.places.SlotPlace.{SlotPlace}
 use Rattle.unit_symbols.proofs.OrderLemmas.{earlier_symbol, not_before_earlier, not_before_itself, not_before_later}
 use Rattle.unit_symbols.proofs.SymbolLemmas.{symbol_one}
-use Rattle.fh_time.proofs.Orders.{both_ways as unfit}
+use Rattle.fh_base.proofs.Orders.{both_ways as unfit}
 
 -- ---- what was found
 

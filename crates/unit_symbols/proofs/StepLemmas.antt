@@ -6,7 +6,7 @@ use Rattle.std.proofs.lemmas.Int.{ints}
 use Rattle.std.proofs.lemmas.Bool.{false_from_ne_true, ltb-false}
 use Rattle.std.proofs.lemmas.List.{length-drop, drop-drop, nil_from_length, reverse-reverse, length-reverse}
 use Rattle.std.proofs.lemmas.List.Sums.{length-filter, count_by-le-length}
-use Rattle.fh_time.specs.declared.values.Slot.{Slot}
+use Rattle.fh_base.specs.declared.values.Slot.{Slot}
 use Rattle.unit_model.specs.Order.{comes_before}
 use Rattle.unit_model.specs.Starts.{jobs_at, start_at}
 use Rattle.unit_model.specs.Uplink.{sends_in, symbol_jobs}
@@ -15,7 +15,7 @@ use Rattle.unit_model.specs.declared.jobs.UplinkJob.{UplinkJob}
 use Rattle.unit_model.specs.declared.symbol_start.SymbolStart.{SymbolStart}
 use Rattle.window_config.specs.declared.endpoints.EndpointConfig.{EndpointConfig}
 use Rattle.unit_cells.specs.Cells.{CellsValue, cells_uplink}
-use Rattle.fh_time.specs.declared.values.Ticks.{Ticks}
+use Rattle.fh_base.specs.declared.values.Ticks.{Ticks}
 use Rattle.unit_symbols.specs.Cursors.{GivenOne, IsFirstJob, Settled, at_start, is_job_left, is_past, jobs_left, left_behind, left_in, left_jobs, rest_of}
 use Rattle.unit_symbols.specs.Symbols.{IsFirst, IsFirstFitting, IsSymbol}
 use Rattle.unit_symbols.specs.declared.cursor.JobCursor.{JobCursor}

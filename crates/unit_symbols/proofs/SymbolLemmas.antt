@@ -1,13 +1,13 @@
 -- Symbols go by their endpoint, their slot and their number.
 use Rattle.std.proofs.Common.{◌≡◌, ℕ, ℤ, List, sym, ap, ◌∙◌, subst}
-use Rattle.fh_time.specs.declared.values.Slot.{Slot}
+use Rattle.fh_base.specs.declared.values.Slot.{Slot}
 use Rattle.window_config.specs.declared.endpoints.EndpointConfig.{EndpointConfig}
 use Rattle.unit_model.specs.Proper.{IsAt}
 use Rattle.unit_model.specs.Starts.{start_at}
 use Rattle.unit_model.specs.declared.symbol_start.SymbolStart.{SymbolStart}
 use Rattle.unit_cells.specs.Cells.{CellsValue, endpoints_of}
 use Rattle.unit_symbols.specs.Symbols.{IsSymbol}
-use Rattle.fh_time.proofs.Options.{some_is as some_equal}
+use Rattle.fh_base.proofs.Options.{some_is as some_equal}
 
 is_at_one : (es : List EndpointConfig) (k : ℕ) (a b : EndpointConfig) → IsAt es k a → IsAt es k b → a ≡ b
 is_at_one es k a b p q = some_equal a b (sym p ∙ q)

@@ -1,7 +1,7 @@
 -- How far the messages that a radio unit is to send were given, and what is left of them, by look-up (this project's profile).
 use Rattle.std.specs.Prelude.{◌≡◌, ℕ, ℤ, Bool, true, nat_lt, ◌≤◌, ◌<ℤ◌, ◌≤ℤ◌, if◌then◌else◌, int_lt, List, [], ◌∷◌, drop, length, Option, Some, None}
 use Rattle.std.specs.Int.{int_max}
-use Rattle.fh_time.specs.declared.values.Slot.{Slot}
+use Rattle.fh_base.specs.declared.values.Slot.{Slot}
 use Rattle.unit_model.specs.Order.{comes_before}
 use Rattle.unit_model.specs.Starts.{start_at}
 use Rattle.unit_model.specs.Sweeps.{OfSymbol}

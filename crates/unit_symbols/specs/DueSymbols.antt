@@ -10,7 +10,7 @@ use Rattle.fault_counters.specs.Counts.{capped, count_of, times}
 use Rattle.window_config.specs.declared.config.Config.{Config}
 use Rattle.unit_model.specs.Claims.{cell_at, same_slot}
 use Rattle.unit_model.specs.Counts.{cells_counted}
-use Rattle.unit_model.specs.Lists.{each, some}
+use Rattle.fh_base.specs.Lists.{each, some}
 use Rattle.unit_model.specs.Radiated.{Known}
 use Rattle.unit_model.specs.Starts.{cell_told}
 use Rattle.unit_model.specs.declared.allocations.Allocation.{Allocation}

@@ -1,5 +1,5 @@
 // How far the messages of a radio unit were given.
-use fh_time::Ticks;
+use fh_base::Ticks;
 use unit_model::{SymbolStart, UplinkJob};
 
 /// How far the uplink messages that a radio unit is to send were given: all of symbols that start before `since`, all of the

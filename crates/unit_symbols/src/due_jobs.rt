@@ -1,6 +1,6 @@
 // The symbols of which a message is left.
 ghost use Rattle.std.specs.Prelude.{◌≡◌, ◌<◌, false, length, reverse, IfNone, IfSome};
-ghost use Rattle.fh_time.specs.Numbering.{symbols_of};
+ghost use Rattle.fh_base.specs.Numbering.{symbols_of};
 ghost use Rattle.unit_symbols.specs.Places.{IsPlace, start_in};
 ghost use Rattle.unit_symbols.specs.Searches.{InPlace};
 ghost use Rattle.unit_symbols.specs.Symbols.{FitsFrom, HasNone, InSlot, OfEndpoint};
@@ -10,7 +10,7 @@ ghost use Rattle.unit_symbols.specs.Cursors.{is_job_left};
 use crate::cursor::JobCursor;
 use crate::left::has_left;
 use crate::{SlotPlace, SymbolTest};
-use fh_time::Ticks;
+use fh_base::Ticks;
 use unit_cells::UnitCells;
 use unit_model::{Allocation, SymbolStart};
 

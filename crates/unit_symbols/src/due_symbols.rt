@@ -1,7 +1,7 @@
 // The next symbol of which something is to be reported.
 ghost use Rattle.std.specs.Prelude.{◌≡◌, ◌-◌, ◌<◌, int_le, false, length, IfNone, IfSome};
-ghost use Rattle.fh_time.specs.Air.{air_of};
-ghost use Rattle.fh_time.specs.Numbering.{symbols_of};
+ghost use Rattle.fh_base.specs.Air.{air_of};
+ghost use Rattle.fh_base.specs.Numbering.{symbols_of};
 ghost use Rattle.unit_symbols.specs.Places.{IsPlace, start_in};
 ghost use Rattle.unit_symbols.specs.Searches.{InPlace};
 ghost use Rattle.unit_symbols.specs.Symbols.{FitsFrom, HasNone, InSlot, IsFirst, OfEndpoint};
@@ -10,7 +10,7 @@ ghost use Rattle.unit_model.specs.Proper.{IsSlot};
 ghost use Rattle.unit_symbols.specs.DueSymbols.{is_left_after};
 
 use crate::{SlotPlace, SymbolTest, first_symbol};
-use fh_time::{Slot, Ticks, air, shape};
+use fh_base::{Slot, Ticks, air, shape};
 use unit_cells::UnitCells;
 use unit_model::SymbolStart;
 use window_config::EndpointConfig;

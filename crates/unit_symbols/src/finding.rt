@@ -7,7 +7,7 @@ ghost use Rattle.unit_symbols.specs.Searches.{InPlace, IsLead, Searched, is_earl
 ghost use Rattle.unit_symbols.specs.Symbols.{FitsFrom, InSlot, IsFirst, OfEndpoint};
 
 use crate::{SlotPlace, SymbolTest};
-use fh_time::{Ticks, shape};
+use fh_base::{Ticks, shape};
 use slot_rings::SlotRing;
 use unit_cells::UnitCells;
 use unit_model::{SymbolStart, comes_before};

@@ -9,7 +9,7 @@ ghost use Rattle.unit_symbols.specs.Symbols.{IsSymbol};
 use crate::cursor::{JobCursor, NextJob};
 use crate::first_symbol;
 use crate::left::{first_left, given_of};
-use fh_time::Ticks;
+use fh_base::Ticks;
 use unit_cells::UnitCells;
 
 /// The first message that was not given: by the start of its symbol, at one tick by endpoint, slot and symbol, and in one symbol

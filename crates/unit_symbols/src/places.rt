@@ -1,10 +1,10 @@
 // A slot of an endpoint, and where it lies in the endpoint's ring.
 ghost use Rattle.std.specs.Prelude.{◌≡◌, ◌<◌};
-ghost use Rattle.fh_time.specs.Numbering.{symbols_of};
+ghost use Rattle.fh_base.specs.Numbering.{symbols_of};
 ghost use Rattle.unit_model.specs.Proper.{IsSlot};
 ghost use Rattle.unit_model.specs.Starts.{start_at};
 
-use fh_time::{Slot, air};
+use fh_base::{Slot, air};
 use slot_rings::SlotRing;
 use unit_model::SymbolStart;
 

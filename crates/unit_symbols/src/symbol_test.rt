@@ -1,6 +1,6 @@
 // What is looked for among the symbols of a unit.
 ghost use Rattle.std.specs.Prelude.{◌≡◌, ◌<◌, Bool, false, length, IfNone, IfSome};
-ghost use Rattle.fh_time.specs.Numbering.{symbols_of};
+ghost use Rattle.fh_base.specs.Numbering.{symbols_of};
 ghost use Rattle.unit_cells.specs.Cells.{CellsValue, endpoints_of, ring_of};
 ghost use Rattle.unit_model.specs.declared.symbol_start.SymbolStart.{SymbolStart as SpecStart};
 ghost use Rattle.unit_symbols.specs.Places.{IsPlace, start_in};
@@ -9,7 +9,7 @@ ghost use Rattle.unit_symbols.specs.Searches.{InPlace};
 ghost use Rattle.unit_symbols.specs.declared.places.SlotPlace.{SlotPlace as SpecPlace};
 
 use crate::SlotPlace;
-use fh_time::Ticks;
+use fh_base::Ticks;
 use unit_cells::UnitCells;
 use unit_model::SymbolStart;
 

@@ -11,7 +11,7 @@ use Rattle.unit_model.specs.Standing.{History, at_clock, handed, heard, nothing_
 use Rattle.unit_model.specs.declared.jobs.UplinkJob.{UplinkJob}
 use Rattle.window_config.specs.declared.config.Config.{Config}
 use Rattle.ru_buffers.specs.Calls.{GivesJob, StandsFor, StandsForSome, StopsAtDue}
-use Rattle.radio_laws.specs.Reporting.{due_of}
+use Rattle.ru_buffers.specs.Reporting.{due_of}
 use Rattle.ru_buffers.specs.declared.unit.Ru.{Ru}
 
 pub some_at_first : (c : Config) (r : Result Ru NoMemory) → IfOk r (λ u. StandsFor c u nothing_yet) → IfOk r (λ u. StandsForSome u)

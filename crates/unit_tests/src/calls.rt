@@ -6,8 +6,7 @@ use crate::steps::{READ, cell_heard, hand, has_counted, made, pass, step, stops,
 use air_source::MemoryAir;
 use eaxc_map::Widths;
 use fault_counters::Counter;
-use fh_base::List;
-use fh_time::{Numerology, Slot, Ticks};
+use fh_base::{List, Numerology, Slot, Ticks};
 use ru_buffers::UplinkJob;
 use std::test::Fail;
 use window_config::Delays;

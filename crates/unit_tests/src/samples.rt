@@ -7,7 +7,7 @@ ghost use Rattle.window_config.specs.Limits.{IsWithinLimits};
 use air_source::{AirCell, Side};
 use bfp_codec::{Format, Method, Wide};
 use eaxc_map::Widths;
-use fh_time::{Numerology, Slot, Ticks};
+use fh_base::{Numerology, Slot, Ticks};
 use window_config::{Config, Delays, EndpointConfig, EndpointList};
 
 /// A downlink command: symbol 0 of frame 1, section 1, all elements of PRB 0.

@@ -8,8 +8,7 @@ ghost use Rattle.ru_buffers.specs.Calls.{HasGivenPast, StandsFor, StandsForSome}
 
 use air_source::{AirCell, AirFault, Event, MemoryAir};
 use fault_counters::{Counter, Counters};
-use fh_base::NoMemory;
-use fh_time::Ticks;
+use fh_base::{NoMemory, Ticks};
 use ru_buffers::{Delivered, Ru, UplinkJob};
 use std::alloc::Global;
 use window_config::Config;

@@ -1,7 +1,7 @@
 // One endpoint of 4 PRBs at 30 kHz, whose frame 1 begins at 10 ms. A downlink command is on time from 470 to 259 us before its
 // symbol. Commands name PRBs 0 and 1 in symbols 0 and 2 of frame 1; data come for PRB 0 of symbol 0.
 ghost use Rattle.std.specs.Prelude.{◌≡◌, ◌<◌, ◌≤ℤ◌, pos, List, [], ◌∷◌, true, IfSome};
-ghost use Rattle.fh_time.specs.Numbering.{slots_of, symbols_of};
+ghost use Rattle.fh_base.specs.Numbering.{slots_of, symbols_of};
 ghost use Rattle.air_source.specs.declared.events.Side.TheVariants.{Ru};
 ghost use Rattle.unit_cells.specs.Cells.{endpoints_of};
 
@@ -12,11 +12,10 @@ use bfp_codec::{Method, Wide};
 use cplane_sections::{CBody, CHead, CSection};
 use eaxc_map::Widths;
 use fault_counters::{Counter, Counters};
-use fh_base::List;
-use fh_time::{Numerology, Slot, Ticks, of_ns, shape};
+use fh_base::{List, Numerology, Slot, Ticks, of_ns, shape};
 use std::test::Fail;
-use unit_cells::{DataHeading, UnitCells};
-use unit_model::{CommandVerdict, ControlSection, SymbolStart};
+use unit_cells::UnitCells;
+use unit_model::{CommandVerdict, ControlSection, DataHeading, SymbolStart};
 use unit_symbols::{first_left, report};
 use uplane_sections::{UHead, USection};
 use window_config::{Delays, EndpointConfig};

@@ -1,10 +1,10 @@
 -- The items of a message that is not refused (O-RAN.WG4.CUS, clause 8.3.2).
 use Rattle.std.specs.Prelude.{◌≡◌, ℕ, ◌+◌, ◌-◌, ◌<◌, List, [], ◌∷◌, false}
-use Rattle.fh_time.specs.declared.values.Shape.{Shape}
+use Rattle.fh_base.specs.declared.values.Shape.{Shape}
 use Rattle.uplane_sections.specs.declared.values.UHead.{UHead}
 use Rattle.uplane_sections.specs.declared.values.USection.{USection}
 use Rattle.uplane_sections.specs.Messages.{Item, Head, Section, Block}
-use Rattle.fh_time.specs.Carrier.{is_outside, first_of, count_of}
+use Rattle.fh_base.specs.Carrier.{is_outside, first_of, count_of}
 use Rattle.uplane_sections.specs.Writes.{IsHeadAdmitted}
 
 -- the symbol of a section is one of a slot, and its PRBs lie in the carrier

@@ -9,7 +9,7 @@ ghost use Rattle.uplane_messages.specs.Whole.{IsWhole};
 use crate::walk::DataWalk;
 use bfp_codec::Format;
 use ecpri_fragments::Lease;
-use fh_time::Shape;
+use fh_base::Shape;
 use uplane_sections::{UFeed, UHead, URefusal};
 
 /// The header of a message that no test refuses, from its first byte to its last, and else its

@@ -8,7 +8,7 @@ ghost use Rattle.uplane_messages.specs.Joined.{pieces_of, piece_of, bytes_from};
 use crate::run::{DataRun, JoinedPrb};
 use bfp_codec::{Format, Method};
 use ecpri_fragments::Lease;
-use fh_time::Shape;
+use fh_base::Shape;
 use uplane_sections::{UFeed, URefusal, UWalker};
 
 /// What a whole U-plane message tells, in order, read where its pieces stand

@@ -5,7 +5,7 @@ use Rattle.std.proofs.lemmas.Bool.{le-ltb, cases_Bool}
 use Rattle.std.proofs.lemmas.Bool.Decides.{nat_tests}
 use Rattle.bfp_codec.specs.Field.{field, flag}
 use Rattle.bfp_codec.proofs.Field.{field_take, field_drop}
-use Rattle.fh_time.specs.declared.values.Shape.{Shape}
+use Rattle.fh_base.specs.declared.values.Shape.{Shape}
 use Rattle.bfp_codec.specs.declared.methods.Method.{Method}
 use Rattle.bfp_codec.specs.declared.methods.Format.{Format}
 use Rattle.bfp_codec.specs.Layout.{length_of}
@@ -13,7 +13,7 @@ use Rattle.uplane_sections.specs.declared.values.UHead.{UHead}
 use Rattle.uplane_sections.specs.declared.values.USection.{USection}
 use Rattle.uplane_sections.specs.declared.values.UWhy.TheVariants.{Method as UnknownMethod}
 use Rattle.uplane_sections.specs.Header.{head_of}
-use Rattle.fh_time.specs.Carrier.{first_of, count_of, is_outside}
+use Rattle.fh_base.specs.Carrier.{first_of, count_of, is_outside}
 use Rattle.uplane_sections.specs.Section.{startPrbu, numPrbu, section_with, section_of, method_of, header_size, method_in}
 use Rattle.uplane_sections.specs.Messages.{Head, Section, Telling, fault, after, blocks, sections, told}
 use Rattle.uplane_sections.specs.Phases.{checked, head_checked, symbol_checked, with_method, in_blocks, in_section, behind_first}

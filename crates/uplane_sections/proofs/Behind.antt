@@ -5,7 +5,7 @@ use Rattle.std.proofs.lemmas.Bool.{lt-ltb, le-ltb, cases_lt}
 use Rattle.std.proofs.lemmas.Bool.Decides.{nat_tests}
 use Rattle.bfp_codec.specs.Field.{field}
 use Rattle.bfp_codec.proofs.Field.{field_same}
-use Rattle.fh_time.specs.declared.values.Shape.{Shape}
+use Rattle.fh_base.specs.declared.values.Shape.{Shape}
 use Rattle.bfp_codec.specs.declared.methods.Method.{Method}
 use Rattle.bfp_codec.specs.declared.methods.Format.{Format}
 use Rattle.bfp_codec.specs.Layout.{length_of, unpacked_of}

@@ -3,7 +3,7 @@ use Rattle.std.proofs.Common.{◌≡◌, ℕ, ◌+◌, ◌-◌, ◌*◌, ◌≤�
 use Rattle.std.proofs.Math.Seq.{drop-append-add}
 use Rattle.std.proofs.lemmas.List.{drop_at}
 use Rattle.std.proofs.lemmas.Bool.{lt-ltb, le-ltb, cases_lt}
-use Rattle.fh_time.specs.declared.values.Shape.{Shape}
+use Rattle.fh_base.specs.declared.values.Shape.{Shape}
 use Rattle.bfp_codec.specs.declared.methods.Method.{Method}
 use Rattle.bfp_codec.specs.declared.methods.Format.{Format}
 use Rattle.bfp_codec.specs.Layout.{length_of}
@@ -12,7 +12,7 @@ use Rattle.uplane_sections.specs.declared.values.USection.{USection}
 use Rattle.uplane_sections.specs.declared.values.UWhy.{UWhy}
 use Rattle.uplane_sections.specs.declared.values.UWhy.TheVariants.{Truncated, Version, SlotRange, SymbolRange, EveryOtherRb, PrbRange, Method as UnknownMethod}
 use Rattle.uplane_sections.specs.Header.{head_of}
-use Rattle.fh_time.specs.Carrier.{first_of, count_of}
+use Rattle.fh_base.specs.Carrier.{first_of, count_of}
 use Rattle.uplane_sections.specs.Section.{symInc, startPrbu, numPrbu, is_method, method_in, section_with, size_of}
 use Rattle.uplane_sections.specs.Messages.{Head, Section, Telling, fault, after, blocks, section_at, sections, message_from}
 use Rattle.uplane_sections.specs.Phases.{checked, head_checked, symbol_checked, with_method, in_section, behind_first}

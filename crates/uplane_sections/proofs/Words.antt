@@ -11,7 +11,7 @@ use Rattle.uplane_sections.specs.declared.values.UHead.{UHead}
 use Rattle.uplane_sections.specs.declared.values.USection.{USection}
 use Rattle.uplane_sections.specs.Section.{width_in, section_with}
 use Rattle.uplane_sections.specs.Writes.{HeadFits, WritesHead, WritesCompression, WritesSection, udCompHdr, carried}
-use Rattle.fh_time.proofs.Orders.{bit_test, bit_small}
+use Rattle.fh_base.proofs.Orders.{bit_test, bit_small}
 
 pub head_written : (h : UHead) (bytes : List ℕ) → length bytes ≡ 4 → HeadFits h → h.frame_id < 2 ^ 8
     → field bytes 0 32 ≡ ((((flag h.down * 2 ^ 3 + 1) * 2 ^ 4 + h.filter) * 2 ^ 8 + h.frame_id) * 2 ^ 4 + h.subframe) * 2 ^ 12 + h.slot * 2 ^ 6 + h.symbol

@@ -1,7 +1,7 @@
 -- The definition at messages worked out by hand, each by computing.
 use Rattle.std.proofs.Common.{◌≡◌, ℕ, List, [], ◌∷◌, Some, true, false, refl}
 use Rattle.bfp_codec.specs.Field.{field}
-use Rattle.fh_time.specs.declared.values.Shape.{Shape}
+use Rattle.fh_base.specs.declared.values.Shape.{Shape}
 use Rattle.bfp_codec.specs.declared.methods.Method.TheVariants.{Plain, Bfp}
 use Rattle.bfp_codec.specs.declared.methods.Format.{Format}
 use Rattle.uplane_sections.specs.declared.values.UWhy.TheVariants.{Truncated, PrbRange, Method as UnknownMethod}

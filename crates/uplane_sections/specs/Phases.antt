@@ -1,6 +1,6 @@
 -- What a walker makes of the bytes of the unit that it is in and of those behind it.
 use Rattle.std.specs.Prelude.{◌≡◌, ℕ, ◌+◌, ◌-◌, ◌*◌, ◌==◌, ◌||◌, not, if◌then◌else◌, Bool, true, false, List, [], ◌∷◌, length, drop, nat_lt, nat_le, Option, Some, None, Result, Ok, Err}
-use Rattle.fh_time.specs.declared.values.Shape.{Shape}
+use Rattle.fh_base.specs.declared.values.Shape.{Shape}
 use Rattle.bfp_codec.specs.declared.methods.Method.{Method}
 use Rattle.bfp_codec.specs.declared.methods.Method.TheVariants.{Plain}
 use Rattle.bfp_codec.specs.declared.methods.Format.{Format}
@@ -14,7 +14,7 @@ use Rattle.uplane_sections.specs.declared.values.UWhy.TheVariants.{Truncated, Ve
 use Rattle.uplane_sections.specs.declared.steps.UFeed.{UFeed}
 use Rattle.uplane_sections.specs.declared.steps.UFeed.TheVariants as feed
 use Rattle.uplane_sections.specs.Header.{payloadVersion, subframeId, slotId, symbolId, head_of}
-use Rattle.fh_time.specs.Carrier.{is_outside, first_of, count_of}
+use Rattle.fh_base.specs.Carrier.{is_outside, first_of, count_of}
 use Rattle.uplane_sections.specs.Section.{rb, symInc, startPrbu, numPrbu, is_method, method_in}
 use Rattle.uplane_sections.specs.Messages.{Item, Head, Section, Block, Telling, refused, fault, after, blocks, sections, message_from}
 

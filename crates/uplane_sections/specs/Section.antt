@@ -1,7 +1,7 @@
 -- The header of one section of a U-plane message, as fields of the bytes that it begins (O-RAN.WG4.CUS, clause 8.3.2).
 use Rattle.std.specs.Prelude.{ℕ, ◌+◌, ◌*◌, Bool, List, drop, if◌then◌else◌, ◌==◌, ◌&&◌, ◌||◌}
 use Rattle.bfp_codec.specs.Field.{field}
-use Rattle.fh_time.specs.Carrier.{count_of}
+use Rattle.fh_base.specs.Carrier.{count_of}
 use Rattle.bfp_codec.specs.declared.methods.Method.{Method}
 use Rattle.bfp_codec.specs.declared.methods.Method.TheVariants.{Plain, Bfp}
 use Rattle.bfp_codec.specs.declared.methods.Format.{Format}

@@ -1,7 +1,7 @@
 -- Written headers: each reserved bit is 0. What a message made of them says.
 use Rattle.std.specs.Prelude.{◌≡◌, ℕ, ◌+◌, ◌*◌, ◌%◌, ◌<◌, ◌≤◌, ◌^◌, Bool, true, false, if◌then◌else◌, List, ◌∷◌, ◌++◌, length, drop}
 use Rattle.bfp_codec.specs.Field.{field, flag}
-use Rattle.fh_time.specs.declared.values.Shape.{Shape}
+use Rattle.fh_base.specs.declared.values.Shape.{Shape}
 use Rattle.bfp_codec.specs.declared.methods.Method.{Method}
 use Rattle.bfp_codec.specs.declared.methods.Method.TheVariants.{Plain, Bfp}
 use Rattle.bfp_codec.specs.declared.methods.Format.{Format}
@@ -9,7 +9,7 @@ use Rattle.bfp_codec.specs.Layout.{HasWidth, length_of}
 use Rattle.uplane_sections.specs.declared.values.UHead.{UHead}
 use Rattle.uplane_sections.specs.declared.values.USection.{USection}
 use Rattle.uplane_sections.specs.Header.{payloadVersion, head_of}
-use Rattle.fh_time.specs.Carrier.{is_outside, first_of, count_of}
+use Rattle.fh_base.specs.Carrier.{is_outside, first_of, count_of}
 use Rattle.uplane_sections.specs.Section.{rb, comp_reserved, method_in, is_method, method_of, section_of, header_size}
 use Rattle.uplane_sections.specs.Messages.{Item, Section, after, blocks, sections, told}
 

@@ -1,9 +1,9 @@
 //! Where in a message a walker stands.
 ghost use Rattle.std.specs.Prelude.{◌≡◌, ℕ, ◌+◌, ◌<◌, ◌≤◌, ◌^◌, List, false};
-ghost use Rattle.fh_time.specs.declared.values.Shape.{Shape as SpecShape};
+ghost use Rattle.fh_base.specs.declared.values.Shape.{Shape as SpecShape};
 ghost use Rattle.bfp_codec.specs.declared.methods.Format.{Format as SpecFormat};
 ghost use Rattle.bfp_codec.specs.Layout.{length_of};
-ghost use Rattle.fh_time.specs.Carrier.{first_of, count_of};
+ghost use Rattle.fh_base.specs.Carrier.{first_of, count_of};
 ghost use Rattle.uplane_sections.specs.Phases.{in_blocks, resumed, prbs_left, prb_bound, method_in_phase, behind, is_short};
 
 use crate::values::{URefusal, USection};

@@ -4,7 +4,7 @@ ghost use Rattle.uplane_sections.specs.Header.{head_of};
 ghost use Rattle.uplane_sections.specs.Phases.{head_checked, is_cut};
 
 use crate::values::{UHead, UWhy};
-use fh_time::Shape;
+use fh_base::Shape;
 
 /// The fields of a header.
 #[tactic(auto, using(std::proofs::lemmas::Grind::common_steps, bfp_codec::proofs::Field::fields))]

@@ -7,7 +7,7 @@ ghost use Rattle.uplane_sections.specs.Phases.{symbol_checked, method_read, is_c
 
 use crate::values::{USection, UWhy};
 use bfp_codec::Method;
-use fh_time::Shape;
+use fh_base::Shape;
 
 /// The four bytes from a place, as one number.
 #[tactic(auto, using(bfp_codec::proofs::Field::field_word))]

@@ -1,6 +1,6 @@
 //! What a whole unit of a message tells.
 ghost use Rattle.std.specs.Prelude.{◌≡◌, ℕ, ◌+◌, ◌<◌, ◌≤◌, ◌^◌, List, ◌++◌, length, false};
-ghost use Rattle.fh_time.specs.declared.values.Shape.{Shape as SpecShape};
+ghost use Rattle.fh_base.specs.declared.values.Shape.{Shape as SpecShape};
 ghost use Rattle.bfp_codec.specs.declared.methods.Format.{Format as SpecFormat};
 ghost use Rattle.bfp_codec.specs.Layout.{length_of};
 ghost use Rattle.uplane_sections.specs.Messages.{after};
@@ -12,7 +12,7 @@ use crate::read_section::{method_at, section_from, symbol_at};
 use crate::steps::UFeed;
 use crate::values::{URefusal, USection, UWhy};
 use bfp_codec::{Format, Method, unpack};
-use fh_time::Shape;
+use fh_base::Shape;
 
 /// What a unit tells, and the phase behind it.
 #[derive(Clone, Copy)]

@@ -8,7 +8,7 @@ use crate::steps::{UFeed, URun, UStep};
 use crate::units::{Told, block, compression, head, section};
 use crate::values::{URefusal, UWhy};
 use bfp_codec::{Format, Method, block_len};
-use fh_time::Shape;
+use fh_base::Shape;
 
 /// A reader of one message, which comes in pieces of any length. It keeps the unit, a header or a
 /// PRB, that a piece cuts, and no more.
@@ -43,7 +43,7 @@ fn write_at(into: &mut [u8], from: usize, bytes: &[u8])
 
 impl UWalker {
     ghost use Rattle.std.specs.Prelude.{List, [], Some, IfErr};
-    ghost use Rattle.fh_time.specs.declared.values.Shape.{Shape as SpecShape};
+    ghost use Rattle.fh_base.specs.declared.values.Shape.{Shape as SpecShape};
     ghost use Rattle.bfp_codec.specs.declared.methods.Format.{Format as SpecFormat};
     ghost use Rattle.uplane_sections.specs.Messages.{told, after, blocks};
     ghost use Rattle.uplane_sections.specs.Phases.{Stops, feed_told, resumed, is_cut};

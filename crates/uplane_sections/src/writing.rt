@@ -1,7 +1,7 @@
 //! The headers, written.
 ghost use Rattle.std.specs.Prelude.{◌≡◌, ℕ, ◌+◌, ◌-◌, ◌*◌, ◌≤◌, ◌<◌, ◌^◌, ◌⊎◌, List, [], ◌∷◌, length, take, slice_index};
 ghost use Rattle.bfp_codec.specs.Field.{field, flag};
-ghost use Rattle.fh_time.specs.declared.values.Shape.{Shape};
+ghost use Rattle.fh_base.specs.declared.values.Shape.{Shape};
 ghost use Rattle.bfp_codec.specs.declared.methods.Format.{Format as SpecFormat};
 ghost use Rattle.bfp_codec.specs.Layout.{HasWidth};
 ghost use Rattle.uplane_sections.specs.Section.{header_size};

@@ -8,14 +8,14 @@ use Rattle.air_source.specs.declared.events.Side.TheVariants.{Du}
 use Rattle.air_source.specs.declared.links.LinkFrame.{LinkFrame}
 use Rattle.ecpri_fragments.specs.Generations.{Fragment}
 use Rattle.ecpri_frames.specs.Gathering.{whole_messages}
-use Rattle.fragment_laws.specs.Apart.{IsFalling, IsIn}
+use Rattle.fragment_laws.specs.Apart.{IsFalling}
 use Rattle.fragment_laws.specs.Flow.{Bounds, Flow, IsCopyOf as IsFragmentCopy, IsDelivered, IsSound, size_to}
 use Rattle.window_config.specs.Relations.{PassesCheck}
 use Rattle.window_config.specs.Windows.{ticks_of_ns}
 use Rattle.window_config.specs.declared.config.Config.{Config}
 use Rattle.window_config.specs.declared.endpoints.EndpointConfig.{EndpointConfig}
 use Rattle.window_config.specs.declared.plan.PlanLine.{PlanLine}
-use Rattle.unit_model.specs.Lists.{onto}
+use Rattle.fh_base.specs.Lists.{onto}
 use Rattle.unit_model.specs.Meetings.{Arrival, Meeting, Piece, fragments, meetings, met_in}
 use Rattle.unit_model.specs.Proper.{IsAt}
 use Rattle.unit_model.specs.Times.{end_of_time}
@@ -26,21 +26,23 @@ use Rattle.plan_model.specs.Packs.{Message, Numbered}
 use Rattle.plan_model.specs.Streams.{Part, frames_in, messages_of}
 use Rattle.plan_model.specs.declared.lines.PlannedLine.{PlannedLine}
 use Rattle.plan_model.specs.declared.streams.Stream.TheVariants.{UpData}
-use Rattle.plan_model.proofs.ListLemmas.{in_either, in_filter, of_filter, get_in, the_one}
 use Rattle.schedule_laws.specs.Premise.{AreInOrder}
-use Rattle.schedule_laws.proofs.ListLemmas.{in_each, in_joined, in_map, of_each, of_joined, of_map}
+use Rattle.plan_model.proofs.SweptLists.{in_joined, of_joined}
 use Rattle.sent_frames.specs.Messages.{Source}
 use Rattle.uplink_model.specs.Frames.{Antenna, uplink_frame_of, frames_behind, uplink_frames_from, uplink_message_frames}
 use Rattle.uplink_model.specs.Messages.{frame_count, uplink_frames_before, uplink_messages_of as job_messages, number_behind}
 use Rattle.uplink_laws.specs.Streams.{frame_for, message_frames_for, planned_frames, stream_frames_for}
 use Rattle.uplink_laws.proofs.StreamLemmas.{frames_are_the_stream}
 use Rattle.uplink_laws.specs.Flows.{uplink_bounds_of, uplink_flow_of}
-use Rattle.sent_laws.specs.Sent.{IsSendable}
+use Rattle.uplink_laws.specs.Sent.{IsSendable}
 use Rattle.uplink_laws.specs.Premise.{BothArrive, CommandsArrive, IsUplinkCopy, frames_of, jobs_of}
 use Rattle.uplink_laws.proofs.FlowLemmas.{Here, below_at, here, leaves_at, pieces_at, sound, text_at}
 use Rattle.uplink_laws.proofs.JobLemmas.{jobs_planned}
 use Rattle.uplink_laws.proofs.PartLemmas.{message_number}
 use Rattle.uplink_laws.proofs.ReadLemmas.{fragment_at, frame_read, size_is}
+use Rattle.fh_base.specs.Members.{IsIn}
+use Rattle.fh_base.proofs.MemberLemmas.{in_either, in_filter, of_filter, get_in, the_one}
+use Rattle.fh_base.proofs.MadeLists.{in_each, in_map, of_each, of_map}
 
 -- ---- each frame is of an endpoint
 

@@ -3,7 +3,6 @@ use Rattle.std.proofs.Common.{◌≡◌, ℕ, ◌-◌, inl, inr, true, false, no
 use Rattle.std.specs.List.{slice_index_or}
 use Rattle.std.proofs.lemmas.Bool.{cases_Bool, and_parts, and_from, eq-eqb}
 use Rattle.air_source.specs.declared.events.Side.TheVariants.{Du}
-use Rattle.fragment_laws.specs.Apart.{IsIn}
 use Rattle.window_config.specs.declared.config.Config.{Config}
 use Rattle.window_config.specs.declared.delays.Delays.{Delays}
 use Rattle.window_config.specs.declared.plan.PlanKind.{PlanKind}
@@ -32,6 +31,7 @@ use Rattle.uplink_laws.specs.Premise.{BothArrive}
 use Rattle.uplink_laws.proofs.DecodedLemmas.{IsTimely, ds, each_timely, line_sent, sections_of_wholes}
 use Rattle.uplink_laws.proofs.ReadLemmas.{is_decoded}
 use Rattle.unit_model.proofs.ClaimLemmas.{way_self as way_own, slot_self as slot_own, covers_is}
+use Rattle.fh_base.specs.Members.{IsIn}
 
 -- ---- data that are all on time
 

@@ -2,11 +2,10 @@
 use Rattle.std.proofs.Common.{◌≡◌, ℕ, ℤ, pos, ◌<◌, ◌+ℤ◌, ◌-ℤ◌, inl, inr, Bool, true, false, not, ◌&&◌, ◌==◌, if◌then◌else◌, List, [], ◌∷◌, map, Option, Some, refl, ap, sym, ◌∙◌, subst, true≢false, arith}
 use Rattle.std.specs.Prelude.{filter}
 use Rattle.std.proofs.lemmas.Bool.{cases_Bool, and_parts, and_from, eq-eqb}
-use Rattle.fh_time.specs.Air.{air_of}
-use Rattle.fh_time.specs.declared.values.Slot.{Slot}
+use Rattle.fh_base.specs.Air.{air_of}
+use Rattle.fh_base.specs.declared.values.Slot.{Slot}
 use Rattle.air_source.specs.declared.events.AirCell.{AirCell}
 use Rattle.air_source.specs.declared.events.Side.TheVariants.{Du}
-use Rattle.fragment_laws.specs.Apart.{IsIn}
 use Rattle.window_config.specs.declared.config.Config.{Config}
 use Rattle.window_config.specs.declared.endpoints.EndpointConfig.{EndpointConfig}
 use Rattle.window_config.specs.declared.plan.PlanLine.{PlanLine}
@@ -18,20 +17,17 @@ use Rattle.unit_model.specs.Reports.{du_known, du_reported, timely_of}
 use Rattle.unit_model.specs.declared.allocations.Allocation.{Allocation}
 use Rattle.unit_model.specs.declared.cells.Block.{Block}
 use Rattle.unit_model.specs.declared.cells.Cell.{Cell}
-use Rattle.unit_laws.proofs.ListLemmas.{each_same}
 use Rattle.unit_laws.proofs.ReportLemmas.{report_same}
-use Rattle.unit_laws.proofs.SweepLemmas.{sweep-same}
+use Rattle.unit_model.proofs.SweepLemmas.{sweep-same}
 use Rattle.plan_model.specs.Lines.{line_allocation, planned, uplink_allocations, is_up_line}
 use Rattle.plan_model.specs.declared.lines.PlannedLine.{PlannedLine}
-use Rattle.plan_model.proofs.ListLemmas.{among, in_filter}
 use Rattle.schedule_laws.specs.Cells.{planned_mask, planned_section, radiates}
 use Rattle.schedule_laws.specs.Data.{Blocks, planned_block, radiates_in}
-use Rattle.schedule_laws.proofs.AcceptedLemmas.{AreAllowed}
+use Rattle.plan_model.proofs.AcceptedLemmas.{AreAllowed}
 use Rattle.schedule_laws.proofs.BlockLemmas.{planned_one}
 use Rattle.schedule_laws.proofs.CellLemmas.{all_under, has_element, id_is, line_claims, mask_is, one_section, own_samples, section_is}
-use Rattle.schedule_laws.proofs.ClashLemmas.{IsClear, find_named, named_by, no_claim, own_claim, unnamed}
-use Rattle.schedule_laws.proofs.LineLemmas.{allowed}
-use Rattle.schedule_laws.proofs.ListLemmas.{in_map, of_map}
+use Rattle.plan_model.proofs.ScheduleClashLemmas.{IsClear, find_named, named_by, no_claim, own_claim, unnamed}
+use Rattle.plan_model.proofs.LineLemmas.{allowed}
 use Rattle.sent_frames.specs.Messages.{Source}
 use Rattle.uplink_model.specs.Frames.{Antenna}
 use Rattle.uplink_laws.specs.Cells.{taken_air, taken_cell, taken_event, taken_symbol, ThePlanIsTakenIn}
@@ -40,6 +36,10 @@ use Rattle.uplink_laws.specs.Premise.{BothArrive}
 use Rattle.uplink_laws.proofs.BlockLemmas.{decoded_once, is_up}
 use Rattle.uplink_laws.proofs.JobLemmas.{of_uplink}
 use Rattle.unit_model.proofs.ClaimLemmas.{covers_is}
+use Rattle.fh_base.specs.Members.{IsIn}
+use Rattle.fh_base.proofs.MemberLemmas.{among, in_filter}
+use Rattle.fh_base.proofs.MadeLists.{in_map, of_map}
+use Rattle.fh_base.proofs.CommonLemmas.{each_same}
 
 module _ (c : Config) (lines : List PlanLine) (source : Source) (antenna : Antenna) (down up : List Arrival) (h : BothArrive c lines source antenna down up) where
   abbrev ps : List PlannedLine

@@ -3,15 +3,15 @@ use Rattle.std.proofs.Common.{◌≡◌, ℕ, ℤ, pos, ◌+ℤ◌, ◌*ℤ◌, 
 use Rattle.std.specs.List.{slice_get}
 use Rattle.std.specs.Option.{option_map_or}
 use Rattle.std.proofs.lemmas.Int.{ints}
-use Rattle.fh_time.specs.Air.{air_of}
-use Rattle.fh_time.specs.Frame.{absolute_frame}
-use Rattle.fh_time.specs.declared.values.Slot.{Slot}
+use Rattle.fh_base.specs.Air.{air_of}
+use Rattle.fh_base.specs.Frame.{absolute_frame}
+use Rattle.fh_base.specs.declared.values.Slot.{Slot}
 use Rattle.air_source.specs.declared.events.Side.TheVariants.{Du}
 use Rattle.ecpri_fragments.specs.Generations.{Fragment}
 use Rattle.ecpri_fragments.specs.Verdicts.{Message as WholeMessage, message, standing_before, verdict_on, whole_of}
 use Rattle.ecpri_fragments.specs.declared.verdict.Verdict.{Verdict}
 use Rattle.ecpri_fragments.specs.declared.verdict.Verdict.TheVariants.{Stored, Whole, Repeat, Stray, TooLong}
-use Rattle.fragment_laws.specs.Apart.{IsIn, Numbers, number_of, of_message}
+use Rattle.fragment_laws.specs.Apart.{Numbers, number_of, of_message}
 use Rattle.fragment_laws.specs.Flow.{numbers_of}
 use Rattle.fragment_laws.specs.Once.{Answered, Completed, answered, answers, texts, wholes, with_whole}
 use Rattle.fragment_laws.proofs.FlowLemmas.{copy}
@@ -24,7 +24,7 @@ use Rattle.window_config.proofs.Timing.{class_up_on_time}
 use Rattle.unit_model.specs.Blocks.{data_class, data_slot, data_start}
 use Rattle.unit_model.specs.Claims.{is_from}
 use Rattle.unit_model.specs.Decoding.{Decoded, data_now, data_sections, data_told, decode, decode_message, decoded_now, sections_of}
-use Rattle.unit_model.specs.Lists.{onto}
+use Rattle.fh_base.specs.Lists.{onto}
 use Rattle.unit_model.specs.Meetings.{Arrival, Meeting, Piece, fragments, meetings}
 use Rattle.unit_model.specs.Proper.{IsAt}
 use Rattle.unit_model.specs.declared.decoded.UserSection.{UserSection}
@@ -36,10 +36,9 @@ use Rattle.plan_model.specs.Packs.{Numbered, parts_of}
 use Rattle.plan_model.specs.Streams.{Part, frames_in, messages_of, part_in}
 use Rattle.plan_model.specs.declared.lines.PlannedLine.{PlannedLine}
 use Rattle.plan_model.specs.declared.streams.Stream.TheVariants.{UpData}
-use Rattle.plan_model.proofs.ListLemmas.{in_either, in_left, in_right}
 use Rattle.schedule_laws.proofs.FragmentLemmas.{answers_from, answers_there, the_whole, whole_in}
-use Rattle.schedule_laws.proofs.ListLemmas.{in_onto, numerology_short, onto_right}
-use Rattle.schedule_laws.proofs.TimeLemmas.{frame_is}
+use Rattle.plan_model.proofs.SweptLists.{numerology_short}
+use Rattle.plan_model.proofs.TimeLemmas.{frame_is}
 use Rattle.sent_frames.specs.Messages.{Source}
 use Rattle.uplink_model.specs.Frames.{Antenna}
 use Rattle.uplink_laws.specs.Data.{AreUplinkSections, IsUplinkDataFor, IsUplinkDecoded, antenna_blocks, said_by}
@@ -50,12 +49,15 @@ use Rattle.uplink_laws.proofs.FlowLemmas.{below_at, here, pieces_at, starts_at, 
 use Rattle.uplink_laws.proofs.PartLemmas.{PartFacts, line_part, message_facts, same_start}
 use Rattle.uplink_laws.proofs.ReadLemmas.{IsSectionOf, fragment_at, is_decoded, section_for, section_from}
 use Rattle.uplink_laws.proofs.WholeLemmas.{InTime, in_time, whole_once}
-use Rattle.fh_time.specs.declared.frames.TheConstants.{FRAME, HALF_CYCLE}
+use Rattle.fh_base.specs.declared.frames.TheConstants.{FRAME, HALF_CYCLE}
 use Rattle.window_config.specs.declared.delays.TheConstants.{MOST_DELAY}
-use Rattle.fh_time.proofs.Order.{same_fields as same_slot_fields}
+use Rattle.fh_base.proofs.Order.{same_fields as same_slot_fields}
 use Rattle.ecpri_fragments.specs.Pieces.{joined}
-use Rattle.fh_time.specs.declared.nanoseconds.TheConstants.{NANOSECOND}
+use Rattle.fh_base.specs.declared.nanoseconds.TheConstants.{NANOSECOND}
 use Rattle.schedule_laws.proofs.DataLemmas.{told_whole, whole_told}
+use Rattle.fh_base.specs.Members.{IsIn}
+use Rattle.fh_base.proofs.MemberLemmas.{in_either, in_left, in_right}
+use Rattle.fh_base.proofs.MadeLists.{in_onto, onto_right}
 
 -- ---- the sections that a fragment makes
 

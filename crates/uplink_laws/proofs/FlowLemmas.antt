@@ -5,9 +5,8 @@ use Rattle.std.specs.Int.{int_gap}
 use Rattle.std.specs.List.{slice_get}
 use Rattle.std.specs.Option.{option_map_or}
 use Rattle.std.proofs.lemmas.Int.{ints}
-use Rattle.fh_time.specs.Air.{air_of}
-use Rattle.fh_time.specs.declared.values.Slot.{Slot}
-use Rattle.fragment_laws.specs.Apart.{IsIn}
+use Rattle.fh_base.specs.Air.{air_of}
+use Rattle.fh_base.specs.declared.values.Slot.{Slot}
 use Rattle.fragment_laws.specs.Flow.{IsDistant, IsSound, size_to, sent_at as flow_sent_at}
 use Rattle.window_config.specs.Configs.{IsConfig}
 use Rattle.window_config.specs.Plans.{IsPlanLine}
@@ -20,8 +19,7 @@ use Rattle.unit_model.specs.Proper.{IsAt}
 use Rattle.unit_model.specs.Radiated.{first_clock}
 use Rattle.unit_model.specs.Sweeps.{of_endpoint}
 use Rattle.unit_model.specs.Times.{end_of_time}
-use Rattle.unit_model.proofs.SweepLaws.{gap_is}
-use Rattle.unit_laws.proofs.SweepLemmas.{of_endpoint_related}
+use Rattle.unit_model.proofs.SweepLemmas.{of_endpoint_related}
 use Rattle.unit_laws.proofs.FarLemmas.{endpoints_equal}
 use Rattle.plan_model.specs.Dense.{dense_from, dense_in, down_distance, sending_of, sendings, up_distance}
 use Rattle.plan_model.specs.Departures.{departures_of, sent_at, start_of_part}
@@ -32,15 +30,19 @@ use Rattle.plan_model.specs.Valid.{IsValid}
 use Rattle.plan_model.specs.declared.lines.PlannedLine.{PlannedLine}
 use Rattle.plan_model.specs.declared.streams.Stream.TheVariants.{DownData, UpData}
 use Rattle.schedule_laws.proofs.FlowLemmas.{distant, no_lesser, none_dense, not_near, some_frames}
-use Rattle.schedule_laws.proofs.LineLemmas.{good}
-use Rattle.schedule_laws.proofs.ListLemmas.{IsAll, all_kept, at_in}
-use Rattle.schedule_laws.proofs.OrderLemmas.{IsRising, below_get, get_below, get_drop, get_map, numbered_rising, packs_rising, rising_at, ticks_rising}
-use Rattle.schedule_laws.proofs.PlanLemmas.{valid_apart}
+use Rattle.plan_model.proofs.LineLemmas.{good}
+use Rattle.plan_model.proofs.SweptLists.{IsAll, all_kept}
+use Rattle.schedule_laws.proofs.OrderLemmas.{numbered_rising, packs_rising, rising_at}
+use Rattle.plan_model.proofs.PlanLemmas.{valid_apart}
 use Rattle.uplink_model.specs.Frames.{Antenna}
 use Rattle.uplink_laws.specs.Flows.{uplink_bounds_of, uplink_flow_of, fragment_text, uplink_messages_at, flow_start_at, text_of}
 use Rattle.uplink_laws.proofs.PartLemmas.{message_number, message_short, sent_in, symbol_part}
-use Rattle.fh_time.specs.declared.nanoseconds.TheConstants.{NANOSECOND}
+use Rattle.fh_base.specs.declared.nanoseconds.TheConstants.{NANOSECOND}
 use Rattle.ecpri_fragments.specs.declared.place.TheConstants.{MESSAGE_BYTES}
+use Rattle.fh_base.specs.Members.{IsIn}
+use Rattle.fh_base.proofs.MadeLists.{at_in}
+use Rattle.fh_base.proofs.EachLemmas.{gap_is}
+use Rattle.fh_base.proofs.RisingLemmas.{IsRising, below_get, get_below, get_drop, get_map, ticks_rising}
 
 -- ---- the flows
 

@@ -15,7 +15,7 @@ use Rattle.replay_laws.proofs.CameLemmas.{none_yet}
 use Rattle.uplink_laws.specs.Given.{GivenAndOwed, GivenBefore, GivenIsAll, GivesTick, HasSeen, OwesNone, OwesTick}
 use Rattle.uplink_laws.specs.Turns.{jobs_of_tick, jobs_between, jobs_until}
 use Rattle.uplink_laws.proofs.TurnJobs.{jobs_go_on, jobs_go_on_from, jobs_of_nothing, jobs_settled, no_jobs_before}
-use Rattle.fh_time.proofs.Orders.{first_most}
+use Rattle.fh_base.proofs.Orders.{first_most}
 
 drop_front : (xs ys : List UplinkJob) → drop (length xs) (xs ++ ys) ≡ ys
 drop_front xs ys = drop_at xs ys (length xs) refl

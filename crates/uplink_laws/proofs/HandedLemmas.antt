@@ -11,12 +11,10 @@ use Rattle.window_config.specs.Limits.{IsWithinLimits}
 use Rattle.window_config.specs.Windows.{ticks_of_ns}
 use Rattle.window_config.specs.declared.config.Config.{Config}
 use Rattle.window_config.specs.declared.endpoints.EndpointConfig.{EndpointConfig}
-use Rattle.unit_model.specs.Lists.{each, onto}
+use Rattle.fh_base.specs.Lists.{each, onto}
 use Rattle.unit_model.specs.declared.jobs.UplinkJob.{UplinkJob}
 use Rattle.unit_laws.proofs.HistoryTicks.{same_most}
 use Rattle.plan_model.specs.Packs.{Message}
-use Rattle.plan_model.proofs.ListLemmas.{all_of}
-use Rattle.schedule_laws.proofs.ListLemmas.{in_all, of_each}
 use Rattle.uplink_model.specs.Frames.{Antenna, uplink_frame_of, frames_behind, uplink_frames_from, uplink_message_frames}
 use Rattle.uplink_model.specs.Messages.{frame_count, uplink_frames_before, uplink_messages_of, number_behind}
 use Rattle.uplink_model.specs.SentLaws.{AreOf}
@@ -27,6 +25,8 @@ use Rattle.uplink_laws.specs.TurnLaws.{HandedAreOf, HandedBehindAreOf, HandedGoO
 use Rattle.uplink_laws.specs.Turns.{jobs_of_tick, jobs_between, messages_of_tick, messages_between, messages_until}
 use Rattle.uplink_laws.proofs.TurnJobs.{jobs_start_between, jobs_start_then, no_jobs_before}
 use Rattle.uplink_laws.proofs.MessageLemmas.{messages_go_on, messages_go_on_from}
+use Rattle.fh_base.proofs.MemberLemmas.{all_of}
+use Rattle.fh_base.proofs.MadeLists.{in_all, of_each}
 
 -- ---- tick by tick
 

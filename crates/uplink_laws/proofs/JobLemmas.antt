@@ -3,10 +3,9 @@ use Rattle.std.proofs.Common.{◌≡◌, ◌≢◌, ℕ, ◌⊎◌, inl, inr, Bo
 use Rattle.std.specs.Prelude.{filter, reverse, IsPermutation}
 use Rattle.std.specs.List.{list_any}
 use Rattle.std.proofs.lemmas.Bool.{and_parts, cases_Bool}
-use Rattle.fh_time.specs.Air.{air_of}
-use Rattle.fh_time.specs.declared.values.Slot.{Slot}
+use Rattle.fh_base.specs.Air.{air_of}
+use Rattle.fh_base.specs.declared.values.Slot.{Slot}
 use Rattle.air_source.specs.declared.events.Side.TheVariants.{Ru}
-use Rattle.fragment_laws.specs.Apart.{IsIn}
 use Rattle.window_config.specs.Relations.{PassesCheck}
 use Rattle.window_config.specs.declared.config.Config.{Config}
 use Rattle.window_config.specs.declared.endpoints.EndpointConfig.{EndpointConfig}
@@ -22,29 +21,30 @@ use Rattle.unit_model.specs.declared.allocations.Allocation.{Allocation}
 use Rattle.unit_model.specs.declared.decoded.ControlSection.{ControlSection}
 use Rattle.unit_model.specs.declared.verdicts.CommandVerdict.{CommandVerdict}
 use Rattle.unit_model.specs.declared.verdicts.CommandVerdict.TheVariants.{Accepted, Repeat}
-use Rattle.unit_laws.proofs.SweepLemmas.{sweep-same}
+use Rattle.unit_model.proofs.SweepLemmas.{sweep-same}
 use Rattle.plan_model.specs.Lines.{line_allocation, is_down_kind, is_idle_kind, planned, uplink_allocations, is_up_line}
 use Rattle.plan_model.specs.Validity.{clash}
 use Rattle.plan_model.specs.declared.lines.PlannedLine.{PlannedLine}
 use Rattle.plan_model.specs.declared.streams.Stream.{Stream}
 use Rattle.plan_model.specs.declared.streams.Stream.TheVariants.{DownCommands, UpCommands, DownData, UpData}
-use Rattle.plan_model.proofs.ListLemmas.{among, any_in, in_filter, in_right, of_filter}
 use Rattle.schedule_laws.specs.Commands.{AreCommandedOnce}
-use Rattle.schedule_laws.proofs.AcceptedLemmas.{AreDistinct, AreNamed}
-use Rattle.schedule_laws.proofs.ClashLemmas.{own_clash}
+use Rattle.plan_model.proofs.AcceptedLemmas.{AreDistinct, AreNamed}
+use Rattle.plan_model.proofs.ScheduleClashLemmas.{own_clash}
 use Rattle.schedule_laws.proofs.CommandLemmas.{commanded_by}
-use Rattle.schedule_laws.proofs.LineLemmas.{are_one, good, line_proper}
-use Rattle.schedule_laws.proofs.ListLemmas.{in_map, of_map}
-use Rattle.schedule_laws.proofs.PlanLemmas.{AreTested, valid_tested, later_clear}
+use Rattle.plan_model.proofs.LineLemmas.{are_one, good, line_proper}
+use Rattle.plan_model.proofs.PlanLemmas.{AreTested, valid_tested, later_clear}
 use Rattle.schedule_laws.proofs.ReadingLemmas.{IsCommandStream}
 use Rattle.sent_frames.specs.Messages.{Source}
-use Rattle.sent_laws.specs.Frames.{texts_of}
-use Rattle.sent_laws.specs.Sent.{IsSendable}
-use Rattle.sent_laws.proofs.RadiatedLemmas.{copy_is}
+use Rattle.uplink_laws.specs.Frames.{texts_of}
+use Rattle.uplink_laws.specs.Sent.{IsSendable}
+use Rattle.uplink_laws.proofs.RadiatedLemmas.{copy_is}
 use Rattle.uplink_laws.specs.Jobs.{AreJobsOfPlan, JobsAreOfPlan}
 use Rattle.uplink_laws.specs.Premise.{CommandsArrive}
 use Rattle.uplink_laws.proofs.MemberLemmas.{distinct_filter, distinct_reverse, in_reverse, of_reverse, same_members, split}
 use Rattle.uplink_laws.proofs.SortLemmas.{sorted_same}
+use Rattle.fh_base.specs.Members.{IsIn}
+use Rattle.fh_base.proofs.MemberLemmas.{among, any_in, in_filter, in_right, of_filter}
+use Rattle.fh_base.proofs.MadeLists.{in_map, of_map}
 
 -- ---- no line twice
 

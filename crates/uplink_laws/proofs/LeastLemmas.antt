@@ -6,7 +6,6 @@ use Rattle.std.specs.Ordering.{int_eq}
 use Rattle.std.proofs.lemmas.Bool.Decides.{Decides-int_eq}
 use Rattle.std.proofs.lemmas.Int.{ints}
 use Rattle.air_source.specs.declared.links.LinkFrame.{LinkFrame}
-use Rattle.fragment_laws.specs.Apart.{IsIn}
 use Rattle.window_config.specs.Relations.{PassesCheck}
 use Rattle.window_config.specs.Windows.{ticks_of_ns}
 use Rattle.window_config.specs.declared.config.Config.{Config}
@@ -14,31 +13,32 @@ use Rattle.window_config.specs.declared.plan.PlanLine.{PlanLine}
 use Rattle.unit_model.specs.Meetings.{Arrival}
 use Rattle.unit_model.specs.Radiated.{first_clock}
 use Rattle.unit_model.specs.Times.{end_of_time}
-use Rattle.unit_model.proofs.SweepLaws.{gap_is, gap_parts}
 use Rattle.plan_model.specs.Departures.{departures_of, start_of_part}
 use Rattle.plan_model.specs.Lines.{planned}
 use Rattle.plan_model.specs.declared.lines.PlannedLine.{PlannedLine}
 use Rattle.plan_model.specs.declared.streams.Stream.TheVariants.{UpData}
-use Rattle.plan_model.proofs.ListLemmas.{in_filter, of_filter}
 use Rattle.schedule_laws.specs.Premise.{AreInOrder}
 use Rattle.schedule_laws.proofs.LeastLemmas.{onto_order, least_is, least_under, later_both}
-use Rattle.schedule_laws.proofs.LineLemmas.{start_in_time}
-use Rattle.schedule_laws.proofs.ListLemmas.{in_map, in_onto, in_tick, of_map, of_tick, onto_right}
-use Rattle.schedule_laws.proofs.OrderLemmas.{IsRising, ticks_rising}
-use Rattle.schedule_laws.proofs.TimeLemmas.{wait_most, less_gap}
+use Rattle.plan_model.proofs.LineLemmas.{start_in_time}
+use Rattle.plan_model.proofs.TimeLemmas.{wait_most, less_gap}
 use Rattle.sent_frames.specs.Messages.{Source}
-use Rattle.sent_laws.specs.Radiated.{CopiesArrive}
-use Rattle.sent_laws.specs.Sent.{IsSendable}
-use Rattle.sent_laws.proofs.RadiatedLemmas.{least_come}
+use Rattle.uplink_laws.specs.Radiated.{CopiesArrive}
+use Rattle.uplink_laws.specs.Sent.{IsSendable}
+use Rattle.uplink_laws.proofs.RadiatedLemmas.{least_come}
 use Rattle.uplink_model.specs.Frames.{Antenna}
 use Rattle.uplink_laws.specs.Least.{LeastUplinkDelaysArrive, by_time, down_least, least_copies, least_copy}
 use Rattle.uplink_laws.specs.Premise.{AnswersArrive, CommandsArrive, IsUplinkCopy, frames_of, jobs_of}
 use Rattle.uplink_laws.proofs.ArrivalLemmas.{frame_is}
 use Rattle.uplink_laws.proofs.PartLemmas.{message_facts}
-use Rattle.fh_time.specs.declared.frames.TheConstants.{FRAME}
+use Rattle.fh_base.specs.declared.frames.TheConstants.{FRAME}
 use Rattle.window_config.specs.declared.delays.TheConstants.{MOST_DELAY}
 use Rattle.window_config.proofs.TickLemmas.{in_ticks}
-use Rattle.fh_time.specs.declared.nanoseconds.TheConstants.{NANOSECOND}
+use Rattle.fh_base.specs.declared.nanoseconds.TheConstants.{NANOSECOND}
+use Rattle.fh_base.specs.Members.{IsIn}
+use Rattle.fh_base.proofs.MemberLemmas.{in_filter, of_filter}
+use Rattle.fh_base.proofs.MadeLists.{in_map, in_onto, in_tick, of_map, of_tick, onto_right}
+use Rattle.fh_base.proofs.EachLemmas.{gap_is, gap_parts}
+use Rattle.fh_base.proofs.RisingLemmas.{IsRising, ticks_rising}
 
 -- ---- frames by time
 

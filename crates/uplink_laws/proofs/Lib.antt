@@ -23,3 +23,11 @@ pub mod NumberLemmas
 pub mod StreamLemmas
 pub mod RunLemmas
 pub mod TurnLemmas
+pub mod LineFields
+pub mod CommandRead
+pub mod Fragments
+pub mod Gathered
+pub mod MessageSays
+pub mod SentRead
+pub mod RadiatedLemmas
+mod Worked

@@ -5,10 +5,10 @@ use Rattle.std.specs.List.{AllPairs}
 use Rattle.std.proofs.lemmas.Int.{ints}
 use Rattle.std.proofs.lemmas.List.Elements.{filter-append}
 use Rattle.std.proofs.lemmas.List.Kept.{AllPairs-cons}
-use Rattle.fragment_laws.specs.Apart.{IsIn}
-use Rattle.unit_model.specs.Lists.{each_tick, in_order, put_in}
-use Rattle.plan_model.proofs.ListLemmas.{in_either, in_right, all_of, InOrder}
+use Rattle.fh_base.specs.Lists.{each_tick, in_order, put_in}
 use Rattle.unit_model.specs.Terms.{joined}
+use Rattle.fh_base.specs.Members.{IsIn}
+use Rattle.fh_base.proofs.MemberLemmas.{in_either, in_right, all_of, InOrder}
 
 -- ---- filters
 

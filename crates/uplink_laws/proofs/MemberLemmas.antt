@@ -3,10 +3,10 @@ use Rattle.std.proofs.Common.{◌≡◌, inl, inr, Bool, true, false, if◌then�
 use Rattle.std.specs.Prelude.{filter, reverse, IsPermutation}
 use Rattle.std.proofs.lemmas.List.{reverse-append}
 use Rattle.std.proofs.lemmas.List.Sorted.{IsPermutation-cons, IsPermutation-middle, IsPermutation-refl, IsPermutation-sym, IsPermutation-trans}
-use Rattle.fragment_laws.specs.Apart.{IsIn}
 use Rattle.unit_model.specs.declared.allocations.Allocation.{Allocation}
-use Rattle.plan_model.proofs.ListLemmas.{in_left, in_right, in_either, of_filter}
-use Rattle.schedule_laws.proofs.AcceptedLemmas.{AreDistinct}
+use Rattle.plan_model.proofs.AcceptedLemmas.{AreDistinct}
+use Rattle.fh_base.specs.Members.{IsIn}
+use Rattle.fh_base.proofs.MemberLemmas.{in_left, in_right, in_either, of_filter}
 
 -- where an element stands
 pub record Split {X : Type 0} (x : X) (ys : List X) : Type 0 where

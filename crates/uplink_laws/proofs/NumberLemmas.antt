@@ -3,19 +3,19 @@ use Rattle.std.proofs.Common.{◌≡◌, ℕ, ◌+◌, inl, inr, Bool, true, fal
 use Rattle.std.specs.Prelude.{filter}
 use Rattle.std.proofs.lemmas.Bool.{eq-eqb, eqb-true}
 use Rattle.std.specs.Cmp.{both_ways}
-use Rattle.fh_time.specs.declared.values.Slot.{Slot}
-use Rattle.fragment_laws.specs.Apart.{IsIn}
+use Rattle.fh_base.specs.declared.values.Slot.{Slot}
 use Rattle.window_config.specs.declared.config.Config.{Config}
 use Rattle.unit_model.specs.Claims.{same_slot}
 use Rattle.unit_model.specs.declared.jobs.UplinkJob.{UplinkJob}
 use Rattle.plan_model.specs.Packs.{Message, Numbered, PartFields, numbered_behind as packs_numbered, frames_before as packs_before, same_symbol as same_part}
 use Rattle.plan_model.proofs.SlotLemmas.{eqb_swap}
-use Rattle.plan_model.proofs.ListLemmas.{of_filter, InOrder}
 use Rattle.uplink_model.specs.Messages.{frame_count, uplink_frames_before, job_fields, number_behind, same_job_symbol}
 use Rattle.uplink_laws.specs.Streams.{is_message_of, jobs_numbered_behind}
 use Rattle.uplink_laws.proofs.StreamJobs.{IsTimed, MayPrecede}
 use Rattle.uplink_laws.proofs.StreamMessages.{MayLead, passes, symbols_differ}
 use Rattle.unit_model.proofs.ClaimLemmas.{same_slot_is as slots_equal, slot_self as slot_own}
+use Rattle.fh_base.specs.Members.{IsIn}
+use Rattle.fh_base.proofs.MemberLemmas.{of_filter, InOrder}
 
 slot_swap : (a b : Slot) → same_slot a b ≡ same_slot b a
 slot_swap a b =

@@ -2,10 +2,9 @@
 use Rattle.std.proofs.Common.{◌≡◌, ℕ, pos, ◌+◌, ◌<◌, ◌≤◌, ◌+ℤ◌, ◌≤ℤ◌, ◌<ℤ◌, ◌⊎◌, inl, inr, Bool, true, false, not, ◌==◌, if◌then◌else◌, List, [], ◌∷◌, Some, refl, ap, ap₂, sym, ◌∙◌, subst, arith}
 use Rattle.std.specs.Prelude.{All, filter, slice_get}
 use Rattle.std.proofs.lemmas.Bool.{and_from, and_parts, eq-eqb, eqb-true}
-use Rattle.fh_time.specs.Air.{air_of}
-use Rattle.fh_time.specs.Numbering.{IsSlotOf, symbols_of}
-use Rattle.fh_time.specs.declared.values.Slot.{Slot}
-use Rattle.fragment_laws.specs.Apart.{IsIn}
+use Rattle.fh_base.specs.Air.{air_of}
+use Rattle.fh_base.specs.Numbering.{IsSlotOf, symbols_of}
+use Rattle.fh_base.specs.declared.values.Slot.{Slot}
 use Rattle.window_config.specs.Configs.{IsConfig}
 use Rattle.window_config.specs.Plans.{IsPlanLine}
 use Rattle.window_config.specs.declared.config.Config.{Config}
@@ -13,7 +12,7 @@ use Rattle.window_config.specs.declared.endpoints.EndpointConfig.{EndpointConfig
 use Rattle.window_config.specs.declared.plan.PlanLine.{PlanLine}
 use Rattle.unit_model.specs.Claims.{is_from, same_slot}
 use Rattle.unit_model.specs.Commands.{is_uplink as is_sent_up}
-use Rattle.unit_model.specs.Lists.{in_order, put_in}
+use Rattle.fh_base.specs.Lists.{in_order, put_in}
 use Rattle.unit_model.specs.Proper.{IsAt}
 use Rattle.unit_model.specs.Radiated.{first_clock}
 use Rattle.unit_model.specs.Times.{end_of_time}
@@ -26,19 +25,21 @@ use Rattle.plan_model.specs.Streams.{Part, frames_in, line_before, messages_of, 
 use Rattle.plan_model.specs.Valid.{IsValid}
 use Rattle.plan_model.specs.declared.lines.PlannedLine.{PlannedLine}
 use Rattle.plan_model.specs.declared.streams.Stream.TheVariants.{UpData}
-use Rattle.plan_model.proofs.ListLemmas.{in_filter, of_filter}
 use Rattle.schedule_laws.proofs.FlowLemmas.{section_short}
-use Rattle.schedule_laws.proofs.LineLemmas.{IsGoodLine, good, start_in_time}
-use Rattle.schedule_laws.proofs.ListLemmas.{in_map, in_symbols, of_map, of_symbols}
+use Rattle.plan_model.proofs.LineLemmas.{IsGoodLine, good, start_in_time}
+use Rattle.plan_model.proofs.SweptLists.{in_symbols, of_symbols}
 use Rattle.schedule_laws.proofs.OrderLemmas.{all_short, number_is, one_symbol}
-use Rattle.schedule_laws.proofs.PackLemmas.{message_from}
-use Rattle.schedule_laws.proofs.SentLemmas.{message_part, part_message}
-use Rattle.schedule_laws.proofs.TimeLemmas.{in_end}
+use Rattle.plan_model.proofs.SchedulePackLemmas.{message_from}
+use Rattle.plan_model.proofs.SentLemmas.{message_part, part_message}
+use Rattle.plan_model.proofs.TimeLemmas.{in_end}
 use Rattle.sent_frames.proofs.MessageFacts.{IsGoodMessage, IsGoodPart}
 use Rattle.uplink_laws.proofs.ListLemmas.{of_order}
 use Rattle.unit_model.proofs.ClaimLemmas.{same_slot_is as slots_equal, slot_self as slot_own, from_within}
 use Rattle.ecpri_fragments.specs.declared.place.TheConstants.{MESSAGE_BYTES}
 use Rattle.uplink_laws.proofs.JobLemmas.{up_sent}
+use Rattle.fh_base.specs.Members.{IsIn}
+use Rattle.fh_base.proofs.MemberLemmas.{in_filter, of_filter}
+use Rattle.fh_base.proofs.MadeLists.{in_map, of_map}
 
 -- ---- in an order
 

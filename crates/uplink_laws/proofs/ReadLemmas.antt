@@ -6,9 +6,9 @@ use Rattle.std.specs.Option.{option_map_or}
 use Rattle.std.proofs.lemmas.Bool.{le-ltb}
 use Rattle.std.proofs.lemmas.Nat.{mod_below}
 use Rattle.std.proofs.Math.Nat.{mod-eq_of_lt}
-use Rattle.fh_time.specs.Carrier.{count_of}
-use Rattle.fh_time.specs.Numbering.{shape_of, slots_of}
-use Rattle.fh_time.specs.declared.values.Slot.{Slot}
+use Rattle.fh_base.specs.Carrier.{count_of}
+use Rattle.fh_base.specs.Numbering.{shape_of, slots_of}
+use Rattle.fh_base.specs.declared.values.Slot.{Slot}
 use Rattle.air_source.specs.Answers.{block_of}
 use Rattle.air_source.specs.declared.events.Side.TheVariants.{Du}
 use Rattle.bfp_codec.specs.Shrunk.{shrunk}
@@ -18,7 +18,6 @@ use Rattle.ecpri_fragments.specs.declared.sequence.SeqField.{SeqField}
 use Rattle.ecpri_frames.specs.Gathering.{whole_messages}
 use Rattle.uplane_sections.specs.Messages.{Head, Telling, told}
 use Rattle.uplane_sections.specs.declared.values.UHead.{UHead}
-use Rattle.fragment_laws.specs.Apart.{IsIn}
 use Rattle.fragment_laws.specs.Flow.{size_to}
 use Rattle.fragment_laws.specs.Once.{texts}
 use Rattle.window_config.specs.declared.config.Config.{Config}
@@ -26,7 +25,7 @@ use Rattle.window_config.specs.declared.endpoints.EndpointConfig.{EndpointConfig
 use Rattle.window_config.specs.declared.plan.PlanLine.{PlanLine}
 use Rattle.unit_model.specs.Claims.{cell_at, first_prb, is_from, prb_count}
 use Rattle.unit_model.specs.Decoding.{Gathering, SectionBlocks as ReadPart, Sections, data_with, decode, decoded_from, gathered, nothing_told}
-use Rattle.unit_model.specs.Lists.{onto}
+use Rattle.fh_base.specs.Lists.{onto}
 use Rattle.unit_model.specs.Meetings.{Meeting, Piece, find_endpoint, fragment_of, fragment_with, meet, met_in}
 use Rattle.unit_model.specs.Proper.{IsAt}
 use Rattle.unit_model.specs.declared.decoded.UserSection.{UserSection}
@@ -38,8 +37,7 @@ use Rattle.plan_model.specs.declared.streams.Stream.TheVariants.{UpData}
 use Rattle.plan_model.proofs.SizeLemmas.{few_pieces}
 use Rattle.schedule_laws.specs.Data.{Blocks}
 use Rattle.schedule_laws.proofs.FoundLemmas.{found}
-use Rattle.schedule_laws.proofs.ListLemmas.{at_in, in_all}
-use Rattle.schedule_laws.proofs.PlanLemmas.{line_of}
+use Rattle.plan_model.proofs.PlanLemmas.{line_of}
 use Rattle.frame_bytes.specs.Cuts.{cut, piece_at}
 use Rattle.frame_bytes.specs.Messages.{message_of}
 use Rattle.frame_bytes.specs.Reading.{IsReadable, sections_items}
@@ -51,13 +49,13 @@ use Rattle.frame_bytes.proofs.ReadBack.{message_told}
 use Rattle.frame_bytes.proofs.Sections.{length_message}
 use Rattle.sent_frames.specs.Messages.{Source, data_section}
 use Rattle.sent_frames.proofs.MessageFacts.{IsGoodMessage, IsGoodPart, all_map, message_fits, message_size_is}
-use Rattle.sent_laws.specs.Sent.{IsSendable}
-use Rattle.sent_laws.proofs.CommandRead.{found_by, long, message_of as whole_message, one_whole}
-use Rattle.sent_laws.proofs.Fragments.{fragments_joined, piece_short, size_joined}
-use Rattle.sent_laws.proofs.Gathered.{block_in, read_part, read_parts, sections_gathered, shrunk_blocks}
-use Rattle.sent_laws.proofs.LineFields.{at_most_nine, frame_id_is, frame_id_small}
-use Rattle.sent_laws.proofs.MessageSays.{the_place, in_count}
-use Rattle.sent_laws.proofs.SentRead.{some_bytes, in_size}
+use Rattle.uplink_laws.specs.Sent.{IsSendable}
+use Rattle.uplink_laws.proofs.CommandRead.{found_by, long, message_of as whole_message, one_whole}
+use Rattle.uplink_laws.proofs.Fragments.{fragments_joined, piece_short, size_joined}
+use Rattle.uplink_laws.proofs.Gathered.{block_in, read_part, read_parts, sections_gathered, shrunk_blocks}
+use Rattle.uplink_laws.proofs.LineFields.{at_most_nine, frame_id_is, frame_id_small}
+use Rattle.uplink_laws.proofs.MessageSays.{the_place, in_count}
+use Rattle.uplink_laws.proofs.SentRead.{some_bytes, in_size}
 use Rattle.uplink_model.specs.Frames.{Antenna, uplink_fragment_bytes, head_of, uplink_message_bytes, samples_of, section_of}
 use Rattle.uplink_model.specs.Messages.{job_fields}
 use Rattle.uplink_laws.specs.Streams.{job_for, message_for}
@@ -70,6 +68,8 @@ use Rattle.unit_model.proofs.ClaimLemmas.{starts_before as from_low, from_within
 use Rattle.ecpri_fragments.specs.Sequence.{id_of}
 use Rattle.ecpri_fragments.specs.Pieces.{joined, piece_count}
 use Rattle.ecpri_fragments.specs.declared.place.TheConstants.{MESSAGE_BYTES}
+use Rattle.fh_base.specs.Members.{IsIn}
+use Rattle.fh_base.proofs.MadeLists.{at_in, in_all}
 
 -- ---- a frame at the distributed unit
 

@@ -5,13 +5,12 @@ use Rattle.std.specs.List.{slice_get}
 use Rattle.std.proofs.lemmas.Bool.{and_parts, cases_Bool, eqb-true}
 use Rattle.std.proofs.lemmas.Bool.Decides.{Decides-int_eq}
 use Rattle.std.proofs.lemmas.Int.{ints}
-use Rattle.fh_time.specs.Air.{air_of}
-use Rattle.fh_time.specs.Numbering.{IsSlotOf, slots_of, symbols_of}
-use Rattle.fh_time.specs.declared.values.Slot.{Slot}
-use Rattle.fragment_laws.specs.Apart.{IsIn}
+use Rattle.fh_base.specs.Air.{air_of}
+use Rattle.fh_base.specs.Numbering.{IsSlotOf, slots_of, symbols_of}
+use Rattle.fh_base.specs.declared.values.Slot.{Slot}
 use Rattle.window_config.specs.declared.endpoints.EndpointConfig.{EndpointConfig}
 use Rattle.unit_model.specs.Claims.{same_slot}
-use Rattle.unit_model.specs.Lists.{each, each_tick}
+use Rattle.fh_base.specs.Lists.{each, each_tick}
 use Rattle.unit_model.specs.Proper.{IsAt}
 use Rattle.unit_model.specs.Radiated.{first_clock}
 use Rattle.unit_model.specs.Sweeps.{OfSymbol, at_tick, first_swept, frames_swept, of_endpoint, of_endpoints, of_frame, of_slot, of_subframe, of_symbol, slot_at, sweep}
@@ -19,15 +18,17 @@ use Rattle.unit_model.specs.Uplink.{jobs, symbol_jobs}
 use Rattle.unit_model.specs.declared.allocations.Allocation.{Allocation}
 use Rattle.unit_model.specs.declared.jobs.UplinkJob.{UplinkJob}
 use Rattle.unit_model.proofs.ReachLaws.{frame_swept}
-use Rattle.unit_model.proofs.SweepLaws.{each_split, gap_is, gap_parts, ticks_split}
 use Rattle.unit_laws.proofs.FarLemmas.{endpoints_equal}
-use Rattle.unit_laws.proofs.SweepLemmas.{of_endpoint_related, of_frame_related, of_slot_related, of_subframe_related}
-use Rattle.plan_model.proofs.ListLemmas.{in_either, all_of}
-use Rattle.schedule_laws.proofs.ListLemmas.{IsAll, all_kept, numerology_short, of_each}
+use Rattle.unit_model.proofs.SweepLemmas.{of_endpoint_related, of_frame_related, of_slot_related, of_subframe_related}
+use Rattle.plan_model.proofs.SweptLists.{IsAll, all_kept, numerology_short}
 use Rattle.uplink_laws.specs.Runs.{JobsStandTogether, is_job_in}
 use Rattle.uplink_laws.proofs.StreamJobs.{at_starts, symbol_job, timed_at}
 use Rattle.uplink_laws.proofs.ListLemmas.{tick_within}
 use Rattle.unit_model.proofs.ClaimLemmas.{same_slot_is as slots_equal}
+use Rattle.fh_base.specs.Members.{IsIn}
+use Rattle.fh_base.proofs.MemberLemmas.{in_either, all_of}
+use Rattle.fh_base.proofs.MadeLists.{of_each}
+use Rattle.fh_base.proofs.EachLemmas.{each_split, gap_is, gap_parts, ticks_split}
 
 -- ---- a run, and no other that passes a test
 

@@ -4,10 +4,9 @@ use Rattle.std.specs.Prelude.{filter}
 use Rattle.std.proofs.lemmas.Bool.{cases_Bool, and_parts, and_from, eqb-true}
 use Rattle.std.proofs.lemmas.Int.{ints}
 use Rattle.std.proofs.Math.Nat.{lt_of_lt_of_le}
-use Rattle.fh_time.specs.Air.{air_of}
+use Rattle.fh_base.specs.Air.{air_of}
 use Rattle.air_source.specs.declared.events.AirCell.{AirCell}
 use Rattle.air_source.specs.declared.events.Side.TheVariants.{Du}
-use Rattle.fragment_laws.specs.Apart.{IsIn}
 use Rattle.window_config.specs.declared.config.Config.{Config}
 use Rattle.window_config.specs.declared.plan.PlanLine.{PlanLine}
 use Rattle.unit_model.specs.Claims.{cell_at, cell_of, covers, in_mask, names}
@@ -20,13 +19,12 @@ use Rattle.unit_model.proofs.ReachLaws.{symbol_piece}
 use Rattle.unit_laws.proofs.DueLemmas.{reported_differ}
 use Rattle.plan_model.specs.Lines.{line_allocation, planned, uplink_allocations, is_up_line}
 use Rattle.plan_model.specs.declared.lines.PlannedLine.{PlannedLine}
-use Rattle.plan_model.proofs.ListLemmas.{any_in}
 use Rattle.schedule_laws.specs.Cells.{planned_mask, radiates}
 use Rattle.schedule_laws.specs.Data.{Blocks}
-use Rattle.schedule_laws.proofs.LineLemmas.{good, start_in_time}
-use Rattle.schedule_laws.proofs.ListLemmas.{in_each, in_piece, numerology_short}
+use Rattle.plan_model.proofs.LineLemmas.{good, start_in_time}
+use Rattle.plan_model.proofs.SweptLists.{in_piece, numerology_short}
 use Rattle.schedule_laws.proofs.SingleLemmas.{mask_some, only_one}
-use Rattle.schedule_laws.proofs.TimeLemmas.{by_then}
+use Rattle.plan_model.proofs.TimeLemmas.{by_then}
 use Rattle.sent_frames.specs.Messages.{Source}
 use Rattle.uplink_model.specs.Frames.{Antenna}
 use Rattle.uplink_laws.specs.Cells.{taken_air, taken_cell, taken_event, taken_symbol}
@@ -35,12 +33,15 @@ use Rattle.uplink_laws.specs.Premise.{BothArrive}
 use Rattle.uplink_laws.specs.Singles.{uplink_event_of, EachCellIsTakenOnce}
 use Rattle.uplink_laws.proofs.BlockLemmas.{not_down}
 use Rattle.uplink_laws.proofs.CellLemmas.{plan_taken_in}
-use Rattle.fh_time.specs.declared.frames.TheConstants.{FRAME}
+use Rattle.fh_base.specs.declared.frames.TheConstants.{FRAME}
 use Rattle.unit_model.proofs.ClaimLemmas.{within_carrier, from_within, covers_is}
-use Rattle.fh_time.proofs.Orders.{not_negative}
-use Rattle.fh_time.specs.declared.nanoseconds.TheConstants.{NANOSECOND}
+use Rattle.fh_base.proofs.Orders.{not_negative}
+use Rattle.fh_base.specs.declared.nanoseconds.TheConstants.{NANOSECOND}
+use Rattle.fh_base.specs.Members.{IsIn}
+use Rattle.fh_base.proofs.MemberLemmas.{any_in}
+use Rattle.fh_base.proofs.MadeLists.{in_each}
 
-after_clock : (s ns : ℤ) → FRAME ≤ℤ s → pos 0 ≤ℤ ns → (first_clock -ℤ ns *ℤ pos NANOSECOND) ≤ℤ s
+pub after_clock : (s ns : ℤ) → FRAME ≤ℤ s → pos 0 ≤ℤ ns → (first_clock -ℤ ns *ℤ pos NANOSECOND) ≤ℤ s
 after_clock s ns h k = omega (arith, ints, h, k)
 
 module _ (c : Config) (lines : List PlanLine) (source : Source) (antenna : Antenna) (down up : List Arrival) (h : BothArrive c lines source antenna down up) where

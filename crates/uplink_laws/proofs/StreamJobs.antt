@@ -6,14 +6,13 @@ use Rattle.std.proofs.lemmas.Bool.{and_parts, eq-eqb, eqb-true, ne_eqb}
 use Rattle.std.proofs.lemmas.Int.{ints}
 use Rattle.std.proofs.lemmas.List.{map-append, reverse-reverse}
 use Rattle.std.proofs.lemmas.List.Elements.{filter-append}
-use Rattle.fh_time.specs.Air.{air_of}
-use Rattle.fh_time.specs.Numbering.{IsSlotOf, symbols_of}
-use Rattle.fh_time.specs.declared.values.Slot.{Slot}
-use Rattle.fragment_laws.specs.Apart.{IsIn}
+use Rattle.fh_base.specs.Air.{air_of}
+use Rattle.fh_base.specs.Numbering.{IsSlotOf, symbols_of}
+use Rattle.fh_base.specs.declared.values.Slot.{Slot}
 use Rattle.window_config.specs.declared.endpoints.EndpointConfig.{EndpointConfig}
 use Rattle.unit_model.specs.Claims.{is_from, same_slot}
 use Rattle.unit_model.specs.Commands.{is_uplink}
-use Rattle.unit_model.specs.Lists.{each_tick, in_order}
+use Rattle.fh_base.specs.Lists.{each_tick, in_order}
 use Rattle.unit_model.specs.Proper.{IsAt}
 use Rattle.unit_model.specs.Radiated.{first_clock}
 use Rattle.unit_model.specs.Sweeps.{OfSymbol, at_tick, of_endpoint, of_endpoints, sweep}
@@ -22,16 +21,18 @@ use Rattle.unit_model.specs.Uplink.{is_before, job_of, jobs, sends_in, symbol_jo
 use Rattle.unit_model.specs.declared.allocations.Allocation.{Allocation}
 use Rattle.unit_model.specs.declared.jobs.UplinkJob.{UplinkJob}
 use Rattle.unit_laws.proofs.FarLemmas.{endpoints_equal}
-use Rattle.unit_laws.proofs.SweepLemmas.{IsKept, at_tick_related, each_tick_related, of_endpoint_related, sweep_related}
+use Rattle.unit_model.proofs.SweepLemmas.{IsKept, at_tick_related, each_tick_related, of_endpoint_related, sweep_related}
 use Rattle.plan_model.specs.Lines.{line_allocation}
 use Rattle.plan_model.specs.Streams.{Part, line_before, part_in, parts_in, symbol_parts}
 use Rattle.plan_model.specs.declared.lines.PlannedLine.{PlannedLine}
 use Rattle.plan_model.specs.declared.streams.Stream.TheVariants.{UpData}
-use Rattle.plan_model.proofs.ListLemmas.{in_either, of_filter, filter_mapped, InOrder, order_join}
-use Rattle.schedule_laws.proofs.ListLemmas.{IsAll, all_kept, of_map, of_symbols}
+use Rattle.plan_model.proofs.SweptLists.{IsAll, all_kept, of_symbols}
 use Rattle.uplink_laws.specs.Streams.{job_for, planned_allocations}
 use Rattle.uplink_laws.proofs.ListLemmas.{filter_all, filter_none, map_map, map_same, of_order, order_all, order_mapped}
 use Rattle.unit_model.proofs.ClaimLemmas.{same_slot_is as slots_equal}
+use Rattle.fh_base.specs.Members.{IsIn}
+use Rattle.fh_base.proofs.MemberLemmas.{in_either, of_filter, filter_mapped, InOrder, order_join}
+use Rattle.fh_base.proofs.MadeLists.{of_map}
 
 -- ---- what each job is of
 

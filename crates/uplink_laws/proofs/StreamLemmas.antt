@@ -4,25 +4,21 @@ use Rattle.std.specs.Prelude.{filter}
 use Rattle.std.specs.List.{slice_get}
 use Rattle.std.specs.Option.{option_map_or}
 use Rattle.std.proofs.lemmas.List.{length-map, map-append}
-use Rattle.fragment_laws.specs.Apart.{IsIn}
 use Rattle.window_config.specs.declared.config.Config.{Config}
 use Rattle.window_config.specs.declared.endpoints.EndpointConfig.{EndpointConfig}
 use Rattle.window_config.specs.declared.plan.PlanLine.{PlanLine}
 use Rattle.air_source.specs.declared.links.LinkFrame.{LinkFrame}
-use Rattle.unit_model.specs.Lists.{each}
+use Rattle.fh_base.specs.Lists.{each}
 use Rattle.unit_model.specs.Proper.{IsAt}
 use Rattle.unit_model.specs.Times.{end_of_time}
 use Rattle.unit_model.specs.declared.jobs.UplinkJob.{UplinkJob}
-use Rattle.unit_model.proofs.SweepLaws.{each_same}
 use Rattle.plan_model.specs.Lines.{planned}
 use Rattle.plan_model.specs.Packs.{Message, Numbered, PartFields, alone, numbered_behind as packs_numbered, frames_before as packs_before, packs, packs_behind, parts_of, same_symbol, size_of, takes, with_part}
 use Rattle.plan_model.specs.Streams.{Part, frames_in, messages_of as stream_messages, part_fields, parts_in, section_size}
 use Rattle.plan_model.specs.declared.lines.PlannedLine.{PlannedLine}
 use Rattle.plan_model.specs.declared.streams.Stream.TheVariants.{UpData}
-use Rattle.plan_model.proofs.ListLemmas.{in_either}
-use Rattle.schedule_laws.proofs.ListLemmas.{of_each}
-use Rattle.schedule_laws.proofs.PackLemmas.{message_from, part_from}
-use Rattle.schedule_laws.proofs.PlanLemmas.{line_of}
+use Rattle.plan_model.proofs.SchedulePackLemmas.{message_from, part_from}
+use Rattle.plan_model.proofs.PlanLemmas.{line_of}
 use Rattle.uplink_model.specs.Frames.{Antenna, uplink_frame_of, frames_behind, uplink_frames_from, uplink_message_frames}
 use Rattle.uplink_model.specs.Messages.{frame_count, job_fields, uplink_messages_of}
 use Rattle.uplink_laws.specs.Laws.{FramesAreTheStream, JobsAreParts, MessagesAreTheStream, TestReadsFirstFrames, first_leaves}
@@ -32,6 +28,10 @@ use Rattle.uplink_laws.proofs.ListLemmas.{filter_joined, map_map, map_same}
 use Rattle.uplink_laws.proofs.StreamMessages.{message_first, messages_found, messages_order}
 use Rattle.uplink_laws.proofs.NumberLemmas.{numbered_own}
 use Rattle.unit_model.specs.Terms.{joined, piece_count, MESSAGE_BYTES}
+use Rattle.fh_base.specs.Members.{IsIn}
+use Rattle.fh_base.proofs.MemberLemmas.{in_either}
+use Rattle.fh_base.proofs.MadeLists.{of_each}
+use Rattle.fh_base.proofs.EachLemmas.{each_same}
 
 pub jobs_are_parts : JobsAreParts
 jobs_are_parts c lines ep e at =

@@ -3,20 +3,20 @@ use Rattle.std.proofs.Common.{◌≡◌, ℕ, ℤ, ◌+◌, ◌≤◌, ◌≤ℤ
 use Rattle.std.specs.Prelude.{filter}
 use Rattle.std.proofs.lemmas.Bool.{and_parts, cases_Bool, eq-eqb, eqb-true}
 use Rattle.std.proofs.lemmas.Int.{by_lt_z, ints}
-use Rattle.fh_time.specs.Air.{air_of}
-use Rattle.fh_time.specs.declared.values.Slot.{Slot}
-use Rattle.fragment_laws.specs.Apart.{IsIn}
+use Rattle.fh_base.specs.Air.{air_of}
+use Rattle.fh_base.specs.declared.values.Slot.{Slot}
 use Rattle.window_config.specs.declared.config.Config.{Config}
 use Rattle.window_config.specs.declared.endpoints.EndpointConfig.{EndpointConfig}
 use Rattle.unit_model.specs.Claims.{same_slot}
 use Rattle.unit_model.specs.declared.jobs.UplinkJob.{UplinkJob}
 use Rattle.unit_laws.proofs.FarLemmas.{endpoints_equal}
 use Rattle.plan_model.specs.Packs.{Message, PartFields, alone, packs, packs_behind, parts_of, same_symbol, size_of, takes, with_part}
-use Rattle.plan_model.proofs.ListLemmas.{of_filter, InOrder}
 use Rattle.uplink_model.specs.Messages.{job_fields, messages_behind, uplink_messages_of, takes_job}
 use Rattle.uplink_laws.proofs.StreamJobs.{IsTimed, MayPrecede}
 use Rattle.unit_model.proofs.ClaimLemmas.{same_slot_is as slots_equal}
 use Rattle.unit_model.specs.Terms.{MESSAGE_BYTES}
+use Rattle.fh_base.specs.Members.{IsIn}
+use Rattle.fh_base.proofs.MemberLemmas.{of_filter, InOrder}
 
 -- ---- two jobs of an endpoint that start apart are of two symbols
 

@@ -13,18 +13,18 @@ use Rattle.unit_model.specs.Times.{end_of_time}
 use Rattle.unit_model.specs.Uplink.{jobs, symbol_jobs}
 use Rattle.unit_model.specs.declared.allocations.Allocation.{Allocation}
 use Rattle.unit_model.specs.declared.jobs.UplinkJob.{UplinkJob}
-use Rattle.unit_laws.proofs.SweepLemmas.{sweep-append, sweep-none, tick-nothing}
+use Rattle.unit_model.proofs.SweepLemmas.{sweep-append, sweep-none, tick-nothing}
 use Rattle.unit_laws.proofs.HistoryTicks.{next_after, next_is_later, next_of_last}
 use Rattle.replay_laws.specs.Moments.{arrivals_before}
 use Rattle.replay_laws.proofs.CameLemmas.{none_yet}
 use Rattle.replay_laws.proofs.SettledLemmas.{messages_settled}
 use Rattle.replay_laws.proofs.TickLemmas.{sweep_alone}
-use Rattle.plan_model.proofs.ListLemmas.{all_of}
 use Rattle.uplink_laws.proofs.StreamJobs.{at_starts, swept_jobs}
 use Rattle.uplink_laws.specs.TurnLaws.{JobsAreSettled, JobsGoOn, JobsGoOnFrom, JobsStartBetween, JobsStartThen, NoJobsBefore, NoJobsYet}
 use Rattle.uplink_laws.specs.Turns.{all_accepted, jobs_of_tick, jobs_between, jobs_until}
 use Rattle.unit_model.proofs.SweepLaws.{sweep_quiet as sweep-nothing}
 use Rattle.unit_laws.proofs.AheadLemmas.{no_jobs}
+use Rattle.fh_base.proofs.MemberLemmas.{all_of}
 
 -- ---- up to a time
 

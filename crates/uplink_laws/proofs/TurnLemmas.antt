@@ -6,28 +6,24 @@ use Rattle.std.specs.Option.{option_map_or}
 use Rattle.std.proofs.Math.Nat.{mul-le-mul}
 use Rattle.std.proofs.lemmas.Bool.{and_from, and_parts, cases_Bool, eq-eqb, eqb-true}
 use Rattle.std.proofs.lemmas.Int.{ints}
-use Rattle.fh_time.specs.Air.{air_of}
-use Rattle.fh_time.specs.declared.values.Slot.{Slot}
-use Rattle.fragment_laws.specs.Apart.{IsIn}
+use Rattle.fh_base.specs.Air.{air_of}
+use Rattle.fh_base.specs.declared.values.Slot.{Slot}
 use Rattle.window_config.specs.Windows.{ticks_of_ns}
 use Rattle.window_config.specs.declared.config.Config.{Config}
 use Rattle.window_config.specs.declared.endpoints.EndpointConfig.{EndpointConfig}
 use Rattle.air_source.specs.declared.links.LinkFrame.{LinkFrame}
 use Rattle.unit_model.specs.Claims.{same_slot}
-use Rattle.unit_model.specs.Lists.{each, onto}
+use Rattle.fh_base.specs.Lists.{each, onto}
 use Rattle.unit_model.specs.Radiated.{first_clock}
 use Rattle.unit_model.specs.Sweeps.{sweep}
 use Rattle.unit_model.specs.Uplink.{jobs, symbol_jobs}
 use Rattle.unit_model.specs.declared.jobs.UplinkJob.{UplinkJob}
-use Rattle.unit_model.proofs.SweepLaws.{gap_is}
 use Rattle.unit_laws.proofs.FarLemmas.{endpoints_equal}
 use Rattle.unit_laws.proofs.SentLemmas.{jobs_append}
 use Rattle.plan_model.specs.Departures.{departure, departures_of}
 use Rattle.plan_model.specs.Packs.{Message, alone, same_symbol as same_part, with_part}
 use Rattle.plan_model.specs.declared.departures.Departures.{Departures}
 use Rattle.plan_model.specs.declared.streams.Stream.TheVariants.{UpData}
-use Rattle.plan_model.proofs.ListLemmas.{in_either, in_right, all_of, InOrder, order_join}
-use Rattle.schedule_laws.proofs.ListLemmas.{in_all, of_each}
 use Rattle.uplink_model.specs.Frames.{Antenna, uplink_frame_of, uplink_frames_from, uplink_message_frames}
 use Rattle.uplink_model.specs.Messages.{frame_count, uplink_frames_before, job_fields, messages_behind, uplink_messages_of, number_behind, same_job_symbol, takes_job}
 use Rattle.uplink_laws.specs.Runs.{FramesLeaveInTa3, FramesLeaveInTurn, MessagesEndInTime, NoneOvertakes, is_job_in}
@@ -36,6 +32,10 @@ use Rattle.uplink_laws.proofs.ListLemmas.{order_all, order_before, order_rest, p
 use Rattle.uplink_laws.proofs.StreamMessages.{message_first, symbols_differ}
 use Rattle.uplink_laws.proofs.RunLemmas.{jobs_stand_together}
 use Rattle.unit_model.proofs.ClaimLemmas.{same_slot_is as slots_equal, slot_self as slot_own}
+use Rattle.fh_base.specs.Members.{IsIn}
+use Rattle.fh_base.proofs.MemberLemmas.{in_either, in_right, all_of, InOrder, order_join}
+use Rattle.fh_base.proofs.MadeLists.{in_all, of_each}
+use Rattle.fh_base.proofs.EachLemmas.{gap_is}
 
 -- ---- messages that end where the symbol does
 

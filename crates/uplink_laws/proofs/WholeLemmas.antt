@@ -14,18 +14,18 @@ use Rattle.window_config.specs.Windows.{ticks_of_ns}
 use Rattle.window_config.specs.declared.config.Config.{Config}
 use Rattle.window_config.specs.declared.plan.PlanLine.{PlanLine}
 use Rattle.unit_model.specs.Meetings.{Arrival, fragments, meetings}
-use Rattle.unit_model.proofs.SweepLaws.{gap_is}
 use Rattle.plan_model.specs.Lines.{planned}
 use Rattle.plan_model.specs.declared.lines.PlannedLine.{PlannedLine}
 use Rattle.sent_frames.specs.Messages.{Source}
-use Rattle.schedule_laws.proofs.TimeLemmas.{wait_most, last_one}
+use Rattle.plan_model.proofs.TimeLemmas.{wait_most, last_one}
 use Rattle.uplink_model.specs.Frames.{Antenna}
 use Rattle.uplink_laws.specs.Flows.{uplink_bounds_of, uplink_flow_of, flow_start_at}
 use Rattle.uplink_laws.specs.Premise.{BothArrive}
 use Rattle.uplink_laws.specs.Whole.{AreTakenOnce, EachIsTakenOnce}
 use Rattle.uplink_laws.proofs.ArrivalLemmas.{delivered, sounds}
 use Rattle.window_config.proofs.TickLemmas.{in_ticks}
-use Rattle.fh_time.specs.declared.nanoseconds.TheConstants.{NANOSECOND}
+use Rattle.fh_base.specs.declared.nanoseconds.TheConstants.{NANOSECOND}
+use Rattle.fh_base.proofs.EachLemmas.{gap_is}
 
 -- ---- times
 

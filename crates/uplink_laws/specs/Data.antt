@@ -6,7 +6,6 @@ use Rattle.std.specs.Option.{option_map_or}
 use Rattle.air_source.specs.Answers.{block_of}
 use Rattle.air_source.specs.declared.events.Side.TheVariants.{Du}
 use Rattle.bfp_codec.specs.Shrunk.{shrunk}
-use Rattle.fragment_laws.specs.Apart.{IsIn}
 use Rattle.fragment_laws.specs.Once.{Completed, texts, wholes}
 use Rattle.window_config.specs.declared.config.Config.{Config}
 use Rattle.window_config.specs.declared.endpoints.EndpointConfig.{EndpointConfig}
@@ -15,7 +14,7 @@ use Rattle.window_config.specs.declared.verdicts.Class.TheVariants.{OnTime}
 use Rattle.unit_model.specs.Blocks.{block_at, data_class, data_slot}
 use Rattle.unit_model.specs.Claims.{cell_at, covers, first_prb, is_from, prb_count}
 use Rattle.unit_model.specs.Decoding.{Sections, decode, decode_message, sections_of}
-use Rattle.unit_model.specs.Lists.{onto}
+use Rattle.fh_base.specs.Lists.{onto}
 use Rattle.unit_model.specs.Meetings.{Arrival, fragments}
 use Rattle.unit_model.specs.Proper.{IsAt}
 use Rattle.unit_model.specs.Reports.{data_of, met, timely_of}
@@ -32,6 +31,7 @@ use Rattle.uplink_model.specs.Frames.{Antenna}
 use Rattle.uplink_laws.specs.Flows.{uplink_bounds_of, fragment_text}
 use Rattle.uplink_laws.specs.Premise.{BothArrive}
 use Rattle.ecpri_fragments.specs.Pieces.{joined}
+use Rattle.fh_base.specs.Members.{IsIn}
 
 -- what the endpoint's compression leaves of the antenna's block at each cell
 abbrev pub antenna_blocks : Config → Antenna → Blocks

@@ -11,7 +11,7 @@ use Rattle.plan_model.specs.Lines.{planned, uplink_allocations}
 use Rattle.plan_model.specs.declared.lines.PlannedLine.{PlannedLine}
 use Rattle.schedule_laws.specs.Commands.{allocations_of}
 use Rattle.sent_frames.specs.Messages.{Source}
-use Rattle.sent_laws.specs.Sent.{IsSendable}
+use Rattle.uplink_laws.specs.Sent.{IsSendable}
 use Rattle.uplink_laws.specs.Premise.{CommandsArrive}
 
 -- The uplink sections of types 1 and 3 that were accepted are what the uplink lines name, each once; and the jobs up to any time are

@@ -8,7 +8,7 @@ use Rattle.window_config.specs.Relations.{PassesCheck}
 use Rattle.window_config.specs.Windows.{ticks_of_ns}
 use Rattle.window_config.specs.declared.config.Config.{Config}
 use Rattle.window_config.specs.declared.plan.PlanLine.{PlanLine}
-use Rattle.unit_model.specs.Lists.{each_tick, onto}
+use Rattle.fh_base.specs.Lists.{each_tick, onto}
 use Rattle.unit_model.specs.Meetings.{Arrival}
 use Rattle.unit_model.specs.Radiated.{first_clock}
 use Rattle.unit_model.specs.Times.{end_of_time}
@@ -16,7 +16,7 @@ use Rattle.plan_model.specs.Lines.{planned}
 use Rattle.schedule_laws.specs.Least.{with_least_delay}
 use Rattle.sent_frames.specs.Frames.{sent_bytes}
 use Rattle.sent_frames.specs.Messages.{Source}
-use Rattle.sent_laws.specs.Sent.{IsSendable}
+use Rattle.uplink_laws.specs.Sent.{IsSendable}
 use Rattle.uplink_model.specs.Frames.{Antenna}
 use Rattle.uplink_laws.specs.Premise.{BothArrive, CanAnswer, frames_of, jobs_of}
 

@@ -12,3 +12,6 @@ pub mod Given
 pub mod Streams
 pub mod Laws
 pub mod Runs
+pub mod Frames
+pub mod Sent
+pub mod Radiated

@@ -3,10 +3,9 @@
 -- ticks.
 use Rattle.std.specs.Prelude.{◌≡◌, ◌≢◌, ℕ, ◌+ℤ◌, ◌≤ℤ◌, List, []}
 use Rattle.bfp_codec.specs.Shrunk.{CanPack}
-use Rattle.fh_time.specs.declared.values.Slot.{Slot}
+use Rattle.fh_base.specs.declared.values.Slot.{Slot}
 use Rattle.air_source.specs.Answers.{block_of}
 use Rattle.air_source.specs.declared.links.LinkFrame.{LinkFrame}
-use Rattle.fragment_laws.specs.Apart.{IsIn}
 use Rattle.window_config.specs.Relations.{PassesCheck}
 use Rattle.window_config.specs.Windows.{ticks_of_ns}
 use Rattle.window_config.specs.declared.config.Config.{Config}
@@ -24,10 +23,11 @@ use Rattle.plan_model.specs.declared.lines.PlannedLine.{PlannedLine}
 use Rattle.plan_model.specs.declared.streams.Stream.TheVariants.{DownData}
 use Rattle.schedule_laws.specs.Premise.{AreInOrder}
 use Rattle.sent_frames.specs.Messages.{Source}
-use Rattle.sent_laws.specs.Radiated.{IsSentCopy}
-use Rattle.sent_laws.specs.Sent.{IsSendable}
+use Rattle.uplink_laws.specs.Radiated.{IsSentCopy}
+use Rattle.uplink_laws.specs.Sent.{IsSendable}
 use Rattle.uplink_model.specs.Frames.{Antenna, frames_behind}
 use Rattle.uplink_model.specs.Messages.{uplink_messages_of}
+use Rattle.fh_base.specs.Members.{IsIn}
 
 -- What came at the radio unit: each arrival is a copy of a frame that is sent, within T12 of its sending time, and of each command that
 -- is sent a copy came; downlink data may be lost.

@@ -1,9 +1,8 @@
 -- Each planned uplink cell is taken in exactly once.
 use Rattle.std.specs.Prelude.{◌≡◌, ℕ, ℤ, ◌<◌, ◌+ℤ◌, ◌≤ℤ◌, true, List, [], ◌∷◌, filter}
-use Rattle.fh_time.specs.Air.{air_of}
+use Rattle.fh_base.specs.Air.{air_of}
 use Rattle.air_source.specs.declared.events.AirCell.{AirCell}
 use Rattle.air_source.specs.declared.events.Side.TheVariants.{Du}
-use Rattle.fragment_laws.specs.Apart.{IsIn}
 use Rattle.window_config.specs.declared.config.Config.{Config}
 use Rattle.window_config.specs.declared.plan.PlanLine.{PlanLine}
 use Rattle.unit_model.specs.Claims.{cell_of, names}
@@ -19,6 +18,7 @@ use Rattle.uplink_model.specs.Frames.{Antenna}
 use Rattle.uplink_laws.specs.Cells.{taken_event}
 use Rattle.uplink_laws.specs.Data.{antenna_blocks}
 use Rattle.uplink_laws.specs.Premise.{BothArrive}
+use Rattle.fh_base.specs.Members.{IsIn}
 
 -- the event of one of a line's cells
 abbrev pub uplink_event_of : Blocks → List PlannedLine → PlannedLine → ℕ → ℕ → AirCell

@@ -4,7 +4,7 @@ use Rattle.std.specs.Prelude.{ℤ, pos, ◌+ℤ◌, ◌-ℤ◌, List, [], length
 use Rattle.std.specs.Int.{int_gap}
 use Rattle.window_config.specs.declared.config.Config.{Config}
 use Rattle.air_source.specs.declared.links.LinkFrame.{LinkFrame}
-use Rattle.unit_model.specs.Lists.{each_tick, onto}
+use Rattle.fh_base.specs.Lists.{each_tick, onto}
 use Rattle.unit_model.specs.Meetings.{Arrival}
 use Rattle.unit_model.specs.Reports.{accepted_of}
 use Rattle.unit_model.specs.Sweeps.{at_tick, sweep}

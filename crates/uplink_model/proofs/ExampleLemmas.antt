@@ -3,7 +3,7 @@ use Rattle.std.proofs.Common.{refl}
 use Rattle.bfp_codec.specs.Field.{digits}
 use Rattle.bfp_codec.specs.Layout.{be_bytes, number_bytes, packed_of}
 use Rattle.air_source.specs.Answers.{block_of}
-use Rattle.unit_model.specs.Lists.{each, in_order, put_in}
+use Rattle.fh_base.specs.Lists.{each, in_order, put_in}
 use Rattle.unit_model.specs.Uplink.{symbol_jobs}
 use Rattle.frame_bytes.specs.Messages.{message_of, section_of}
 use Rattle.uplink_model.specs.Examples.{UplinksAreAsWorked, BytesAreAsWorked, MessagesAreAsWorked, OrderIsAsWorked, SentOrderIsAsWorked, TimesAreAsWorked}

@@ -11,25 +11,17 @@ use Rattle.std.proofs.lemmas.List.Elements.{All-from_recursion, filter-append, r
 use Rattle.std.proofs.lemmas.List.Kept.{AllPairs-cons}
 use Rattle.std.proofs.lemmas.List.Sorted.{IsPermutation-append, IsPermutation-append_right, IsPermutation-filter_both, IsPermutation-refl, IsPermutation-trans}
 use Rattle.air_source.specs.declared.links.LinkFrame.{LinkFrame}
-use Rattle.unit_model.specs.Lists.{each, each_tick, AreRelated}
+use Rattle.fh_base.specs.Lists.{each, each_tick, AreRelated}
 use Rattle.unit_model.specs.Radiated.{first_clock}
 use Rattle.unit_model.specs.Times.{end_of_time}
-use Rattle.unit_model.proofs.SweepLaws.{each_same, gap_is}
-use Rattle.plan_model.proofs.ListLemmas.{filter_all, filter_none, all_map, filter_has, all_join, all_unit}
 use Rattle.uplink_model.specs.Sent.{in_sent_order, leaves_at, leaving_at, frames_leaving}
 use Rattle.uplink_model.specs.SentLaws.{AllAreSent, LaterChangeNothing, LeavingAreByEndpoint, LeavingAreReordered, LeavingAsHandedOver, LeavingLeaveThen, TicksStandTogether, TimesRise}
-use Rattle.fh_time.proofs.Orders.{is_same, not_eq}
+use Rattle.fh_base.proofs.Orders.{is_same, not_eq}
+use Rattle.fh_base.proofs.MemberLemmas.{filter_all, filter_none, all_map, filter_has, all_join, all_unit}
+use Rattle.fh_base.proofs.EachLemmas.{each_same, gap_is}
+use Rattle.fh_base.proofs.CommonLemmas.{filter_both}
 
 -- ---- filters
-
-filter_both : {X : Type 0} (a b : X → Bool) (xs : List X) → filter (λ x. a x && b x) xs ≡ filter b (filter a xs)
-filter_both a b [] = refl
-filter_both {X = X} a b (x ∷ xs) = go (a x) (filter_both a b xs)
-  where
-    go : (s : Bool) → filter (λ y. a y && b y) xs ≡ filter b (filter a xs)
-        → (let us : List X = if s && b x then x ∷ filter (λ y. a y && b y) xs else filter (λ y. a y && b y) xs in us) ≡ filter b (let vs : List X = if s then x ∷ filter a xs else filter a xs in vs)
-    go true h = ap (λ (ys : List X). let us : List X = if b x then x ∷ ys else ys in us) h
-    go false h = h
 
 -- of a filter that keeps all that the other one keeps
 filter_within : {X : Type 0} (a b : X → Bool) → ((x : X) → a x ≡ true → b x ≡ true) → (xs : List X) → filter a (filter b xs) ≡ filter a xs

@@ -1,7 +1,7 @@
 -- What is known of these messages and frames.
 use Rattle.std.specs.Prelude.{◌≡◌, ℕ, List, ◌++◌, All}
 use Rattle.window_config.specs.declared.config.Config.{Config}
-use Rattle.unit_model.specs.Lists.{onto}
+use Rattle.fh_base.specs.Lists.{onto}
 use Rattle.unit_model.specs.declared.jobs.UplinkJob.{UplinkJob}
 use Rattle.plan_model.specs.Packs.{Message, packs}
 use Rattle.uplink_model.specs.Frames.{Antenna, frames_behind}

@@ -4,7 +4,7 @@ use Rattle.std.specs.Prelude.{ℕ, ℤ, pos, ◌+ℤ◌, ◌&&◌, ◌==◌, Boo
 use Rattle.std.specs.Int.{int_gap}
 use Rattle.std.specs.Ordering.{int_eq}
 use Rattle.air_source.specs.declared.links.LinkFrame.{LinkFrame}
-use Rattle.unit_model.specs.Lists.{each, each_tick}
+use Rattle.fh_base.specs.Lists.{each, each_tick}
 use Rattle.unit_model.specs.Radiated.{first_clock}
 use Rattle.unit_model.specs.Times.{end_of_time}
 

@@ -5,14 +5,14 @@ use Rattle.air_source.specs.declared.links.LinkFrame.{LinkFrame}
 use Rattle.air_source.specs.declared.places.RePlace.{RePlace}
 use Rattle.bfp_codec.specs.declared.samples.Wide.{Wide}
 use Rattle.window_config.specs.declared.config.Config.{Config}
-use Rattle.unit_model.specs.Lists.{onto}
+use Rattle.fh_base.specs.Lists.{onto}
 use Rattle.unit_model.specs.ProperJobs.{IsProperJob}
 use Rattle.unit_model.specs.Standing.{History, handed, owed_until}
 use Rattle.unit_model.specs.declared.jobs.UplinkJob.{UplinkJob}
-use Rattle.unit_model.proofs.OntoLemmas.{onto-append, onto_none}
+use Rattle.fh_base.proofs.OntoLemmas.{onto-append, onto_none}
 use Rattle.plan_model.specs.Packs.{Message}
 use Rattle.ru_buffers.specs.Calls.{GivesJob, StandsFor}
-use Rattle.radio_laws.specs.Units.{left_up_to}
+use Rattle.ru_buffers.specs.Units.{left_up_to}
 use Rattle.ru_buffers.specs.declared.unit.Ru.{Ru}
 use Rattle.uplink_model.specs.Frames.{Antenna, frames_behind}
 use Rattle.uplink_model.specs.Messages.{messages_behind, uplink_messages_of}

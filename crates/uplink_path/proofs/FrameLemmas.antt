@@ -1,10 +1,9 @@
 -- The frames of a message, one after the other.
-use Rattle.std.proofs.Common.{◌≡◌, ℕ, ℤ, suc, ◌+◌, ◌*◌, ◌-◌, ◌<◌, ◌==◌, min, List, [], ◌∷◌, ◌++◌, refl, sym, ap, ◌∙◌, arith, append_assoc, append-nil, Result, Ok, Err, OnErr}
+use Rattle.std.proofs.Common.{◌≡◌, ℕ, ℤ, suc, ◌+◌, ◌*◌, ◌-◌, ◌<◌, ◌==◌, min, List, [], ◌∷◌, ◌++◌, refl, sym, ap, ◌∙◌, arith, append_assoc, append-nil}
 use Rattle.window_config.specs.declared.config.Config.{Config}
 use Rattle.window_config.specs.declared.endpoints.EndpointConfig.{EndpointConfig}
 use Rattle.air_source.specs.declared.links.LinkFrame.{LinkFrame}
-use Rattle.unit_model.proofs.SweepLaws.{each_zero}
-use Rattle.unit_model.specs.Lists.{each}
+use Rattle.fh_base.specs.Lists.{each}
 use Rattle.unit_model.specs.declared.jobs.UplinkJob.{UplinkJob}
 use Rattle.plan_model.specs.Departures.{departure}
 use Rattle.plan_model.specs.Packs.{Message, size_of}
@@ -19,6 +18,7 @@ use Rattle.uplink_path.specs.declared.pending.Pending.{Pending}
 use Rattle.uplink_path.specs.declared.rules.Rules.{Rules}
 use Rattle.frame_bytes.specs.Headers.{carrier_of}
 use Rattle.ecpri_fragments.specs.Pieces.{piece_count}
+use Rattle.fh_base.proofs.EachLemmas.{each_zero}
 
 -- ---- frames
 
@@ -102,7 +102,3 @@ wait_now c r p number wait m n before i next b is = is ∙ ap (λ (x : Rules). m
 
 pub at_start : (c : Config) (before wait : ℕ) → wait ≡ wait_behind c before → wait ≡ wait_behind c (before + 0)
 at_start c before wait is = is ∙ ap (wait_behind c) (omega arith)
-
-pub on_err : {A B : Type 0} (r : Result A B) (P : Type 0) → P → OnErr r P
-on_err (Ok x) P p = tt
-on_err (Err e) P p = p

@@ -7,7 +7,7 @@ use Rattle.unit_model.specs.declared.jobs.UplinkJob.{UplinkJob}
 use Rattle.plan_model.specs.Packs.{Message}
 use Rattle.plan_model.specs.Departures.{departures_of}
 use Rattle.plan_model.specs.declared.streams.Stream.TheVariants.{UpData}
-use Rattle.fh_time.specs.declared.values.Slot.{Slot}
+use Rattle.fh_base.specs.declared.values.Slot.{Slot}
 use Rattle.unit_model.specs.Claims.{same_slot}
 use Rattle.uplink_model.specs.Messages.{frame_count, uplink_frames_before, number_behind, same_job_symbol}
 use Rattle.uplink_path.specs.Sending.{wait_behind, wait_in}

@@ -13,7 +13,7 @@ use Rattle.uplink_path.specs.Sending.{CanBeSent}
 use Rattle.uplink_path.specs.declared.pending.Pending.{Pending}
 use Rattle.uplink_path.specs.declared.uplink.Uplink.{Uplink}
 use Rattle.frame_bytes.specs.declared.messages.DataSection.{DataSection}
-use Rattle.fh_time.proofs.Order.{slots_few, symbols_few}
+use Rattle.fh_base.proofs.Order.{slots_few, symbols_few}
 use Rattle.window_config.specs.Endpoints.{IsEndpoint}
 use Rattle.window_config.specs.declared.config.Config.{Config}
 use Rattle.window_config.specs.declared.endpoints.EndpointConfig.{EndpointConfig}
@@ -25,8 +25,8 @@ use Rattle.plan_model.specs.declared.sizes.MessageSize.{MessageSize}
 use Rattle.frame_bytes.specs.Messages.{SectionFits, message_size, sections_size}
 use Rattle.uplink_model.specs.Frames.{section_of}
 use Rattle.uplink_model.specs.Messages.{job_fields}
-use Rattle.fh_time.specs.declared.symbols.TheConstants.{SLOT_SYMBOLS}
-use Rattle.fh_time.specs.declared.frames.TheConstants.{FRAME}
+use Rattle.fh_base.specs.declared.symbols.TheConstants.{SLOT_SYMBOLS}
+use Rattle.fh_base.specs.declared.frames.TheConstants.{FRAME}
 use Rattle.frame_bytes.specs.Headers.{carrier_of}
 
 -- the size of one section

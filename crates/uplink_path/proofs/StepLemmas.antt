@@ -5,7 +5,7 @@ use Rattle.air_source.specs.declared.events.Event.{Event}
 use Rattle.unit_model.specs.Standing.{History, at_clock, heard, nothing_yet, owed_until}
 use Rattle.window_config.specs.declared.config.Config.{Config}
 use Rattle.ru_buffers.specs.Calls.{HasGivenPast, StandsFor, StopsAtDue}
-use Rattle.radio_laws.specs.Reporting.{due_of}
+use Rattle.ru_buffers.specs.Reporting.{due_of}
 use Rattle.ru_buffers.specs.declared.unit.Ru.{Ru}
 use Rattle.uplink_path.specs.Steps.{IsSenderOf, IsUnitOf}
 use Rattle.air_source.specs.Kept.{IsKept}
@@ -13,7 +13,7 @@ use Rattle.air_source.specs.declared.links.LinkFrame.{LinkFrame}
 use Rattle.air_source.specs.declared.places.RePlace.{RePlace}
 use Rattle.air_source.specs.declared.samples.Samples.{Samples}
 use Rattle.bfp_codec.specs.declared.samples.Wide.{Wide}
-use Rattle.unit_model.specs.Lists.{onto}
+use Rattle.fh_base.specs.Lists.{onto}
 use Rattle.unit_model.specs.declared.jobs.UplinkJob.{UplinkJob}
 use Rattle.plan_model.specs.Packs.{Message}
 use Rattle.uplink_model.specs.Messages.{uplink_messages_of}

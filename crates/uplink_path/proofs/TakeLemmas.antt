@@ -3,7 +3,7 @@ use Rattle.std.proofs.Common.{◌≡◌, ℕ, ◌<◌, ◌≤◌, ◌==◌, Bool
 use Rattle.std.proofs.lemmas.Bool.{and_parts, eqb-true}
 use Rattle.std.proofs.lemmas.List.Elements.{All-append, All-cons, All-nil}
 use Rattle.std.proofs.lemmas.Option.{get_or_from_slice_get}
-use Rattle.fh_time.specs.Carrier.{is_outside}
+use Rattle.fh_base.specs.Carrier.{is_outside}
 use Rattle.air_source.specs.Answers.{AnswersBy}
 use Rattle.air_source.specs.declared.links.LinkFrame.{LinkFrame}
 use Rattle.air_source.specs.declared.places.RePlace.{RePlace}
@@ -13,7 +13,7 @@ use Rattle.window_config.specs.declared.config.Config.{Config}
 use Rattle.window_config.specs.declared.endpoints.EndpointConfig.{EndpointConfig}
 use Rattle.unit_model.specs.Proper.{IsAt}
 use Rattle.unit_model.specs.declared.jobs.UplinkJob.{UplinkJob}
-use Rattle.unit_model.proofs.OntoLemmas.{onto_none, onto_one}
+use Rattle.fh_base.proofs.OntoLemmas.{onto_none, onto_one}
 use Rattle.plan_model.specs.Packs.{Message, alone, parts_of, takes, with_part}
 use Rattle.plan_model.specs.Sizes.{measured}
 use Rattle.plan_model.specs.declared.sizes.MessageSize.{MessageSize}

@@ -1,6 +1,6 @@
 -- The message that may take more sections, while a unit's jobs are taken.
 use Rattle.std.specs.Prelude.{◌≡◌, ℕ, ◌≤◌, ◌<◌, List, All, length, Option, Some, None, false, ℤ, pos, ◌^◌, ◌≤ℤ◌, ◌++◌, ◌∷◌}
-use Rattle.fh_time.specs.Carrier.{is_outside}
+use Rattle.fh_base.specs.Carrier.{is_outside}
 use Rattle.window_config.specs.declared.config.Config.{Config}
 use Rattle.window_config.specs.declared.endpoints.EndpointConfig.{EndpointConfig}
 use Rattle.unit_model.specs.ProperJobs.{IsProperJob}
@@ -16,7 +16,7 @@ use Rattle.air_source.specs.Answers.{AnswersBy}
 use Rattle.air_source.specs.declared.links.LinkFrame.{LinkFrame}
 use Rattle.air_source.specs.declared.places.RePlace.{RePlace}
 use Rattle.bfp_codec.specs.declared.samples.Wide.{Wide}
-use Rattle.unit_model.specs.Lists.{onto}
+use Rattle.fh_base.specs.Lists.{onto}
 use Rattle.uplink_model.specs.Frames.{Antenna, frames_behind}
 use Rattle.window_config.specs.declared.config.TheConstants.{MESSAGE_SECTIONS}
 use Rattle.ecpri_fragments.specs.declared.place.TheConstants.{MESSAGE_BYTES}

@@ -15,7 +15,7 @@ use Rattle.uplink_path.specs.Packing.{IsPacked, sections_in}
 use Rattle.uplink_path.specs.declared.pending.Pending.{Pending}
 use Rattle.uplink_path.specs.declared.rules.Rules.{Rules}
 use Rattle.uplink_path.specs.declared.rules.Run.{Run}
-use Rattle.fh_time.specs.declared.symbols.TheConstants.{SLOT_SYMBOLS}
+use Rattle.fh_base.specs.declared.symbols.TheConstants.{SLOT_SYMBOLS}
 use Rattle.window_config.specs.declared.config.TheConstants.{MESSAGE_SECTIONS, MOST_FRAGMENT, LEAST_FRAGMENT}
 use Rattle.frame_bytes.specs.Headers.{carrier_of}
 

@@ -3,7 +3,7 @@ ghost use Rattle.std.specs.Prelude.{◌≡◌};
 ghost use Rattle.window_config.specs.Configs.{IsConfig};
 ghost use Rattle.uplink_path.specs.Sending.{AreRules, rules_of, wait_in};
 
-use fh_time::Slot;
+use fh_base::Slot;
 use plan_model::{Departures, Stream};
 use unit_model::UplinkJob;
 use window_config::Config;

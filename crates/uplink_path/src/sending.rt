@@ -11,10 +11,10 @@ ghost use Rattle.uplink_model.specs.Messages.{frame_count};
 ghost use Rattle.uplink_path.specs.Packing.{sections_in};
 ghost use Rattle.uplink_path.specs.Sending.{CanBeSent, IsBehind, SentSome, wait_behind};
 ghost use Rattle.window_config.specs.declared.config.Config.{Config as SpecConfig};
-ghost use Rattle.fh_time.specs.declared.symbols.TheConstants.{SLOT_SYMBOLS};
+ghost use Rattle.fh_base.specs.declared.symbols.TheConstants.{SLOT_SYMBOLS};
 ghost use Rattle.window_config.specs.declared.config.TheConstants.{MESSAGE_SECTIONS};
 ghost use Rattle.frame_bytes.specs.Headers.{carrier_of};
-ghost use Rattle.fh_time.specs.declared.carrier.TheConstants.{CARRIER_PRBS};
+ghost use Rattle.fh_base.specs.declared.carrier.TheConstants.{CARRIER_PRBS};
 
 use crate::pending::{Pending, head_of};
 use crate::rules::Rules;

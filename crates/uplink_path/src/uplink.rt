@@ -7,7 +7,7 @@ ghost use Rattle.unit_model.specs.ProperJobs.{IsProperJob};
 ghost use Rattle.unit_model.specs.Standing.{History};
 ghost use Rattle.unit_model.specs.declared.jobs.UplinkJob.{UplinkJob as SpecJob};
 ghost use Rattle.uplink_model.specs.Frames.{Antenna, frames_behind, uplink_message_frames};
-ghost use Rattle.unit_model.specs.Lists.{onto};
+ghost use Rattle.fh_base.specs.Lists.{onto};
 ghost use Rattle.uplink_path.specs.Packing.{IsPacked};
 ghost use Rattle.uplink_path.specs.Sending.{SentSome};
 ghost use Rattle.window_config.specs.Configs.{IsConfig};

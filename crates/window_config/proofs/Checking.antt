@@ -7,7 +7,7 @@ use Rattle.window_config.specs.declared.relations.Failing.{Failing}
 use Rattle.window_config.specs.declared.relations.Relation.{Relation}
 use Rattle.window_config.specs.declared.relations.Relation.TheVariants.{UpMax, UpMin, CpUlMax, CpUlMin, Ta4Min, Ta4Max, HoldDl, HoldUl}
 use Rattle.window_config.specs.Relations.{relations, number_of, holds, failing_of, first_failing, checked, PassesCheck, IsFirstFailing}
-use Rattle.fh_time.proofs.Orders.{le_true, true_le}
+use Rattle.fh_base.proofs.Orders.{le_true, true_le}
 
 abbrev AllHold : List Relation → Delays → Type 0
 AllHold [] d = Unit {0}

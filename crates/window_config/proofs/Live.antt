@@ -5,11 +5,11 @@ use Rattle.std.proofs.lemmas.Int.{ints}
 use Rattle.std.proofs.lemmas.Nat.{mod_below, div-add-mod'}
 use Rattle.std.proofs.lemmas.Bool.{cases_lt}
 use Rattle.std.proofs.Math.Nat.{mul-le-mul_right}
-use Rattle.fh_time.specs.declared.numerology.Numerology.{Numerology}
-use Rattle.fh_time.specs.declared.values.Slot.{Slot}
-use Rattle.fh_time.specs.Air.{air_of, least_slot_of, span_of}
-use Rattle.fh_time.specs.Numbering.{symbols_of, slot_number, IsSlotOf}
-use Rattle.fh_time.proofs.Order.{later_by, symbol_in_span, symbols_in_order}
+use Rattle.fh_base.specs.declared.numerology.Numerology.{Numerology}
+use Rattle.fh_base.specs.declared.values.Slot.{Slot}
+use Rattle.fh_base.specs.Air.{air_of, least_slot_of, span_of}
+use Rattle.fh_base.specs.Numbering.{symbols_of, slot_number, IsSlotOf}
+use Rattle.fh_base.proofs.Order.{later_by, symbol_in_span, symbols_in_order}
 use Rattle.window_config.specs.declared.delays.Range.{Range}
 use Rattle.window_config.specs.declared.delays.Delays.{Delays}
 use Rattle.window_config.specs.declared.verdicts.Class.TheVariants.{OnTime}
@@ -18,8 +18,8 @@ use Rattle.window_config.specs.Windows.{ticks_of_ns, command_window_of}
 use Rattle.window_config.specs.Classes.{class_of, class_up_of, IsOnTime, IsOnTimeUp}
 use Rattle.window_config.specs.Rings.{IsLive}
 use Rattle.window_config.proofs.Timing.{class_on_time, class_up_on_time}
-use Rattle.fh_time.proofs.Orders.{after_by, low_one, under, not_under}
-use Rattle.fh_time.specs.declared.nanoseconds.TheConstants.{NANOSECOND}
+use Rattle.fh_base.proofs.Orders.{after_by, low_one, under, not_under}
+use Rattle.fh_base.specs.declared.nanoseconds.TheConstants.{NANOSECOND}
 
 begun_before : (start s first clock most before : ℤ) → start ≤ℤ s → (s -ℤ first) ≤ℤ (most *ℤ pos NANOSECOND) → first ≤ℤ clock → most ≤ℤ before
     → (start -ℤ before *ℤ pos NANOSECOND) ≤ℤ clock

@@ -5,7 +5,7 @@ use Rattle.window_config.specs.declared.delays.Range.{Range}
 use Rattle.window_config.specs.declared.verdicts.Class.TheVariants.{OnTime, Late}
 use Rattle.window_config.specs.Windows.{ticks_of_ns}
 use Rattle.window_config.specs.Classes.{classified, class_of, class_up_of, IsOnTime, IsOnTimeUp}
-use Rattle.fh_time.proofs.Orders.{under, under_is, not_under, not_under_is}
+use Rattle.fh_base.proofs.Orders.{under, under_is, not_under, not_under_is}
 
 late_first : (a b : Bool) → (classified a b ≡ Late) ↔ (a ≡ true)
 late_first true b = (λ _. refl, λ _. refl)

@@ -3,9 +3,9 @@ use Rattle.std.specs.Prelude.{ℕ, ◌≤◌, false, List, All, length, map}
 use Rattle.bfp_codec.specs.Layout.{HasWidth}
 use Rattle.eaxc_map.specs.Endpoints.{AppearOnce}
 use Rattle.window_config.specs.declared.endpoints.EndpointConfig.{EndpointConfig}
-use Rattle.fh_time.specs.Numbering.{extended_of}
+use Rattle.fh_base.specs.Numbering.{extended_of}
 use Rattle.bfp_codec.specs.declared.methods.Method.TheVariants.{Plain}
-use Rattle.fh_time.specs.declared.carrier.TheConstants.{CARRIER_PRBS}
+use Rattle.fh_base.specs.declared.carrier.TheConstants.{CARRIER_PRBS}
 
 pub record IsEndpoint (e : EndpointConfig) : Type 0 where
   pub some : 1 ≤ e.prbs

@@ -1,9 +1,9 @@
 -- Which slots a unit has to hold, and how many places that takes.
 use Rattle.std.specs.Prelude.{ℤ, pos, ◌+ℤ◌, ◌-ℤ◌, ◌≤ℤ◌, true, false}
 use Rattle.std.specs.Int.{int_max, int_div_euclid}
-use Rattle.fh_time.specs.declared.numerology.Numerology.{Numerology}
-use Rattle.fh_time.specs.declared.values.Slot.{Slot}
-use Rattle.fh_time.specs.Air.{air_of, least_slot_of, span_of}
+use Rattle.fh_base.specs.declared.numerology.Numerology.{Numerology}
+use Rattle.fh_base.specs.declared.values.Slot.{Slot}
+use Rattle.fh_base.specs.Air.{air_of, least_slot_of, span_of}
 use Rattle.window_config.specs.declared.delays.Delays.{Delays}
 use Rattle.window_config.specs.declared.rings.Reach.{Reach}
 use Rattle.window_config.specs.Windows.{ticks_of_ns, data_window_of, command_window_of}

@@ -7,7 +7,7 @@ ghost use Rattle.window_config.specs.Classes.{classified, class_of, class_up_of,
 use crate::delays::Range;
 use crate::distances::{is_longer, is_shorter};
 use crate::verdicts::Class;
-use fh_time::Ticks;
+use fh_base::Ticks;
 
 /// The class of what is late or not, and early or not: what is late is no more said to be early.
 fn classified(is_late: bool, is_early: bool) -> Class

@@ -3,7 +3,7 @@ ghost use Rattle.std.specs.Prelude.{◌≡◌, pos, neg_ℤ, ◌^◌, ◌≤ℤ�
 ghost use Rattle.window_config.specs.Limits.{IsBound};
 ghost use Rattle.window_config.specs.Windows.{ticks_of_ns};
 
-use fh_time::{Ticks, of_ns};
+use fh_base::{Ticks, of_ns};
 
 /// Whether `to` comes less than so many nanoseconds after `from`.
 pub(crate) fn is_shorter(from: Ticks, to: Ticks, ns: i64) -> bool

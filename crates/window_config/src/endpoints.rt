@@ -5,7 +5,7 @@ ghost use Rattle.window_config.specs.declared.endpoints.EndpointConfig.{Endpoint
 
 use arrayvec::ArrayVec;
 use bfp_codec::Format;
-use fh_time::Numerology;
+use fh_base::Numerology;
 use std::default::MadeWith;
 use std::marker::Model;
 use thiserror::Error;

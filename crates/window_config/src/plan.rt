@@ -1,6 +1,6 @@
 // The lines of a plan.
 
-use fh_time::Slot;
+use fh_base::Slot;
 
 /// The last frame that a line names.
 pub const LAST_FRAME: u64 = 99_999;

@@ -1,9 +1,9 @@
 // Which slots a unit has to hold.
 ghost use Rattle.std.specs.Prelude.{◌≡◌, ◌↔◌, ℕ, ℤ, pos, neg_ℤ, ◌^◌, ◌<◌, ◌≤◌, ◌≤ℤ◌, ◌<ℤ◌, ◌+ℤ◌, Bool, IsTrue};
-ghost use Rattle.fh_time.specs.declared.numerology.Numerology.{Numerology};
-ghost use Rattle.fh_time.specs.declared.values.Slot.{Slot};
-ghost use Rattle.fh_time.specs.Air.{air_of, least_slot_of, span_of};
-ghost use Rattle.fh_time.specs.Numbering.{slots_of, symbols_of, slot_number, IsSlotOf};
+ghost use Rattle.fh_base.specs.declared.numerology.Numerology.{Numerology};
+ghost use Rattle.fh_base.specs.declared.values.Slot.{Slot};
+ghost use Rattle.fh_base.specs.Air.{air_of, least_slot_of, span_of};
+ghost use Rattle.fh_base.specs.Numbering.{slots_of, symbols_of, slot_number, IsSlotOf};
 ghost use Rattle.window_config.specs.Limits.{IsBound, IsReach, IsWithinLimits};
 ghost use Rattle.window_config.specs.Windows.{ticks_of_ns, data_window_of, command_window_of};
 ghost use Rattle.window_config.specs.Classes.{class_of, class_up_of};
@@ -13,7 +13,7 @@ use crate::delays::Delays;
 use crate::distances::is_longer;
 use crate::verdicts::Class;
 use crate::windows::{command_window, data_window};
-use fh_time::{Numerology, Slot, Ticks, air, least_slot, of_ns, span};
+use fh_base::{Numerology, Slot, Ticks, air, least_slot, of_ns, span};
 
 /// How far from a symbol's start its messages and reports may lie, in nanoseconds.
 #[derive(Clone, Copy, Debug, PartialEq, Eq)]

@@ -8,7 +8,7 @@ use Rattle.window_config.specs.Limits.{IsWithinLimits}
 use Rattle.window_plan.specs.declared.refusals.NoFit.{NoFit}
 use Rattle.window_plan.specs.declared.refusals.Window.TheVariants.{Up, CpUl, Ta4}
 use Rattle.window_plan.specs.Fitting.{longest, planned, no_fit, hold_for, sent_within, heard_within, fitted}
-use Rattle.fh_time.proofs.Orders.{under, not_under, not_under_is, if_not}
+use Rattle.fh_base.proofs.Orders.{under, not_under, not_under_is, if_not}
 
 -- what holds of both is what holds of the choice
 by_test : {R : Type 0} (P : R → Type 0) (b : Bool) (x y : R) → (b ≡ true → P x) → (b ≡ false → P y) → P (if b then x else y)

@@ -1,7 +1,6 @@
 -- No other range within the limits does better than the fitted one.
-use Rattle.std.proofs.Common.{ℤ, ◌≤ℤ◌, ◌<ℤ◌, IfOk, IfErr, arith}
-use Rattle.std.specs.Int.{int_min}
-use Rattle.std.proofs.lemmas.Int.{ints, clamps}
+use Rattle.std.proofs.Common.{◌<ℤ◌, IfOk, IfErr, arith}
+use Rattle.std.proofs.lemmas.Int.{ints}
 use Rattle.window_config.specs.declared.delays.Range.{Range}
 use Rattle.window_config.specs.declared.delays.Delays.{Delays}
 use Rattle.window_config.specs.Limits.{IsRange, IsWithinLimits}
@@ -9,10 +8,8 @@ use Rattle.window_plan.specs.declared.refusals.Window.TheVariants.{Up, CpUl, Ta4
 use Rattle.window_plan.specs.Fitting.{longest, planned, fitted}
 use Rattle.window_plan.specs.Ranges.{IsInside, Meets}
 use Rattle.window_plan.proofs.Cases.{fitted_cases}
-use Rattle.fh_time.proofs.Orders.{le_true as at_most}
-
-least_of : (a b x : ℤ) → x ≤ℤ a → x ≤ℤ b → x ≤ℤ int_min a b
-least_of a b x h k = omega (arith, ints, clamps)
+use Rattle.fh_base.proofs.Orders.{le_true as at_most}
+use Rattle.fh_base.proofs.CommonLemmas.{least_of}
 
 up_inside : (d : Delays) (r : Range) → IsRange 0 r → Meets Up d r → IsInside r (planned d).t1a_up
 up_inside d r is meets = record { low = at_most _ _ meets.1.0; high = least_of _ _ _ (at_most _ _ meets.0) is.high }

@@ -10,7 +10,7 @@ use Rattle.window_config.specs.Windows.{ticks_of_ns}
 use Rattle.window_config.specs.Classes.{classified, class_of, class_up_of}
 use Rattle.window_config.specs.Relations.{holds}
 use Rattle.window_plan.specs.Breaches.{before, arrival, IsIn, MissesWindow}
-use Rattle.fh_time.proofs.Orders.{under_is, not_under_is, weak as weaker, le_false as not_at_most, later_than as least_first, below as least_last}
+use Rattle.fh_base.proofs.Orders.{under_is, not_under_is, weak as weaker, le_false as not_at_most, later_than as least_first, below as least_last}
 
 is_late : (late early : Bool) → late ≡ true → classified late early ≡ Late
 is_late true early e = refl

@@ -11,7 +11,7 @@ use Rattle.window_config.specs.Relations.{holds}
 use Rattle.ecpri_fragments.specs.Generations.{Fragment, Generation, is_of, of_id, is_within, with_fragment, generations, generations_of, begins, start_in, is_first, begun, joined}
 use Rattle.window_plan.specs.Breaches.{before, sent_in, delayed_by, hold_of, arrival, IsIn, NoneAfter, Parts, extreme_of, Breaks}
 use Rattle.window_plan.proofs.Missing.{at_min, at_max, turned, up_max_misses, up_min_misses, cp_ul_max_misses, cp_ul_min_misses, ta4_min_misses, ta4_max_misses}
-use Rattle.fh_time.proofs.Orders.{le_false as not_at_most}
+use Rattle.fh_base.proofs.Orders.{le_false as not_at_most}
 use Rattle.ecpri_fragments.proofs.Ids.{same_id as own_id}
 use Rattle.window_config.proofs.TickLemmas.{positive as some_ticks}
 use Rattle.std.specs.Int.Signed.{≤ℤ_refl}

@@ -3,7 +3,7 @@ use Rattle.std.proofs.Common.{refl}
 use Rattle.bfp_codec.specs.Layout.{be_bytes}
 use Rattle.bfp_codec.specs.Field.{field}
 use Rattle.document_traffic.specs.Sending.{delayed_behind}
-use Rattle.measured_traffic.specs.Measured.{delay_frame}
+use Rattle.document_traffic.specs.Measured.{delay_frame}
 use Rattle.worked_documents.specs.Measured.{MeasurementIsAsWorked}
 use Rattle.worked_documents.specs.Copies.{CopiesAreAsWorked}
 

@@ -13,8 +13,8 @@ use Rattle.delay_measure.specs.declared.steps.Kind.TheVariants.{One}
 use Rattle.document_traffic.specs.Landing.{landing_with}
 use Rattle.fault_counters.specs.declared.kinds.Counter.TheVariants.{DelayRepeat, DelayResult}
 use Rattle.fh_document.specs.declared.document.Document.{Document}
-use Rattle.measured_traffic.specs.Doings.{Doings, nothing, delay_of_id, taken}
-use Rattle.measured_traffic.specs.Replayed.{begun, leaving_made, told_frames}
+use Rattle.document_traffic.specs.Doings.{Doings, nothing, delay_of_id, taken}
+use Rattle.document_traffic.specs.Replayed.{begun, leaving_made, told_frames}
 use Rattle.worked_documents.specs.Common.{received, usual_document}
 
 -- 10 05 00 14, 07 00, 0 s and 999,900 ns, 100 ns

@@ -2,17 +2,17 @@
 use Rattle.std.proofs.Common.{refl}
 use Rattle.std.specs.Fmt.{digits}
 use Rattle.bfp_codec.specs.Field.{field}
-use Rattle.fh_time.specs.Frame.{absolute_frame}
+use Rattle.fh_base.specs.Frame.{absolute_frame}
 use Rattle.cplane_sections.specs.Message.{sections_of}
 use Rattle.cplane_sections.specs.Tests.{walked, checked}
-use Rattle.unit_model.specs.Lists.{every, some, onto}
+use Rattle.fh_base.specs.Lists.{every, some, onto}
 use Rattle.unit_model.specs.Meetings.{meet, meetings, commands, fragments}
 use Rattle.unit_model.specs.Commands.{command_verdict, accepted}
 use Rattle.unit_model.specs.Claims.{claim_at, every_cell, some_cell, repeats, overlaps}
 use Rattle.unit_model.specs.Blocks.{block_at, every_data_cell, has_all, data_verdict, timely}
 use Rattle.unit_model.specs.Decoding.{gathered, decode, data_sections}
 use Rattle.unit_model.specs.Radiated.{id_from}
-use Rattle.unit_memory.specs.Judgements.{judged_commands, judged_data, judged_whole, judged_in}
+use Rattle.unit_model.specs.Judgements.{judged_commands, judged_data, judged_whole, judged_in}
 use Rattle.unit_model.specs.Heard.{arrivals_heard}
 use Rattle.explain_model.specs.Stories.{arrival_count, told_after, stories_in}
 use Rattle.explain_model.specs.Pieces.{pieces}
@@ -23,10 +23,10 @@ use Rattle.explain_model.specs.Sections.{control_line, symbol_named, whole_line,
 use Rattle.explain_model.specs.Cells.{some_gives, giver_in, entries_after, lines_in}
 use Rattle.explain_model.specs.Margins.{dated, margin_of, margin_lines}
 use Rattle.explain_model.specs.Text.{shown_count, explain_of}
-use Rattle.explain_lines.specs.Lines.{line_text, margin_text, endpoint_text, whole_text, control_place_text, control_text, data_text}
-use Rattle.explain_lines.specs.Places.{run_text, message_text, timing_text, clash_text}
-use Rattle.explain_lines.specs.Reasons.{reason_text}
-use Rattle.explain_lines.specs.Faults.{is_fault}
+use Rattle.explain_model.specs.Lines.{line_text, margin_text, endpoint_text, whole_text, control_place_text, control_text, data_text}
+use Rattle.explain_model.specs.Places.{run_text, message_text, timing_text, clash_text}
+use Rattle.explain_model.specs.Reasons.{reason_text}
+use Rattle.explain_model.specs.Faults.{is_fault}
 use Rattle.air_source.specs.UnitLines.{delay_text, count_text}
 use Rattle.worked_explanations.specs.OneCommand.{OneCommandAreAsWorked}
 use Rattle.worked_explanations.specs.BothWays.{BothWaysAreAsWorked}

@@ -1,8 +1,8 @@
 -- What the documents have in common.
 use Rattle.std.specs.Prelude.{ℕ, ℤ, pos, true, false, if◌then◌else◌, List, [], Option, Some, None}
-use Rattle.fh_time.specs.Numbering.{offset_at, ordinary_at}
-use Rattle.fh_time.specs.declared.spacing.Spacing.TheVariants.{Khz30, Khz1x25}
-use Rattle.fh_time.specs.declared.values.Slot.{Slot}
+use Rattle.fh_base.specs.Numbering.{offset_at, ordinary_at}
+use Rattle.fh_base.specs.declared.spacing.Spacing.TheVariants.{Khz30, Khz1x25}
+use Rattle.fh_base.specs.declared.values.Slot.{Slot}
 use Rattle.fault_counters.specs.declared.kinds.Counter.{Counter}
 use Rattle.bfp_codec.specs.declared.samples.Wide.{Wide}
 use Rattle.bfp_codec.specs.declared.methods.Method.TheVariants.{Bfp}
@@ -13,8 +13,8 @@ use Rattle.air_source.specs.declared.events.Side.{Side}
 use Rattle.window_config.specs.declared.config.Config.{Config}
 use Rattle.window_config.specs.declared.endpoints.EndpointConfig.{EndpointConfig}
 use Rattle.plan_model.specs.Examples.{config_with, endpoint_of}
-use Rattle.explain_lines.specs.declared.places.PrbRun.{PrbRun}
-use Rattle.explain_lines.specs.declared.values.ExplainLine.{ExplainLine}
+use Rattle.explain_model.specs.declared.places.PrbRun.{PrbRun}
+use Rattle.explain_model.specs.declared.values.ExplainLine.{ExplainLine}
 use Rattle.explain_model.specs.Text.{Reasoned}
 
 -- the usual delays, and these endpoints

@@ -7,9 +7,9 @@ use Rattle.air_source.specs.declared.events.Side.TheVariants.{Ru, Du}
 use Rattle.window_config.specs.declared.config.Config.{Config}
 use Rattle.explain_model.specs.Text.{Reasoned, explain_of}
 use Rattle.worked_explanations.specs.Common.{arrives, cell, config_of, count, missing, slot_at, run, narrow, offset}
-use Rattle.explain_lines.specs.declared.values.ExplainLine.TheVariants as line
-use Rattle.explain_lines.specs.declared.reasons.Reason.TheVariants as reason
-use Rattle.explain_lines.specs.declared.reasons.ReasonWord.TheVariants as word
+use Rattle.explain_model.specs.declared.values.ExplainLine.TheVariants as line
+use Rattle.explain_model.specs.declared.reasons.Reason.TheVariants as reason
+use Rattle.explain_model.specs.declared.reasons.ReasonWord.TheVariants as word
 use Rattle.air_source.specs.Units.{same_side}
 
 abbrev pub frame_1 : List ℕ

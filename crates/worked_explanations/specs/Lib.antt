@@ -5,3 +5,4 @@ pub mod OverlapDocument
 pub mod LostFragment
 pub mod LateUplink
 pub mod Corners
+pub mod Whole

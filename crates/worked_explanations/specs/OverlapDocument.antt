@@ -7,9 +7,9 @@ use Rattle.window_config.specs.declared.config.Config.{Config}
 use Rattle.explain_model.specs.Text.{Reasoned, explain_of}
 use Rattle.worked_explanations.specs.Common.{arrives, cell, config_of, count, missing, slot_at, run, sums_at}
 use Rattle.plan_model.specs.Examples.{usual}
-use Rattle.explain_lines.specs.declared.values.ExplainLine.TheVariants as line
-use Rattle.explain_lines.specs.declared.reasons.Reason.TheVariants as reason
-use Rattle.explain_lines.specs.declared.reasons.ReasonWord.TheVariants as word
+use Rattle.explain_model.specs.declared.values.ExplainLine.TheVariants as line
+use Rattle.explain_model.specs.declared.reasons.Reason.TheVariants as reason
+use Rattle.explain_model.specs.declared.reasons.ReasonWord.TheVariants as word
 
 abbrev pub frame_1 : List ℕ
 frame_1 = 16 ∷ 2 ∷ 0 ∷ 20 ∷ 0 ∷ 0 ∷ 0 ∷ 128 ∷ 144 ∷ 1 ∷ 0 ∷ 0 ∷ 1 ∷ 1 ∷ 0 ∷ 0 ∷ 0 ∷ 16 ∷ 0 ∷ 1 ∷ 255 ∷ 241 ∷ 0 ∷ 0 ∷ []

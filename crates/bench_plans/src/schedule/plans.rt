@@ -5,8 +5,7 @@ ghost use Rattle.window_config.specs.Endpoints.{AreEndpoints};
 ghost use Rattle.window_config.specs.Plans.{IsPlanLine};
 
 use crate::configs::{self, endpoint, listed, whole};
-use fh_base::{List, NoMemory};
-use fh_time::{Numerology, Slot};
+use fh_base::{List, NoMemory, Numerology, Slot};
 use std::alloc::Global;
 use window_config::{Config, EndpointConfig, EndpointList, PlanLine};
 

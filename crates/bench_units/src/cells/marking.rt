@@ -7,7 +7,7 @@ use crate::cells::numbered::cell;
 use air_source::{AirCell, Side};
 use bfp_codec::{Format, Method};
 use eaxc_map::Widths;
-use fh_time::Numerology;
+use fh_base::Numerology;
 use idle_spans::Spans;
 use std::alloc::Global;
 use window_config::{Config, Delays, EndpointConfig, EndpointList};

@@ -4,7 +4,7 @@ ghost use Rattle.bench_units.specs.Cells.{cell_of};
 
 use air_source::{AirCell, Side};
 use bfp_codec::Wide;
-use fh_time::{Slot, Ticks};
+use fh_base::{Slot, Ticks};
 
 /// Cell k of a unit: PRB after PRB of 106, symbol after symbol of 14, slot after slot of 20 a frame.
 pub fn cell(k: u32) -> AirCell

@@ -2,8 +2,7 @@
 ghost use Rattle.std.specs.Prelude.{All, OnOk, IfOk};
 ghost use Rattle.window_config.specs.Plans.{IsPlanLine};
 
-use fh_base::{List, NoMemory};
-use fh_time::{Slot, shape};
+use fh_base::{List, NoMemory, Slot, shape};
 use std::alloc::Global;
 use window_config::{EndpointConfig, PlanKind, PlanLine};
 

@@ -7,9 +7,9 @@ use crate::slots::{TimedFrame, all_to_next_slot, frames_of, later};
 use crate::tally::Tally;
 use air_source::Side;
 use du_intake::Intake;
+use du_scheduler::tested;
 use fh_document::Document;
-use intake_samples::{close_before, made, step};
-use plan_check::tested;
+use intake_tests::{close_before, made, step};
 use std::alloc::Global;
 
 /// How many slots are delivered, how many are planned, and how far these lie apart.

@@ -6,7 +6,7 @@ ghost use Rattle.unit_model.specs.Proper.{IsTime};
 ghost use Rattle.ru_buffers.specs.Calls.{HasGivenPast, StandsFor, StandsForSome};
 
 use air_source::Air;
-use fh_time::Ticks;
+use fh_base::Ticks;
 use ru_buffers::Ru;
 
 /// How many moments, and messages of one moment, are passed at most.

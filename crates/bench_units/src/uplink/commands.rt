@@ -1,8 +1,8 @@
 // The command of each slot, and when it comes.
 ghost use Rattle.std.specs.Prelude.{◌≤ℤ◌, ◌^◌, pos};
-ghost use Rattle.fh_time.specs.declared.frames.TheConstants.{FRAME};
+ghost use Rattle.fh_base.specs.declared.frames.TheConstants.{FRAME};
 
-use fh_time::{FRAME, Ticks};
+use fh_base::{FRAME, Ticks};
 
 /// A slot of 30 kHz, in ticks.
 const SLOT: i64 = 768_000_000;

@@ -6,7 +6,7 @@ ghost use Rattle.window_config.specs.Endpoints.{IsEndpoint};
 
 use bfp_codec::{Format, Method};
 use eaxc_map::Widths;
-use fh_time::Numerology;
+use fh_base::Numerology;
 use window_config::{Config, Delays, EndpointConfig, EndpointList};
 
 /// 106 PRBs with this compression.

@@ -11,8 +11,7 @@ ghost use Rattle.window_config.specs.declared.config.Config.{Config as SpecConfi
 
 use air_source::{AirFault, Link, MemoryAir, MemoryLink, RePlace, Samples};
 use bfp_codec::Wide;
-use fh_base::NoMemory;
-use fh_time::Ticks;
+use fh_base::{NoMemory, Ticks};
 use ru_buffers::{Delivered, Ru};
 use std::alloc::Global;
 use uplink_path::Uplink;

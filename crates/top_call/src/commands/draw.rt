@@ -7,9 +7,8 @@ ghost use Rattle.top_call.specs.Run.{Performs};
 use crate::endings::drawn_status;
 use crate::status::Status;
 use fh_base::Sink;
-use grid_picture::draw_grid;
+use pictures::{draw_grid, draw_windows};
 use std::alloc::Global;
-use window_picture::draw_windows;
 
 /// Draws the resource grid of some subframes.
 pub(crate) fn write_grid<K: Sink>(

@@ -2,7 +2,7 @@
 ghost use Rattle.std.specs.Prelude.{◌≡◌, IfOk};
 ghost use Rattle.document_traffic.specs.Sending.{sent_for};
 ghost use Rattle.du_scheduler.specs.Plans.{HasToSend};
-ghost use Rattle.explain_text.specs.Text.{HasFewFrames};
+ghost use Rattle.document_texts.specs.Text.{HasFewFrames};
 ghost use Rattle.fh_document.specs.Document.{document_of};
 ghost use Rattle.fh_document.specs.Proper.{IsDocument};
 ghost use Rattle.top_call.specs.Answers.{explained, of_document, of_planned};
@@ -12,8 +12,8 @@ ghost use Rattle.top_call.specs.declared.status.Status.TheVariants.{Done};
 use crate::endings::text_status;
 use crate::planning::read_planned;
 use crate::status::Status;
+use document_texts::explain;
 use du_scheduler::Plan;
-use explain_text::explain;
 use fh_base::Sink;
 use fh_document::Document;
 use std::alloc::Global;

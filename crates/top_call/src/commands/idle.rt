@@ -11,10 +11,10 @@ ghost use Rattle.top_call.specs.Run.{Performs};
 use crate::endings::text_status;
 use crate::planning::read_planned;
 use crate::status::Status;
+use document_texts::write_idle;
 use du_scheduler::Plan;
 use fh_base::Sink;
 use fh_document::Document;
-use idle_replay::write_idle;
 use std::alloc::Global;
 
 /// Reads a document and writes when its endpoints are idle.

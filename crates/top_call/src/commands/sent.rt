@@ -10,10 +10,10 @@ ghost use Rattle.top_call.specs.Run.{Performs};
 use crate::endings::ending_of;
 use crate::planning::read_planned;
 use crate::status::Status;
+use document_texts::list_sent;
 use du_scheduler::Plan;
 use fh_base::Sink;
 use fh_document::Document;
-use sent_text::list_sent;
 use std::alloc::Global;
 
 /// Reads a document and lists the frames that its plan sends.

@@ -9,10 +9,10 @@ ghost use Rattle.top_call.specs.Run.{Performs};
 use crate::endings::share_status;
 use crate::planning::read_planned;
 use crate::status::Status;
+use document_texts::share;
 use du_scheduler::Plan;
 use fh_base::Sink;
 use fh_document::Document;
-use shared_text::share;
 use std::alloc::Global;
 
 /// Reads a document and writes what the units of a shared cell do with it.

@@ -1,8 +1,9 @@
 use Rattle.std.proofs.Common.{◌∙◌, ap, sym, subst, arith, is_some}
 use Rattle.command_words.specs.Answered.{AnswersWords}
 use Rattle.command_words.specs.Words.{command_of}
-use Rattle.command_words.proofs.Readings.{no_text, all_texts, none_of}
+use Rattle.command_words.proofs.Readings.{no_text, all_texts}
 use Rattle.command_words.proofs.reading.read_words.Goals as goal
+use Rattle.fh_base.proofs.CommonLemmas.{none_of}
 
 pub returns-in-None-clause-answers : goal.returns-in-None-clause-answers
 returns-in-None-clause-answers c = no_text c.args.words.now c.loop-i.i (omega arith) c.in-None.ensures

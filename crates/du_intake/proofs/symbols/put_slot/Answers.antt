@@ -1,7 +1,7 @@
 use Rattle.std.proofs.Common.{◌+◌, length}
-use Rattle.unit_model.proofs.SweepLaws.{none_yet, one_more}
 use Rattle.du_intake.specs.Symbols.{symbol_if}
 use Rattle.du_intake.proofs.symbols.put_slot.Goals as goal
+use Rattle.fh_base.proofs.EachLemmas.{none_yet, one_more}
 
 pub loop-symbol-init : goal.loop-symbol-init
 loop-symbol-init c = none_yet c.args.symbols.now.items (symbol_if c.args.endpoint.now c.args.slot c.args.own.now c.args.first (c.args.first + length c.args.own.now))

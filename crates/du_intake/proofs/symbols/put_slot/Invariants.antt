@@ -1,5 +1,5 @@
 use Rattle.std.proofs.Common.{◌≡◌, ◌+◌, ◌++◌, length}
-use Rattle.unit_model.specs.Lists.{each}
+use Rattle.fh_base.specs.Lists.{each}
 use Rattle.du_intake.specs.Symbols.{symbol_if}
 use Rattle.du_intake.proofs.symbols.put_slot.Given as goal
 

@@ -2,7 +2,7 @@
 use Rattle.std.proofs.Common.{◌≤◌, ◌<◌, ◌^◌, List, length, map, ap, sym, ◌∙◌, subst}
 use Rattle.std.specs.List.{AllByRecursion}
 use Rattle.plan_model.specs.Streams.{parts_in}
-use Rattle.plan_parts.specs.declared.parts.TimedPart.{TimedPart}
+use Rattle.du_scheduler.specs.declared.parts.TimedPart.{TimedPart}
 use Rattle.du_scheduler.specs.Kept.{placed_line_of}
 use Rattle.schedule_laws.proofs.TabledLemmas.{placed, has_endpoint, short, few_of}
 use Rattle.du_scheduler.proofs.MessageLemmas.{lines_are}

@@ -2,10 +2,10 @@ use Rattle.std.proofs.Common.{rules, ◌≡◌, List, ◌++◌, subst}
 use Rattle.std.proofs.lemmas.Result.{IfErr-weaker, on_ok_weaker}
 use Rattle.explain_air.proofs.ClosingLemmas.{ending_is, sums_after}
 use Rattle.explain_air.proofs.Stopping.{some_first, some_second}
-use Rattle.explain_growth.specs.Subjects.{reasons_of}
-use Rattle.explain_lines.specs.declared.values.ExplainLine.{ExplainLine}
+use Rattle.explain_model.specs.Subjects.{reasons_of}
+use Rattle.explain_model.specs.declared.values.ExplainLine.{ExplainLine}
 use Rattle.explain_model.specs.Cells.{event_lines}
-use Rattle.line_runs.specs.Stops.{StopsSome}
+use Rattle.explain_heard.specs.Stops.{StopsSome}
 use Rattle.explain_air.proofs.closing.tell_ending.Goals as goal
 
 pub returns-in-Ok-tell_margins-clause-heard : goal.returns-in-Ok-tell_margins-clause-heard

@@ -2,7 +2,7 @@ use Rattle.std.proofs.Common.{rules, ◌≡◌, refl, ◌∙◌}
 use Rattle.std.proofs.lemmas.Result.{IfErr-weaker, on_ok_weaker}
 use Rattle.explain_air.proofs.ClosingLemmas.{last_is}
 use Rattle.explain_air.proofs.Stopping.{some_nothing}
-use Rattle.explain_growth.specs.Subjects.{reason_lines}
+use Rattle.explain_model.specs.Subjects.{reason_lines}
 use Rattle.explain_air.proofs.closing.tell_last.Goals as goal
 
 pub returns-in-Err-clause-stop : goal.returns-in-Err-clause-stop

@@ -3,9 +3,9 @@ use Rattle.std.proofs.lemmas.Result.{IfErr-weaker, on_ok_weaker}
 use Rattle.air_source.specs.declared.events.Side.TheVariants.{Ru, Du}
 use Rattle.explain_air.proofs.ClosingLemmas.{margins_are}
 use Rattle.explain_air.proofs.Stopping.{some_first, some_line, some_second}
-use Rattle.explain_lines.specs.declared.values.ExplainLine.{ExplainLine}
+use Rattle.explain_model.specs.declared.values.ExplainLine.{ExplainLine}
 use Rattle.explain_model.specs.Margins.{dated, margins_at}
-use Rattle.line_runs.specs.Stops.{StopsSome}
+use Rattle.explain_heard.specs.Stops.{StopsSome}
 use Rattle.explain_air.proofs.closing.tell_margins.Goals as goal
 
 pub returns-in-Err-clause-stop : goal.returns-in-Err-clause-stop

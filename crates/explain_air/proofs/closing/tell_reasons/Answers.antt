@@ -5,11 +5,11 @@ use Rattle.explain_air.proofs.Stopping.{some_first, some_second}
 use Rattle.explain_air.specs.Closing.{rest_of}
 use Rattle.explain_air.specs.NoteLaws.{noted_more}
 use Rattle.explain_air.specs.Notes.{HasNoted}
-use Rattle.explain_lines.specs.declared.values.ExplainLine.{ExplainLine}
-use Rattle.line_runs.specs.Stops.{StopsSome}
+use Rattle.explain_model.specs.declared.values.ExplainLine.{ExplainLine}
+use Rattle.explain_heard.specs.Stops.{StopsSome}
 use Rattle.explain_records.specs.Missing.{missing_text}
-use Rattle.silent_lines.specs.Silent.{silent_text}
-use Rattle.unused_lines.specs.Unused.{unused_text}
+use Rattle.why_lines.specs.Silent.{silent_text}
+use Rattle.why_lines.specs.Unused.{unused_text}
 use Rattle.explain_air.proofs.closing.tell_reasons.Goals as goal
 
 pub returns-in-Ok-clause-noted : goal.returns-in-Ok-clause-noted

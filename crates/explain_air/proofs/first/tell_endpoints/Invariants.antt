@@ -1,7 +1,7 @@
 use Rattle.std.proofs.Common.{◌≡◌, take}
 use Rattle.std.specs.List.{flat_map}
 use Rattle.explain_air.proofs.FirstLemmas.{one_of}
-use Rattle.explain_lines.specs.declared.values.ExplainLine.TheVariants as line
+use Rattle.explain_model.specs.declared.values.ExplainLine.TheVariants as line
 use Rattle.explain_air.proofs.first.tell_endpoints.Given as goal
 
 abbrev pub invariant-loop-endpoint : goal.invariant-loop-endpoint

@@ -1,11 +1,11 @@
 -- The windows, and then the endpoints.
 use Rattle.std.proofs.Common.{List, subst}
 use Rattle.std.proofs.lemmas.Result.{IfErr-weaker, on_ok_weaker}
-use Rattle.explain_lines.specs.declared.values.ExplainLine.{ExplainLine}
+use Rattle.explain_model.specs.declared.values.ExplainLine.{ExplainLine}
 use Rattle.explain_model.specs.Text.{endpoint_lines, window_lines}
 use Rattle.explain_units.proofs.StopLemmas.{in_before}
-use Rattle.line_runs.specs.Stops.{StopsInLine}
-use Rattle.unused_lines.proofs.TellLemmas.{stops_last}
+use Rattle.explain_heard.specs.Stops.{StopsInLine}
+use Rattle.why_lines.proofs.TellLemmas.{stops_last}
 use Rattle.window_config.specs.declared.endpoints.EndpointConfig.{EndpointConfig}
 use Rattle.explain_air.proofs.first.tell_first.Goals as goal
 

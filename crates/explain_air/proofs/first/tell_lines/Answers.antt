@@ -2,10 +2,10 @@
 use Rattle.std.proofs.Common.{List, refl, ap, subst, ◌∙◌}
 use Rattle.std.specs.List.{flat_map}
 use Rattle.explain_air.proofs.FirstLemmas.{all_itself, itself, one_of}
-use Rattle.explain_lines.specs.declared.values.ExplainLine.{ExplainLine}
+use Rattle.explain_model.specs.declared.values.ExplainLine.{ExplainLine}
 use Rattle.explain_records.proofs.NearestLemmas.{take_all}
-use Rattle.line_runs.specs.Stops.{StopsInLine}
-use Rattle.unused_lines.proofs.TellLemmas.{grew_next, stops_next}
+use Rattle.explain_heard.specs.Stops.{StopsInLine}
+use Rattle.why_lines.proofs.TellLemmas.{grew_next, stops_next}
 use Rattle.explain_units.proofs.StopLemmas.{in_one}
 use Rattle.explain_air.proofs.first.tell_lines.Goals as goal
 

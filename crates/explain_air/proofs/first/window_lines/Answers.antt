@@ -1,7 +1,7 @@
 -- Line by line.
 use Rattle.std.proofs.Common.{[], ◌∷◌, ap, ◌∙◌}
-use Rattle.explain_lines.specs.declared.values.ExplainLine.TheVariants as line
-use Rattle.explain_lines.specs.declared.values.WindowName.TheVariants.{T1aCpDl, T2aCpDl}
+use Rattle.explain_model.specs.declared.values.ExplainLine.TheVariants as line
+use Rattle.explain_model.specs.declared.values.WindowName.TheVariants.{T1aCpDl, T2aCpDl}
 use Rattle.window_config.specs.declared.delays.Range.{Range}
 use Rattle.explain_air.proofs.first.window_lines.Goals as goal
 

@@ -2,12 +2,12 @@ use Rattle.std.proofs.Common.{rules, ◌≡◌, List, refl, ap, subst, sym, ◌�
 use Rattle.std.specs.Prelude.{All}
 use Rattle.explain_air.proofs.ArrivalLemmas.{arrivals_are}
 use Rattle.explain_air.proofs.SoundLemmas.{all_sound}
-use Rattle.explain_growth.proofs.Steps.{arrival_stories, story_after}
+use Rattle.explain_model.proofs.Steps.{arrival_stories, story_after}
 use Rattle.explain_heard.specs.declared.heard.Heard.{Heard}
 use Rattle.explain_model.specs.Stories.{Story, arrival_with, stories}
-use Rattle.heard_records.specs.Records.{HaveHeard}
-use Rattle.heard_records.specs.Sound.{IsSoundHeard}
-use Rattle.unit_memory.specs.Judgements.{judgements}
+use Rattle.explain_records.specs.Records.{HaveHeard}
+use Rattle.explain_records.specs.Sound.{IsSoundHeard}
+use Rattle.unit_model.specs.Judgements.{judgements}
 use Rattle.unit_model.specs.Meetings.{Arrival}
 use Rattle.explain_air.proofs.kept.hear.Goals as goal
 

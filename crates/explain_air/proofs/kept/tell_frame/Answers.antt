@@ -5,7 +5,7 @@ use Rattle.air_source.specs.declared.events.Event.{Event}
 use Rattle.air_source.specs.declared.events.Side.{Side}
 use Rattle.explain_air.proofs.NotingLemmas.{noting_stops}
 use Rattle.explain_model.specs.Stories.{arrival_count}
-use Rattle.line_runs.specs.Stops.{StopsSome}
+use Rattle.explain_heard.specs.Stops.{StopsSome}
 use Rattle.explain_units.specs.Units.{IsUnitAfter, frame_lines}
 use Rattle.window_config.specs.declared.config.Config.{Config}
 use Rattle.explain_air.proofs.kept.tell_frame.Goals as goal

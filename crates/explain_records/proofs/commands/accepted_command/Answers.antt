@@ -1,6 +1,6 @@
 -- The first that passes.
 use Rattle.std.proofs.Common.{sym, ◌∙◌}
-use Rattle.explain_reasons.specs.Commanded.{accepted_command, is_accepted_for}
+use Rattle.explain_model.specs.Commanded.{accepted_command, is_accepted_for}
 use Rattle.explain_records.specs.Elements.{elements}
 use Rattle.explain_records.proofs.NearestLemmas.{find_all, find_here, find_step}
 use Rattle.explain_records.proofs.commands.accepted_command.Goals as goal

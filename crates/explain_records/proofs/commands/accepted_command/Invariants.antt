@@ -1,6 +1,6 @@
 use Rattle.std.proofs.Common.{◌≡◌, None, take}
 use Rattle.std.specs.List.{find}
-use Rattle.explain_reasons.specs.Commanded.{is_accepted_for}
+use Rattle.explain_model.specs.Commanded.{is_accepted_for}
 use Rattle.explain_records.specs.Elements.{elements}
 use Rattle.explain_records.proofs.commands.accepted_command.Given as goal
 

@@ -1,6 +1,6 @@
 -- One record more.
 use Rattle.std.proofs.Common.{refl}
-use Rattle.explain_reasons.specs.Commanded.{is_refused_for, nearest}
+use Rattle.explain_model.specs.Commanded.{is_refused_for, nearest}
 use Rattle.explain_records.specs.Elements.{elements}
 use Rattle.explain_records.proofs.NearestLemmas.{nearest_on}
 use Rattle.explain_records.proofs.commands.refused_command.Goals as goal

@@ -1,5 +1,5 @@
 use Rattle.std.proofs.Common.{◌≡◌, filter, take}
-use Rattle.explain_reasons.specs.Commanded.{is_refused_for, nearest}
+use Rattle.explain_model.specs.Commanded.{is_refused_for, nearest}
 use Rattle.explain_records.specs.Elements.{elements}
 use Rattle.explain_records.proofs.commands.refused_command.Given as goal
 

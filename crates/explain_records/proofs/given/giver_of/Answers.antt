@@ -1,6 +1,6 @@
 -- The first that passes.
 use Rattle.std.proofs.Common.{sym, ◌∙◌}
-use Rattle.explain_reasons.specs.Reasons.{gives_prb, giver_of}
+use Rattle.explain_model.specs.SilentReasons.{gives_prb, giver_of}
 use Rattle.explain_records.proofs.NearestLemmas.{find_all, find_here, find_step}
 use Rattle.explain_records.proofs.given.giver_of.Goals as goal
 

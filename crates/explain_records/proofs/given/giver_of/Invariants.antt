@@ -1,6 +1,6 @@
 use Rattle.std.proofs.Common.{◌≡◌, None, take}
 use Rattle.std.specs.List.{find}
-use Rattle.explain_reasons.specs.Reasons.{gives_prb}
+use Rattle.explain_model.specs.SilentReasons.{gives_prb}
 use Rattle.explain_records.proofs.given.giver_of.Given as goal
 
 abbrev pub invariant-loop-r : goal.invariant-loop-r

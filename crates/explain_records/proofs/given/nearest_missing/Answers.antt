@@ -1,7 +1,7 @@
 -- One record more.
 use Rattle.std.proofs.Common.{refl}
-use Rattle.explain_reasons.specs.Commanded.{nearest}
-use Rattle.explain_reasons.specs.Reasons.{misses_prb}
+use Rattle.explain_model.specs.Commanded.{nearest}
+use Rattle.explain_model.specs.SilentReasons.{misses_prb}
 use Rattle.explain_records.proofs.NearestLemmas.{nearest_on}
 use Rattle.explain_records.proofs.given.nearest_missing.Goals as goal
 

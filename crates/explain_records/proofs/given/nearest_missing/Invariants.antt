@@ -1,6 +1,6 @@
 use Rattle.std.proofs.Common.{◌≡◌, filter, take}
-use Rattle.explain_reasons.specs.Commanded.{nearest}
-use Rattle.explain_reasons.specs.Reasons.{misses_prb}
+use Rattle.explain_model.specs.Commanded.{nearest}
+use Rattle.explain_model.specs.SilentReasons.{misses_prb}
 use Rattle.explain_records.proofs.given.nearest_missing.Given as goal
 
 abbrev pub invariant-loop-r : goal.invariant-loop-r

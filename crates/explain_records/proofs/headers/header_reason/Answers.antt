@@ -1,7 +1,7 @@
 -- The first that passes.
 use Rattle.std.proofs.Common.{Some, ap, sym, ◌∙◌}
-use Rattle.explain_reasons.specs.Reasons.{header_of, header_reason}
-use Rattle.reason_records.specs.Keys.{header_key, same_symbol}
+use Rattle.explain_model.specs.SilentReasons.{header_of, header_reason}
+use Rattle.explain_model.specs.Keys.{header_key, same_symbol}
 use Rattle.explain_records.proofs.NearestLemmas.{find_all, find_here, find_step}
 use Rattle.explain_records.proofs.headers.header_reason.Goals as goal
 

@@ -1,7 +1,7 @@
 -- One record more.
 use Rattle.std.proofs.Common.{refl}
-use Rattle.explain_reasons.specs.Reasons.{last_of}
-use Rattle.reason_records.specs.Keys.{beginning_key, same_symbol}
+use Rattle.explain_model.specs.SilentReasons.{last_of}
+use Rattle.explain_model.specs.Keys.{beginning_key, same_symbol}
 use Rattle.explain_records.proofs.NearestLemmas.{last_on}
 use Rattle.explain_records.proofs.headers.last_begun.Goals as goal
 

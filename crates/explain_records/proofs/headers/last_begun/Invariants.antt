@@ -1,6 +1,6 @@
 use Rattle.std.proofs.Common.{◌≡◌, filter, take}
-use Rattle.explain_reasons.specs.Reasons.{last_of}
-use Rattle.reason_records.specs.Keys.{beginning_key, same_symbol}
+use Rattle.explain_model.specs.SilentReasons.{last_of}
+use Rattle.explain_model.specs.Keys.{beginning_key, same_symbol}
 use Rattle.explain_records.proofs.headers.last_begun.Given as goal
 
 abbrev pub invariant-loop-r : goal.invariant-loop-r

@@ -1,7 +1,7 @@
 -- The first that passes.
 use Rattle.std.proofs.Common.{ap, sym, ◌∙◌}
-use Rattle.explain_reasons.specs.Reasons.{repeated_of, repeated_reason}
-use Rattle.reason_records.specs.Keys.{repeated_key, same_symbol}
+use Rattle.explain_model.specs.SilentReasons.{repeated_of, repeated_reason}
+use Rattle.explain_model.specs.Keys.{repeated_key, same_symbol}
 use Rattle.explain_records.proofs.NearestLemmas.{find_all, find_here, find_step}
 use Rattle.explain_records.proofs.headers.repeated_reason.Goals as goal
 

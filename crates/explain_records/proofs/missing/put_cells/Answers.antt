@@ -1,11 +1,11 @@
 -- PRB by PRB.
 use Rattle.std.proofs.Common.{◌≡◌, ◌-◌, [], ◌∷◌, refl, subst, ap, ◌∙◌, arith}
-use Rattle.unit_model.specs.Lists.{each}
-use Rattle.line_runs.specs.Runs.{HasPut, StopsPutting}
-use Rattle.line_runs.proofs.PutLemmas.{each_none, each_put, each_stop}
+use Rattle.fh_base.specs.Lists.{each}
+use Rattle.explain_heard.specs.Runs.{HasPut, StopsPutting}
+use Rattle.explain_heard.proofs.PutLemmas.{each_none, each_put, each_stop}
 use Rattle.explain_records.specs.Elements.{at_symbol}
-use Rattle.explain_reasons.specs.Reasons.{missing_reason}
-use Rattle.reason_records.specs.Keys.{run_key}
+use Rattle.explain_model.specs.SilentReasons.{missing_reason}
+use Rattle.explain_model.specs.Keys.{run_key}
 use Rattle.explain_records.specs.Missing.{missing_line_of, missing_prb_at, missing_related}
 use Rattle.explain_records.specs.declared.missing.MissingPrb.{MissingPrb}
 use Rattle.explain_records.proofs.missing.put_cells.Goals as goal

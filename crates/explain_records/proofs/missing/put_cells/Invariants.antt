@@ -1,7 +1,7 @@
 use Rattle.std.proofs.Common.{◌≡◌, ◌-◌}
-use Rattle.unit_model.specs.Lists.{each}
+use Rattle.fh_base.specs.Lists.{each}
 use Rattle.explain_records.specs.Elements.{at_symbol}
-use Rattle.line_runs.specs.Runs.{HasPut}
+use Rattle.explain_heard.specs.Runs.{HasPut}
 use Rattle.explain_records.specs.Missing.{missing_line_of, missing_prb_at, missing_related}
 use Rattle.explain_records.proofs.missing.put_cells.Given as goal
 

@@ -1,10 +1,10 @@
 -- A run without samples, by the records of its symbol.
 use Rattle.std.proofs.Common.{◌≡◌, Bool, List, [], if◌then◌else◌, OnOk, IfErr, ap, subst, sym, ◌∙◌}
-use Rattle.explain_reasons.specs.Reasons.{Kept, of_symbol}
+use Rattle.explain_model.specs.SilentReasons.{Kept, of_symbol}
 use Rattle.explain_records.specs.Elements.{at_symbol}
-use Rattle.reason_records.specs.declared.keys.SymbolKey.{SymbolKey}
-use Rattle.line_runs.specs.Runs.{HasPut, StopsPutting}
-use Rattle.line_runs.proofs.RunLemmas.{put_none}
+use Rattle.explain_model.specs.declared.keys.SymbolKey.{SymbolKey}
+use Rattle.explain_heard.specs.Runs.{HasPut, StopsPutting}
+use Rattle.explain_heard.proofs.RunLemmas.{put_none}
 use Rattle.explain_records.specs.Missing.{missing_line_of, missing_prbs_by, missing_prbs_of, missing_related}
 use Rattle.explain_records.specs.declared.missing.MissingPrb.{MissingPrb}
 use Rattle.explain_records.proofs.MissingLemmas.{alone}

@@ -2,9 +2,9 @@
 use Rattle.std.proofs.Common.{refl, subst, ◌∙◌}
 use Rattle.std.specs.List.{flat_map}
 use Rattle.explain_records.proofs.NearestLemmas.{take_all}
-use Rattle.line_runs.specs.Runs.{HasPut}
-use Rattle.line_runs.proofs.PutLemmas.{some_put, some_stop}
-use Rattle.line_runs.proofs.RunLemmas.{put_none}
+use Rattle.explain_heard.specs.Runs.{HasPut}
+use Rattle.explain_heard.proofs.PutLemmas.{some_put, some_stop}
+use Rattle.explain_heard.proofs.RunLemmas.{put_none}
 use Rattle.explain_records.specs.Missing.{missing_line_of, missing_prbs_of, missing_related}
 use Rattle.explain_records.proofs.missing.put_runs.Goals as goal
 

@@ -1,5 +1,5 @@
 use Rattle.std.proofs.Common.{◌≡◌, take}
-use Rattle.line_runs.specs.Runs.{HasPut}
+use Rattle.explain_heard.specs.Runs.{HasPut}
 use Rattle.explain_records.specs.Missing.{missing_line_of, missing_prbs, missing_related}
 use Rattle.explain_records.proofs.missing.put_runs.Given as goal
 

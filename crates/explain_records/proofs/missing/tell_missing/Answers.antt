@@ -1,9 +1,9 @@
 -- From no item on to all.
 use Rattle.std.proofs.Common.{List, [], append-nil, subst, sym}
 use Rattle.std.proofs.lemmas.Result.{IfErr-weaker, on_ok_weaker}
-use Rattle.line_runs.specs.Runs.{AreRun, run_lines}
-use Rattle.line_runs.specs.Stops.{StopsInLine}
-use Rattle.line_runs.proofs.RunLemmas.{none_yet}
+use Rattle.explain_heard.specs.Runs.{AreRun, run_lines}
+use Rattle.explain_heard.specs.Stops.{StopsInLine}
+use Rattle.explain_heard.proofs.RunLemmas.{none_yet}
 use Rattle.explain_records.specs.Missing.{missing_line_of, missing_prbs, missing_related}
 use Rattle.explain_records.specs.declared.missing.MissingPrb.{MissingPrb}
 use Rattle.explain_records.proofs.missing.tell_missing.Goals as goal

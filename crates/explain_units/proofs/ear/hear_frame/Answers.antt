@@ -1,6 +1,6 @@
 -- A frame that is judged.
 use Rattle.std.proofs.Common.{[], ◌∷◌}
-use Rattle.unit_memory.specs.Judgements.{judgements}
+use Rattle.unit_model.specs.Judgements.{judgements}
 use Rattle.unit_memory.specs.Memory.{arrival_at}
 use Rattle.explain_units.proofs.EarLemmas.{heard_fit, rebased}
 use Rattle.explain_units.proofs.ear.hear_frame.Goals as goal

@@ -1,6 +1,6 @@
 -- Class by class.
 use Rattle.std.proofs.Common.{◌++◌}
-use Rattle.explain_lines.specs.declared.values.MarginClass.TheVariants.{Down, Up, Data}
+use Rattle.explain_model.specs.declared.values.MarginClass.TheVariants.{Down, Up, Data}
 use Rattle.explain_units.specs.MarginLines.{class_said}
 use Rattle.explain_units.proofs.StopLemmas.{in_after, in_before}
 use Rattle.explain_units.proofs.margins.tell_all.Goals as goal

@@ -3,7 +3,7 @@ use Rattle.std.proofs.Common.{IfErr, subst}
 use Rattle.std.proofs.lemmas.Result.{IfErr-weaker}
 use Rattle.explain_units.proofs.MarginLemmas.{margin_is}
 use Rattle.explain_units.proofs.StopLemmas.{in_one}
-use Rattle.line_runs.specs.Stops.{StopsInLine}
+use Rattle.explain_heard.specs.Stops.{StopsInLine}
 use Rattle.explain_units.proofs.margins.tell_margin.Goals as goal
 
 pub returns-then-is_of_some-clause-stop : goal.returns-then-is_of_some-clause-stop

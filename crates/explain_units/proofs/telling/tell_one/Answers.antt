@@ -1,7 +1,7 @@
 -- The line of a part, and what is kept of it.
 use Rattle.std.proofs.Common.{subst}
 use Rattle.explain_units.specs.Known.{as_lines}
-use Rattle.line_runs.specs.Stops.{StopsSome, Within}
+use Rattle.explain_heard.specs.Stops.{StopsSome, Within}
 use Rattle.explain_units.proofs.telling.tell_one.Goals as goal
 
 pub returns-in-Err-clause-stop : goal.returns-in-Err-clause-stop

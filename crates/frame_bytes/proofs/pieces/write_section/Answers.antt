@@ -1,5 +1,5 @@
 use Rattle.std.proofs.Common.{◌≡◌, ◌+◌, ◌++◌, length, ap, ◌∙◌, arith, append_assoc, length-append}
-use Rattle.fh_time.specs.Carrier.{first_of, count_of}
+use Rattle.fh_base.specs.Carrier.{first_of, count_of}
 use Rattle.frame_bytes.specs.Spelled.{in_bytes}
 use Rattle.frame_bytes.specs.Messages.{packed_prbs, section_fields, section_of}
 use Rattle.frame_bytes.proofs.pieces.write_section.Goals as goal

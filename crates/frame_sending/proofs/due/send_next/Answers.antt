@@ -1,6 +1,6 @@
 use Rattle.std.proofs.Common.{inl, subst}
 use Rattle.std.proofs.lemmas.Result.{on_ok_weaker}
-use Rattle.frame_deliveries.specs.Leaving.{Leaving}
+use Rattle.frame_ways.specs.Leaving.{Leaving}
 use Rattle.frame_ways.specs.Ways.{StandsFor, having_sent}
 use Rattle.frame_sending.proofs.DueLemmas.{gives_one, has_rest, leaves_as, leaves_then, may_be_sent}
 use Rattle.frame_sending.proofs.due.send_next.Goals as goal

@@ -3,8 +3,9 @@ use Rattle.std.proofs.lemmas.Result.{on_err_weaker, on_ok_weaker}
 use Rattle.report_airs.specs.CaptureAirs.{sink_of, owed_of}
 use Rattle.fronthaul_replay.proofs.Cuts.{capture_cut, capture_cut_part, capture_done, capture_front, capture_part}
 use Rattle.fronthaul_replay.proofs.FaultLemmas.{last_cause, same_cause}
-use Rattle.fronthaul_replay.proofs.Written.{at_error, error_passed}
+use Rattle.fronthaul_replay.proofs.Written.{error_passed}
 use Rattle.fronthaul_replay.proofs.capture.capture_document.Goals as goal
+use Rattle.fh_base.proofs.CommonLemmas.{on_err as at_error}
 
 pub returns-clause-front : goal.returns-clause-front
 returns-clause-front g c =

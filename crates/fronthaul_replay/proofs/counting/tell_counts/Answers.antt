@@ -5,8 +5,8 @@ use Rattle.air_source.specs.declared.events.Event.{Event}
 use Rattle.fault_counters.specs.declared.kinds.Counter.TheVariants.{Frames}
 use Rattle.fronthaul_replay.specs.Counting.{told_number}
 use Rattle.fronthaul_replay.proofs.CountLemmas.{counts_to, heard_among, stops_among, told_are, told_to_end}
-use Rattle.fronthaul_replay.proofs.CauseLemmas.{cause_passed}
 use Rattle.fronthaul_replay.proofs.counting.tell_counts.Goals as goal
+use Rattle.unit_moments.proofs.CauseLemmas.{cause_passed}
 
 -- of so many counters
 inside : (n i : ℕ) → n ≡ 33 → i < 33 → i < n

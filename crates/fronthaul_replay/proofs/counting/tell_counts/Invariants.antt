@@ -1,7 +1,7 @@
 use Rattle.std.proofs.Common.{take, ◌≡◌}
 use Rattle.delay_exchange.specs.Units.{HasDoings}
 use Rattle.delay_measure.specs.declared.edge.Compensation.{Compensation}
-use Rattle.measured_traffic.specs.Doings.{Doings}
+use Rattle.document_traffic.specs.Doings.{Doings}
 use Rattle.fronthaul_replay.proofs.CountLemmas.{counts_to}
 use Rattle.fronthaul_replay.proofs.counting.tell_counts.Given as goal
 

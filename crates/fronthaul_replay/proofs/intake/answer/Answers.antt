@@ -1,6 +1,7 @@
-use Rattle.fronthaul_replay.proofs.AnswerLemmas.{are_later, are_of, frames_then, handed_now, handed_then, may_send, numbered_before, ok_both, radio_stays, radio_then}
+use Rattle.fronthaul_replay.proofs.AnswerLemmas.{are_later, are_of, frames_then, handed_now, handed_then, may_send, numbered_before, radio_stays, radio_then}
 use Rattle.fronthaul_replay.proofs.intake.answer.Goals as goal
 use Rattle.unit_model.specs.Standing.{owed_until}
+use Rattle.report_airs.proofs.Recording.{ok_both}
 
 pub emit-requires : goal.emit-requires
 emit-requires g c ready = let a = c.args.answers.now in may_send _ _ c.args.ru.now a.uplink a.outbox.frames a.queue a.way c.requires

@@ -2,7 +2,7 @@ use Rattle.std.proofs.Common.{rules, ◌≡◌, inl, ◌∙◌}
 use Rattle.std.proofs.lemmas.Result.{IfErr-at_err, on_ok_weaker}
 use Rattle.air_source.specs.declared.airs.AirFault.TheVariants.{Failed, NoMemory}
 use Rattle.air_source.specs.declared.events.Side.TheVariants.{Du as AtDu}
-use Rattle.document_delays.specs.Settings.{compensation_of}
+use Rattle.document_traffic.specs.Settings.{compensation_of}
 use Rattle.du_intake.specs.Calls.{IntakeMayTake}
 use Rattle.fronthaul_replay.specs.Waiting.{begun_at, on_way}
 use Rattle.fronthaul_replay.proofs.LandLemmas.{events_heard, here, may_land, meter_has, same, told_is, unit_stands, waits_on}

@@ -1,7 +1,6 @@
 use Rattle.std.proofs.Common.{refl, inr}
 use Rattle.std.proofs.lemmas.Result.{on_ok_weaker}
 use Rattle.air_source.specs.declared.events.Side.TheVariants.{Du}
-use Rattle.fronthaul_replay.proofs.CauseLemmas.{cause_wanted}
 use Rattle.fronthaul_replay.proofs.IntakeStopLemmas.{rests_before}
 use Rattle.fronthaul_replay.proofs.LateLemmas.{late_enough}
 use Rattle.fronthaul_replay.proofs.UpLemmas.{is_due, landed_up, queue_short, up_is_sent, up_later}
@@ -12,6 +11,7 @@ use Rattle.std.specs.Prelude.{length}
 use Rattle.fronthaul_replay.proofs.intake.intake_moment.Given.{Over}
 use Rattle.fronthaul_replay.proofs.intake.intake_moment.Goals as goal
 use Rattle.fronthaul_replay.proofs.intake.intake_moment.Goals.{In_ok-release_all}
+use Rattle.unit_moments.proofs.CauseLemmas.{cause_wanted}
 
 -- the radio unit's frames of the tick have left
 sent : (g : Over) (c : In_ok-release_all g) → HasSentUp c.args.doc.now c.args.tick.0 c.release_all.new.queue c.release_all.new.way

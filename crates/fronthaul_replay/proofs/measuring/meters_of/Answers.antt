@@ -3,7 +3,7 @@ use Rattle.std.proofs.lemmas.Int.{ints}
 use Rattle.std.proofs.lemmas.Result.{IfOk-weaker}
 use Rattle.air_source.specs.declared.events.Side.TheVariants.{Du, Ru}
 use Rattle.delay_measure.specs.Kept.{IsInRange}
-use Rattle.document_delays.proofs.Documents.{compensation_is}
+use Rattle.document_traffic.proofs.Documents.{compensation_is}
 use Rattle.unit_model.specs.Radiated.{first_clock}
 use Rattle.fronthaul_replay.proofs.MeasureLemmas.{measures_begin}
 use Rattle.fronthaul_replay.proofs.measuring.meters_of.Goals as goal

@@ -3,8 +3,8 @@ use Rattle.std.proofs.lemmas.Result.{IfErr-at_err, on_ok_weaker}
 use Rattle.air_source.specs.declared.airs.AirFault.TheVariants.{Failed, NoMemory}
 use Rattle.fronthaul_replay.proofs.StopLemmas.{halts_intake, halts_radio, heard_both, stops_intake, stops_radio}
 use Rattle.air_source.proofs.Causes.{air_cause_since}
-use Rattle.fronthaul_replay.proofs.CauseLemmas.{cause_passed}
 use Rattle.fronthaul_replay.proofs.moments.land.Goals as goal
+use Rattle.unit_moments.proofs.CauseLemmas.{cause_passed}
 
 pub returns-in_err-radio_moment-clause-stop : goal.returns-in_err-radio_moment-clause-stop
 returns-in_err-radio_moment-clause-stop g c failed =

@@ -1,12 +1,12 @@
 use Rattle.std.proofs.Common.{rules, ◌≡◌, ◌∙◌, refl}
 use Rattle.air_source.specs.declared.airs.AirFault.TheVariants.{NoMemory}
 use Rattle.air_source.specs.declared.events.Side.TheVariants.{Du, Ru}
-use Rattle.measured_traffic.specs.Replayed.{doings_at}
-use Rattle.document_delays.specs.Settings.{compensation_of}
+use Rattle.document_traffic.specs.Replayed.{doings_at}
+use Rattle.document_traffic.specs.Settings.{compensation_of}
 use Rattle.fronthaul_replay.specs.Measuring.{begins_for}
 use Rattle.fronthaul_replay.proofs.StopLemmas.{rests_after, rests_before}
-use Rattle.fronthaul_replay.proofs.CauseLemmas.{cause_passed, cause_wanted}
 use Rattle.fronthaul_replay.proofs.moments.moment.Goals as goal
+use Rattle.unit_moments.proofs.CauseLemmas.{cause_passed, cause_wanted}
 
 pub begin-requires : goal.begin-requires
 begin-requires g c =

@@ -1,5 +1,5 @@
 use Rattle.std.proofs.Common.{sym, ap, ap₂, subst, ◌∙◌}
-use Rattle.fh_time.specs.Least.{earlier_time}
+use Rattle.fh_base.specs.Least.{earlier_time}
 use Rattle.fronthaul_replay.specs.IntakeTurns.{planned_for}
 use Rattle.fronthaul_replay.specs.Measuring.{begins_for}
 use Rattle.fronthaul_replay.specs.Turns.{IsNextTick, within_end}

@@ -9,8 +9,8 @@ use Rattle.fronthaul_replay.specs.Turns.{AtMoment}
 use Rattle.fronthaul_replay.proofs.NextLemmas.{end_comes, gap_less, heard_next, heard_there, in_order, moment_comes}
 use Rattle.fronthaul_replay.proofs.StepLemmas.{InStep}
 use Rattle.fronthaul_replay.proofs.StopLemmas.{halts_whole, stops_whole}
-use Rattle.fronthaul_replay.proofs.CauseLemmas.{cause_passed}
 use Rattle.fronthaul_replay.proofs.moments.pass.Goals as goal
+use Rattle.unit_moments.proofs.CauseLemmas.{cause_passed}
 
 pub loop-tick-init : goal.loop-tick-init
 loop-tick-init g c = record {

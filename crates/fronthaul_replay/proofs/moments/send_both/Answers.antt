@@ -1,7 +1,7 @@
 use Rattle.std.proofs.lemmas.Result.{on_ok_weaker}
 use Rattle.air_source.specs.declared.events.Side.TheVariants.{Du, Ru}
-use Rattle.measured_traffic.specs.Replayed.{made_at}
-use Rattle.document_delays.specs.Settings.{compensation_of}
+use Rattle.document_traffic.specs.Replayed.{made_at}
+use Rattle.document_traffic.specs.Settings.{compensation_of}
 use Rattle.fronthaul_replay.proofs.DownLemmas.{down_goes_on}
 use Rattle.fronthaul_replay.proofs.MeasureLemmas.{made_is_sent}
 use Rattle.fronthaul_replay.proofs.UpLemmas.{up_goes_on}

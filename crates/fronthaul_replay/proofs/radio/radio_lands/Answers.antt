@@ -4,11 +4,11 @@ use Rattle.air_source.specs.declared.airs.AirFault.TheVariants.{Failed, NoMemory
 use Rattle.air_source.specs.declared.events.Event.{Event}
 use Rattle.air_source.specs.declared.events.Event.TheVariants.{Cell}
 use Rattle.air_source.specs.declared.events.Side.TheVariants.{Ru as AtRu}
-use Rattle.measured_traffic.specs.Replayed.{traffic_of}
-use Rattle.document_delays.specs.Settings.{compensation_of}
+use Rattle.document_traffic.specs.Replayed.{traffic_of}
+use Rattle.document_traffic.specs.Settings.{compensation_of}
 use Rattle.replay_laws.specs.Events.{arrivals_at}
 use Rattle.ru_buffers.specs.Calls.{StandsFor}
-use Rattle.radio_laws.specs.Reporting.{due_of}
+use Rattle.ru_buffers.specs.Reporting.{due_of}
 use Rattle.fronthaul_replay.specs.Waiting.{begun_at, on_way}
 use Rattle.fronthaul_replay.proofs.LandLemmas.{events_heard, here, may_land, meter_has, same, told_is, unit_stands, waits_on}
 use Rattle.fronthaul_replay.proofs.TurnLemmas.{radio_heard, radio_landed}

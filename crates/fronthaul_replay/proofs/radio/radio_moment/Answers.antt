@@ -2,7 +2,6 @@ use Rattle.std.proofs.Common.{refl, inr}
 use Rattle.std.proofs.lemmas.Result.{on_ok_weaker}
 use Rattle.air_source.specs.declared.events.Side.TheVariants.{Ru}
 use Rattle.air_source.specs.Tones.{tone_of}
-use Rattle.fronthaul_replay.proofs.CauseLemmas.{cause_wanted}
 use Rattle.fronthaul_replay.proofs.DownLemmas.{down_later, has_sent, landed_down, may_send}
 use Rattle.fronthaul_replay.proofs.LateLemmas.{late_enough}
 use Rattle.fronthaul_replay.proofs.BoxSteps.{radio_rests}
@@ -12,6 +11,7 @@ use Rattle.fronthaul_replay.specs.Waiting.{on_way}
 use Rattle.fronthaul_replay.proofs.radio.radio_moment.Given.{Over}
 use Rattle.fronthaul_replay.proofs.radio.radio_moment.Goals as goal
 use Rattle.fronthaul_replay.proofs.radio.radio_moment.Goals.{In_ok-send_due}
+use Rattle.unit_moments.proofs.CauseLemmas.{cause_wanted}
 
 -- the plan's frames of the tick have left
 sent : (g : Over) (c : In_ok-send_due g) → HasSentDown c.args.doc.now c.args.tick.0 c.send_due.new.plan c.send_due.new.way

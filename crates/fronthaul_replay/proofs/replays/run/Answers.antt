@@ -2,15 +2,15 @@ use Rattle.std.proofs.Common.{rules, ◌≡◌, inl, ◌∙◌, refl}
 use Rattle.std.proofs.lemmas.Result.{IfErr-at_err, on_ok_weaker}
 use Rattle.air_source.specs.declared.airs.AirFault.TheVariants.{Failed, NoMemory}
 use Rattle.air_source.specs.declared.events.Side.TheVariants.{Ru, Du}
-use Rattle.document_delays.specs.Settings.{compensation_of}
+use Rattle.document_traffic.specs.Settings.{compensation_of}
 use Rattle.fronthaul_replay.specs.IntakeTurns.{planned_for}
 use Rattle.fronthaul_replay.proofs.BoxNext.{intake_begins}
 use Rattle.fronthaul_replay.proofs.TurnLemmas.{first_turn}
 use Rattle.fronthaul_replay.proofs.CountLemmas.{all_doings, heard_all, intake_counts, over, radio_counts, stops_intake_count, stops_radio_count, told_for}
 use Rattle.fronthaul_replay.proofs.StopLemmas.{halts_passing, stops_passing}
 use Rattle.air_source.proofs.Causes.{air_cause_since}
-use Rattle.fronthaul_replay.proofs.CauseLemmas.{cause_passed}
 use Rattle.fronthaul_replay.proofs.replays.run.Goals as goal
+use Rattle.unit_moments.proofs.CauseLemmas.{cause_passed}
 
 pub pass-requires-clause-moment : goal.pass-requires-clause-moment
 pass-requires-clause-moment g c =

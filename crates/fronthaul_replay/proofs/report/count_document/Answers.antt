@@ -3,9 +3,10 @@ use Rattle.std.proofs.lemmas.Result.{on_err_weaker, on_ok_weaker}
 use Rattle.report_airs.specs.CountAirs.{sink_of, owed_of}
 use Rattle.report_airs.specs.Counts.{counter_text}
 use Rattle.fronthaul_replay.specs.Reports.{document_counts}
-use Rattle.fronthaul_replay.proofs.Written.{at_error, counts_are, cut_text, error_passed, heard_front, heard_part, heard_whole, part_text}
+use Rattle.fronthaul_replay.proofs.Written.{counts_are, cut_text, error_passed, heard_front, heard_part, heard_whole, part_text}
 use Rattle.fronthaul_replay.proofs.FaultLemmas.{last_cause, same_cause}
 use Rattle.fronthaul_replay.proofs.report.count_document.Goals as goal
+use Rattle.fh_base.proofs.CommonLemmas.{on_err as at_error}
 
 pub returns-clause-front : goal.returns-clause-front
 returns-clause-front g c =

@@ -3,9 +3,10 @@ use Rattle.std.proofs.lemmas.Result.{on_err_weaker, on_ok_weaker}
 use Rattle.report_airs.specs.TextAirs.{sink_of, owed_of}
 use Rattle.report_airs.specs.Text.{event_text}
 use Rattle.fronthaul_replay.specs.Reports.{document_report}
-use Rattle.fronthaul_replay.proofs.Written.{at_error, cut_text, error_passed, heard_front, heard_part, heard_whole, part_text, report_is}
+use Rattle.fronthaul_replay.proofs.Written.{cut_text, error_passed, heard_front, heard_part, heard_whole, part_text, report_is}
 use Rattle.fronthaul_replay.proofs.FaultLemmas.{last_cause, same_cause}
 use Rattle.fronthaul_replay.proofs.report.report_document.Goals as goal
+use Rattle.fh_base.proofs.CommonLemmas.{on_err as at_error}
 
 pub returns-clause-front : goal.returns-clause-front
 returns-clause-front g c =

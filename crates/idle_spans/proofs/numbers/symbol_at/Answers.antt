@@ -1,5 +1,5 @@
 use Rattle.std.proofs.Common.{ap, arith}
-use Rattle.fh_time.specs.declared.values.Shape.{Shape}
+use Rattle.fh_base.specs.declared.values.Shape.{Shape}
 use Rattle.idle_spans.proofs.NumberLemmas.{made_symbol}
 use Rattle.idle_spans.proofs.numbers.symbol_at.Goals as goal
 

@@ -1,6 +1,6 @@
 use Rattle.std.proofs.Common.{◌≡◌, ℕ, ◌*◌, ◌/◌, ap, ap₂, ◌∙◌}
-use Rattle.fh_time.specs.Numbering.{symbols_of}
-use Rattle.fh_time.specs.declared.values.Shape.{Shape}
+use Rattle.fh_base.specs.Numbering.{symbols_of}
+use Rattle.fh_base.specs.declared.values.Shape.{Shape}
 use Rattle.idle_text.proofs.FreeLemmas.{whole_slots}
 use Rattle.idle_text.proofs.endpoints.slots.Goals as goal
 

@@ -1,7 +1,7 @@
 use Rattle.std.proofs.Common.{◌≡◌, ℕ, List}
 use Rattle.fh_base.specs.Owed.{Carried}
 use Rattle.air_source.specs.declared.events.AirCell.{AirCell}
-use Rattle.idle_slots.specs.Tables.{IsTableOf}
+use Rattle.idle_text.specs.Tables.{IsTableOf}
 use Rattle.idle_text.specs.Text.{flagged_text}
 use Rattle.idle_text.proofs.telling.tell_free.Given as goal
 

@@ -1,6 +1,6 @@
 use Rattle.std.proofs.Common.{◌≡◌, ℕ, ◌*◌, ◌++◌, Bool, List, OnOk, OnErr, sym, ap, subst, ◌∙◌}
 use Rattle.fh_base.specs.Told.{WritesFront}
-use Rattle.fh_time.specs.declared.values.Shape.{Shape}
+use Rattle.fh_base.specs.declared.values.Shape.{Shape}
 use Rattle.fh_base.specs.Owed.{Carried}
 use Rattle.fh_base.specs.CarriedLaws.{carried_none}
 use Rattle.window_config.specs.declared.endpoints.EndpointConfig.{EndpointConfig}

@@ -1,7 +1,7 @@
 use Rattle.std.proofs.Common.{◌≡◌, ℕ, ◌+◌, ◌*◌, ◌<◌, ◌≤◌, Bool, false, ◌||◌, List, length, get_or, Some, refl, sym, ap, subst, ◌∙◌, arith}
 use Rattle.std.specs.List.{list_any}
-use Rattle.fh_time.specs.Numbering.{symbols_of}
-use Rattle.fh_time.specs.declared.values.Shape.{Shape}
+use Rattle.fh_base.specs.Numbering.{symbols_of}
+use Rattle.fh_base.specs.declared.values.Shape.{Shape}
 use Rattle.fh_base.specs.Owed.{Carried}
 use Rattle.fh_base.proofs.OwedTelling.{anyhow}
 use Rattle.window_config.specs.declared.endpoints.EndpointConfig.{EndpointConfig}
@@ -10,10 +10,10 @@ use Rattle.idle_spans.specs.Places.{IsNoneOrSymbol}
 use Rattle.idle_spans.specs.Symbols.{symbol_count}
 use Rattle.idle_spans.specs.declared.places.Place.{Place}
 use Rattle.idle_spans.specs.declared.places.Span.{Span}
-use Rattle.idle_slots.specs.Free.{has_slot}
-use Rattle.idle_slots.specs.Listed.{Run}
-use Rattle.idle_slots.specs.Tables.{IsTableOf}
-use Rattle.idle_slots.proofs.NextLemmas.{IsAt, at_next, at_start}
+use Rattle.idle_text.specs.Free.{has_slot}
+use Rattle.idle_text.specs.Listed.{Run}
+use Rattle.idle_text.specs.Tables.{IsTableOf}
+use Rattle.idle_text.proofs.NextLemmas.{IsAt, at_next, at_start}
 use Rattle.idle_text.proofs.TellLemmas.{all_runs, count_is, endpoint_same, none_carried, none_flagged, runs_text, span_carried, span_cut, span_flagged, span_told}
 use Rattle.idle_text.proofs.telling.tell_spans.Goals as goal
 

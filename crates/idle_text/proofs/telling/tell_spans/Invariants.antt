@@ -1,13 +1,13 @@
 use Rattle.std.proofs.Common.{◌≡◌, ℕ, ◌-◌, ◌<◌, ◌≤◌, ◌||◌, false, List, length, get_or}
 use Rattle.std.specs.List.{list_any}
-use Rattle.fh_time.specs.Numbering.{symbols_of}
+use Rattle.fh_base.specs.Numbering.{symbols_of}
 use Rattle.fh_base.specs.Owed.{Carried}
 use Rattle.air_source.specs.declared.events.AirCell.{AirCell}
 use Rattle.idle_spans.specs.Symbols.{symbol_count}
 use Rattle.idle_spans.specs.Tables.{symbols_in}
-use Rattle.idle_slots.specs.Free.{has_slot}
-use Rattle.idle_slots.specs.Tables.{IsTableOf}
-use Rattle.idle_slots.proofs.NextLemmas.{IsAt}
+use Rattle.idle_text.specs.Free.{has_slot}
+use Rattle.idle_text.specs.Tables.{IsTableOf}
+use Rattle.idle_text.proofs.NextLemmas.{IsAt}
 use Rattle.idle_text.proofs.TellLemmas.{runs_text, runs_to}
 use Rattle.idle_text.proofs.telling.tell_spans.Given as goal
 

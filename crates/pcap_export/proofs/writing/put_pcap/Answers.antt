@@ -6,7 +6,7 @@ use Rattle.pcap_export.proofs.Back.{read_back}
 use Rattle.pcap_export.proofs.writing.put_pcap.Goals as goal
 use Rattle.fh_base.proofs.OwedTelling.{last_front, all_written, anyhow}
 use Rattle.fh_base.proofs.Parts.{part_front, part_behind, last_part}
-use Rattle.pcap_lines.proofs.Telling.{first_part}
+use Rattle.fh_base.proofs.CommonLemmas.{first_part}
 
 pub returns-in_err-tell_packets-clause-read : goal.returns-in_err-tell_packets-clause-read
 returns-in_err-tell_packets-clause-read g c = λ usual whose reading. read_back whose reading (wanted c.args.ways (records_of c.args.bytes.now)) usual

@@ -9,8 +9,8 @@ use Rattle.pcap_frames.specs.Packets.{opened_as, reading_as}
 use Rattle.pcap_frames.specs.Parts.{Reading, after, part_of, interfaces_by}
 use Rattle.pcap_frames.specs.Passes.{Passes, reading_now}
 use Rattle.pcap_frames.specs.Wanted.{wanted_through, first_time}
-use Rattle.pcapng_blocks.specs.declared.values.Interface.{Interface}
-use Rattle.pcapng_blocks.specs.Values.{block_as}
+use Rattle.pcap_frames.specs.declared.pcapng_values.Interface.{Interface}
+use Rattle.pcap_frames.specs.Values.{block_as}
 use Rattle.pcap_frames.proofs.Passing.{sliced, pass_refused, pass_fault, pass_next, pass_end}
 use Rattle.pcap_frames.proofs.checking.check_parts.Goals as goal
 

@@ -7,8 +7,8 @@ use Rattle.pcap_lines.specs.Texts.{arrived_as}
 use Rattle.pcap_lines.proofs.captures.capture_bytes.Goals as goal
 use Rattle.fh_base.proofs.OwedTelling.{last_front, anyhow}
 use Rattle.fh_base.proofs.Parts.{part_front, part_behind, last_part}
-use Rattle.pcap_lines.proofs.Telling.{first_part}
 use Rattle.std.proofs.lemmas.Result.{on_err_weaker}
+use Rattle.fh_base.proofs.CommonLemmas.{first_part}
 
 pub returns-clause-front : goal.returns-clause-front
 returns-clause-front g c =

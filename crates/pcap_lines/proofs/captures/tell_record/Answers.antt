@@ -6,7 +6,7 @@ use Rattle.pcap_lines.proofs.Telling.{carried_pair, part_pair}
 use Rattle.pcap_lines.proofs.captures.tell_record.Goals as goal
 use Rattle.fh_base.proofs.OwedTelling.{anyhow}
 use Rattle.fh_base.proofs.Parts.{part_before}
-use Rattle.fh_time.specs.declared.nanoseconds.TheConstants.{NANOSECOND}
+use Rattle.fh_base.specs.declared.nanoseconds.TheConstants.{NANOSECOND}
 
 pub returns-in_err-tell-clause-part : goal.returns-in_err-tell-clause-part
 returns-in_err-tell-clause-part g c =

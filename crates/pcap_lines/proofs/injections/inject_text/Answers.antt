@@ -5,7 +5,7 @@ use Rattle.pcap_lines.proofs.Read.{are_bytes, read_back}
 use Rattle.pcap_lines.proofs.injections.inject_text.Goals as goal
 use Rattle.fh_base.proofs.OwedTelling.{last_front, all_written, anyhow}
 use Rattle.fh_base.proofs.Parts.{part_front, last_part}
-use Rattle.pcap_lines.proofs.Telling.{first_part}
+use Rattle.fh_base.proofs.CommonLemmas.{first_part}
 
 pub returns-clause-front : goal.returns-clause-front
 returns-clause-front g c =

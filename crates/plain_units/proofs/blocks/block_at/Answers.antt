@@ -1,6 +1,6 @@
 use Rattle.std.proofs.Common.{◌≡◌, ◌+◌, drop, sym, ap, ◌∙◌}
 use Rattle.unit_model.specs.Blocks.{block_in, block_at}
-use Rattle.unit_model.specs.Lists.{or_else}
+use Rattle.fh_base.specs.Lists.{or_else}
 use Rattle.plain_units.proofs.BlockLemmas.{block_further, block_end}
 use Rattle.unit_model.proofs.BlockLemmas.{newer_found, older_found}
 use Rattle.plain_units.proofs.blocks.block_at.Goals as goal

@@ -1,6 +1,6 @@
 use Rattle.std.proofs.Common.{◌≡◌, drop}
 use Rattle.unit_model.specs.Blocks.{block_at}
-use Rattle.unit_model.specs.Lists.{or_else}
+use Rattle.fh_base.specs.Lists.{or_else}
 use Rattle.plain_units.proofs.blocks.block_at.Given as goal
 
 abbrev pub invariant-loop-d : goal.invariant-loop-d

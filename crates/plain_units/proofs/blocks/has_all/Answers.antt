@@ -1,7 +1,7 @@
 use Rattle.std.proofs.Common.{◌≡◌, ◌+◌, ◌<◌, ◌≤◌, ◌-◌, true, false, not, sym, ap, ◌∙◌, arith}
 use Rattle.std.specs.Prelude.{is_some}
 use Rattle.unit_model.specs.Blocks.{first_data_prb, data_prb_count, block_at}
-use Rattle.unit_model.specs.Lists.{every}
+use Rattle.fh_base.specs.Lists.{every}
 use Rattle.plain_units.proofs.BlockLemmas.{cell_has, has_all_begins}
 use Rattle.plain_units.proofs.TestLemmas.{every_fails, every_goes, every_ends}
 use Rattle.plain_units.proofs.blocks.has_all.Goals as goal

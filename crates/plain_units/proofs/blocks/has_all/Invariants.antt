@@ -1,6 +1,6 @@
 use Rattle.std.proofs.Common.{◌≡◌, ◌+◌, ◌-◌}
 use Rattle.unit_model.specs.Blocks.{has_all, first_data_prb, data_prb_count}
-use Rattle.unit_model.specs.Lists.{every}
+use Rattle.fh_base.specs.Lists.{every}
 use Rattle.plain_units.proofs.BlockLemmas.{cell_has}
 use Rattle.plain_units.proofs.blocks.has_all.Given as goal
 

@@ -1,6 +1,6 @@
 use Rattle.std.proofs.Common.{◌≡◌, ◌-◌}
 use Rattle.unit_model.specs.Claims.{claim_at, is_claimed}
-use Rattle.unit_model.specs.Lists.{every}
+use Rattle.fh_base.specs.Lists.{every}
 use Rattle.plain_units.proofs.ClaimLemmas.{element_claimed}
 use Rattle.plain_units.proofs.claims.is_claimed.Given as goal
 

@@ -1,6 +1,6 @@
 use Rattle.std.proofs.Common.{◌≡◌, ◌-◌}
 use Rattle.unit_model.specs.Claims.{claim_at, is_overlapped}
-use Rattle.unit_model.specs.Lists.{some}
+use Rattle.fh_base.specs.Lists.{some}
 use Rattle.plain_units.proofs.ClaimLemmas.{element_overlapped}
 use Rattle.plain_units.proofs.claims.is_overlapped.Given as goal
 

@@ -1,6 +1,6 @@
 use Rattle.std.proofs.Common.{◌≡◌, ◌+◌, ◌-◌}
 use Rattle.unit_model.specs.Claims.{overlaps}
-use Rattle.unit_model.specs.Lists.{some}
+use Rattle.fh_base.specs.Lists.{some}
 use Rattle.plain_units.proofs.ClaimLemmas.{symbol_overlapped}
 use Rattle.plain_units.proofs.claims.overlaps.Given as goal
 

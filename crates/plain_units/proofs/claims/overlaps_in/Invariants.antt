@@ -1,6 +1,6 @@
 use Rattle.std.proofs.Common.{◌≡◌, ◌+◌, ◌-◌}
 use Rattle.unit_model.specs.Claims.{first_prb, prb_count}
-use Rattle.unit_model.specs.Lists.{some}
+use Rattle.fh_base.specs.Lists.{some}
 use Rattle.plain_units.proofs.ClaimLemmas.{cell_overlapped}
 use Rattle.plain_units.proofs.claims.overlaps_in.Given as goal
 

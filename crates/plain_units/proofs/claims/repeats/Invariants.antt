@@ -1,6 +1,6 @@
 use Rattle.std.proofs.Common.{◌≡◌, ◌+◌, ◌-◌}
 use Rattle.unit_model.specs.Claims.{repeats}
-use Rattle.unit_model.specs.Lists.{every}
+use Rattle.fh_base.specs.Lists.{every}
 use Rattle.plain_units.proofs.ClaimLemmas.{symbol_claimed}
 use Rattle.plain_units.proofs.claims.repeats.Given as goal
 

@@ -1,6 +1,6 @@
 use Rattle.std.proofs.Common.{◌≡◌, ◌+◌, ◌-◌}
 use Rattle.unit_model.specs.Claims.{first_prb, prb_count}
-use Rattle.unit_model.specs.Lists.{every}
+use Rattle.fh_base.specs.Lists.{every}
 use Rattle.plain_units.proofs.ClaimLemmas.{cell_claimed}
 use Rattle.plain_units.proofs.claims.repeats_in.Given as goal
 

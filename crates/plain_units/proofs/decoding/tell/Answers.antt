@@ -1,6 +1,6 @@
 use Rattle.std.proofs.Common.{[], ◌∙◌, subst, ap, sym, arith, length-drop}
-use Rattle.fh_time.specs.declared.values.Shape.{Shape}
-use Rattle.fh_time.specs.Numbering.{shape_of}
+use Rattle.fh_base.specs.declared.values.Shape.{Shape}
+use Rattle.fh_base.specs.Numbering.{shape_of}
 use Rattle.uplane_sections.specs.Messages.{Telling}
 use Rattle.uplane_sections.specs.States.{StandsBehind}
 use Rattle.unit_model.specs.Decoding.{nothing_told, gathered}

@@ -1,5 +1,5 @@
 use Rattle.std.proofs.Common.{◌≡◌, ◌-◌, ◌≤◌, length, take}
-use Rattle.fh_time.specs.Numbering.{shape_of}
+use Rattle.fh_base.specs.Numbering.{shape_of}
 use Rattle.uplane_sections.specs.Messages.{told}
 use Rattle.uplane_sections.specs.States.{used_by, StandsBehind}
 use Rattle.unit_model.specs.Decoding.{nothing_told, gathered}

@@ -1,5 +1,5 @@
 use Rattle.std.proofs.Common.{ℕ}
-use Rattle.fh_time.specs.Air.{air_of}
+use Rattle.fh_base.specs.Air.{air_of}
 use Rattle.plain_units.specs.ClaimedStarts.{IsNotMissed}
 use Rattle.plain_units.proofs.StartLaws.{one_symbol_more}
 use Rattle.plain_units.proofs.moments.nearest.Goals as goal

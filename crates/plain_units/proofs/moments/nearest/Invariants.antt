@@ -1,6 +1,6 @@
 use Rattle.std.proofs.Common.{ℕ, ℤ, ◌≤◌, ◌<◌, ◌≤ℤ◌}
 use Rattle.std.specs.Prelude.{IfSome}
-use Rattle.fh_time.specs.Air.{air_of}
+use Rattle.fh_base.specs.Air.{air_of}
 use Rattle.plain_units.specs.ClaimedStarts.{IsNotMissed}
 use Rattle.plain_units.proofs.moments.nearest.Given as goal
 

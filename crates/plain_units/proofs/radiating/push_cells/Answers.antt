@@ -1,7 +1,7 @@
 use Rattle.unit_model.specs.Radiated.{known_of}
 use Rattle.unit_model.specs.Starts.{cell_told}
-use Rattle.unit_model.proofs.SweepLaws.{none_yet, one_more}
 use Rattle.plain_units.proofs.radiating.push_cells.Goals as goal
+use Rattle.fh_base.proofs.EachLemmas.{none_yet, one_more}
 
 pub loop-prb-init : goal.loop-prb-init
 loop-prb-init c = none_yet c.args.cells.now _

@@ -1,5 +1,5 @@
 use Rattle.std.proofs.Common.{◌≡◌, ◌++◌}
-use Rattle.unit_model.specs.Lists.{each}
+use Rattle.fh_base.specs.Lists.{each}
 use Rattle.unit_model.specs.Radiated.{known_of}
 use Rattle.unit_model.specs.Starts.{cell_told}
 use Rattle.plain_units.proofs.radiating.push_cells.Given as goal

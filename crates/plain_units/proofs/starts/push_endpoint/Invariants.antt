@@ -1,5 +1,5 @@
 use Rattle.std.proofs.Common.{◌≡◌, ◌++◌, pos, ◌+ℤ◌}
-use Rattle.unit_model.specs.Lists.{each}
+use Rattle.fh_base.specs.Lists.{each}
 use Rattle.plain_units.specs.ClaimedStarts.{claimed_start}
 use Rattle.unit_model.specs.Sweeps.{of_frame, first_swept}
 use Rattle.plain_units.proofs.starts.push_endpoint.Given as goal

@@ -1,10 +1,10 @@
 use Rattle.std.proofs.Common.{◌≡◌, ◌++◌, ap, ◌∙◌, arith}
-use Rattle.fh_time.specs.declared.values.Slot.{Slot}
-use Rattle.unit_model.specs.Lists.{each}
+use Rattle.fh_base.specs.declared.values.Slot.{Slot}
+use Rattle.fh_base.specs.Lists.{each}
 use Rattle.plain_units.specs.ClaimedStarts.{claimed_start}
 use Rattle.unit_model.specs.Sweeps.{of_subframe, of_frame}
-use Rattle.unit_model.proofs.SweepLaws.{none_yet, one_more}
 use Rattle.plain_units.proofs.starts.push_frame.Goals as goal
+use Rattle.fh_base.proofs.EachLemmas.{none_yet, one_more}
 
 pub loop-subframe-init : goal.loop-subframe-init
 loop-subframe-init c = none_yet c.args.found.now.items _

@@ -1,11 +1,11 @@
 use Rattle.std.proofs.Common.{◌≡◌, ◌++◌, ap, ◌∙◌, arith}
-use Rattle.fh_time.specs.Numbering.{symbols_of}
-use Rattle.fh_time.specs.declared.values.Shape.{Shape}
-use Rattle.unit_model.specs.Lists.{each}
+use Rattle.fh_base.specs.Numbering.{symbols_of}
+use Rattle.fh_base.specs.declared.values.Shape.{Shape}
+use Rattle.fh_base.specs.Lists.{each}
 use Rattle.plain_units.specs.ClaimedStarts.{claimed_start}
 use Rattle.unit_model.specs.Sweeps.{of_symbol, of_slot}
-use Rattle.unit_model.proofs.SweepLaws.{none_yet, one_more}
 use Rattle.plain_units.proofs.starts.push_slot.Goals as goal
+use Rattle.fh_base.proofs.EachLemmas.{none_yet, one_more}
 
 pub loop-symbol-init : goal.loop-symbol-init
 loop-symbol-init c = none_yet c.args.found.now.items _

@@ -1,12 +1,12 @@
 use Rattle.std.proofs.Common.{◌≡◌, ℕ, ◌++◌, ap, ◌∙◌, arith}
-use Rattle.fh_time.specs.Numbering.{slots_of}
-use Rattle.fh_time.specs.declared.values.Shape.{Shape}
-use Rattle.fh_time.specs.declared.values.Slot.{Slot}
-use Rattle.unit_model.specs.Lists.{each}
+use Rattle.fh_base.specs.Numbering.{slots_of}
+use Rattle.fh_base.specs.declared.values.Shape.{Shape}
+use Rattle.fh_base.specs.declared.values.Slot.{Slot}
+use Rattle.fh_base.specs.Lists.{each}
 use Rattle.plain_units.specs.ClaimedStarts.{claimed_start}
 use Rattle.unit_model.specs.Sweeps.{slot_at, of_slot, of_subframe}
-use Rattle.unit_model.proofs.SweepLaws.{none_yet, one_more}
 use Rattle.plain_units.proofs.starts.push_subframe.Goals as goal
+use Rattle.fh_base.proofs.EachLemmas.{none_yet, one_more}
 
 pub loop-slot-init : goal.loop-slot-init
 loop-slot-init c = none_yet c.args.found.now.items _

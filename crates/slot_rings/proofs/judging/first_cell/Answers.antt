@@ -2,7 +2,7 @@ use Rattle.std.proofs.Common.{◌+◌, arith}
 use Rattle.std.proofs.lemmas.Nat.{mul-le}
 use Rattle.slot_rings.proofs.JudgeLemmas.{inside}
 use Rattle.slot_rings.proofs.judging.first_cell.Goals as goal
-use Rattle.fh_time.specs.declared.symbols.TheConstants.{SLOT_SYMBOLS}
+use Rattle.fh_base.specs.declared.symbols.TheConstants.{SLOT_SYMBOLS}
 
 pub returns-clause-within : goal.returns-clause-within
 returns-clause-within c =

@@ -1,7 +1,7 @@
 use Rattle.std.proofs.Common.{◌≡◌, ℕ, inl, inr, arith, sym, ◌∙◌, subst, false}
 use Rattle.std.proofs.lemmas.Bool.{cases_eq}
 use Rattle.unit_model.specs.Claims.{first_prb, prb_count, cell_of, is_overlapped}
-use Rattle.unit_model.specs.Lists.{some}
+use Rattle.fh_base.specs.Lists.{some}
 use Rattle.slot_rings.specs.Places.{claims_in}
 use Rattle.slot_rings.proofs.JudgeLemmas.{overlaps_none, overlaps_found}
 use Rattle.slot_rings.proofs.judging.overlaps.Goals as goal

@@ -1,6 +1,6 @@
 use Rattle.std.proofs.Common.{◌≡◌, ℕ, ◌<◌, ◌≤◌, false}
 use Rattle.unit_model.specs.Claims.{first_prb, prb_count, cell_of, is_overlapped}
-use Rattle.unit_model.specs.Lists.{some}
+use Rattle.fh_base.specs.Lists.{some}
 use Rattle.slot_rings.specs.Places.{claims_in}
 use Rattle.slot_rings.proofs.judging.overlaps.Given as goal
 

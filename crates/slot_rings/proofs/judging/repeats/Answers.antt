@@ -1,7 +1,7 @@
 use Rattle.std.proofs.Common.{◌≡◌, ℕ, inl, inr, arith, sym, ◌∙◌, subst, true}
 use Rattle.std.proofs.lemmas.Bool.{cases_eq}
 use Rattle.unit_model.specs.Claims.{first_prb, prb_count, cell_of, is_claimed}
-use Rattle.unit_model.specs.Lists.{every}
+use Rattle.fh_base.specs.Lists.{every}
 use Rattle.slot_rings.specs.Places.{claims_in}
 use Rattle.slot_rings.proofs.JudgeLemmas.{repeats_found, repeats_not}
 use Rattle.slot_rings.proofs.judging.repeats.Goals as goal

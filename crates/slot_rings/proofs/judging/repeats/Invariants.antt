@@ -1,6 +1,6 @@
 use Rattle.std.proofs.Common.{◌≡◌, ℕ, ◌<◌, ◌≤◌, true}
 use Rattle.unit_model.specs.Claims.{first_prb, prb_count, cell_of, is_claimed}
-use Rattle.unit_model.specs.Lists.{every}
+use Rattle.fh_base.specs.Lists.{every}
 use Rattle.slot_rings.specs.Places.{claims_in}
 use Rattle.slot_rings.proofs.judging.repeats.Given as goal
 

@@ -1,6 +1,6 @@
 use Rattle.std.proofs.Common.{ap₂, sym, ◌∙◌}
 use Rattle.unit_model.specs.Claims.{first_prb, prb_count, is_overlapped}
-use Rattle.unit_model.specs.Lists.{some}
+use Rattle.fh_base.specs.Lists.{some}
 use Rattle.slot_rings.specs.Places.{claim_in}
 use Rattle.slot_rings.specs.Rows.{row_claims}
 use Rattle.slot_rings.proofs.JudgeLemmas.{inside}

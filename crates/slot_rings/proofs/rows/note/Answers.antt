@@ -1,7 +1,7 @@
 use Rattle.std.proofs.Common.{◌<◌, arith, length-set, ◌∙◌}
 use Rattle.slot_rings.proofs.RowLemmas.{note_grown, note_others}
 use Rattle.slot_rings.proofs.rows.note.Goals as goal
-use Rattle.fh_time.specs.declared.symbols.TheConstants.{SLOT_SYMBOLS}
+use Rattle.fh_base.specs.declared.symbols.TheConstants.{SLOT_SYMBOLS}
 
 pub loop-symbol-preserved : goal.loop-symbol-preserved
 loop-symbol-preserved c =

@@ -1,8 +1,8 @@
 use Rattle.std.proofs.Common.{ℤ, ◌≡◌, ◌∙◌, ◌≤ℤ◌, sym, subst, ap}
-use Rattle.fh_time.specs.Air.{air_of}
-use Rattle.fh_time.specs.declared.values.Slot.{Slot}
-use Rattle.fh_time.proofs.Options.{some_is}
-use Rattle.fh_time.proofs.Order.{symbols_in_order}
+use Rattle.fh_base.specs.Air.{air_of}
+use Rattle.fh_base.specs.declared.values.Slot.{Slot}
+use Rattle.fh_base.proofs.Options.{some_is}
+use Rattle.fh_base.proofs.Order.{symbols_in_order}
 use Rattle.slot_rings.proofs.starts.start_from.Goals as goal
 
 pub returns-then-symbol-shape : goal.returns-then-symbol-shape

@@ -1,7 +1,7 @@
 use Rattle.std.proofs.Common.{[], ◌∷◌, subst}
 use Rattle.unit_model.specs.Blocks.{timely}
 use Rattle.unit_model.specs.declared.verdicts.DataVerdict.{DataVerdict}
-use Rattle.unit_memory.specs.Judgements.{Given}
+use Rattle.unit_model.specs.Judgements.{Given}
 use Rattle.unit_memory.proofs.DataHoldLemmas.{section_holds}
 use Rattle.unit_memory.proofs.section.take_section.Goals as goal
 

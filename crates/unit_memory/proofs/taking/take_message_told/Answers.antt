@@ -1,6 +1,6 @@
 use Rattle.std.proofs.Common.{rules, ◌≡◌, false, true, ap, sym, subst, List}
 use Rattle.std.specs.Prelude.{Some, None}
-use Rattle.fh_time.specs.declared.values.Shape.{Shape}
+use Rattle.fh_base.specs.declared.values.Shape.{Shape}
 use Rattle.ecpri_fragments.specs.Assemblies.{message_of}
 use Rattle.uplane_sections.specs.Messages.{told}
 use Rattle.unit_model.specs.Counts.{decoded_counted}
@@ -10,7 +10,7 @@ use Rattle.uplane_messages.specs.Joined.{message_bytes}
 use Rattle.uplane_messages.specs.Whole.{IsWhole}
 use Rattle.unit_memory.specs.Sections.{items_of}
 use Rattle.unit_memory.proofs.MessageLemmas.{HoldsAfter, backwards_holds, refused_holds, says_backwards, says_refused, says_sections, sections_hold}
-use Rattle.unit_memory.specs.Judgements.{Judgement}
+use Rattle.unit_model.specs.Judgements.{Judgement}
 use Rattle.unit_memory.proofs.ToldLemmas.{judged_refused, judged_sections, judged_turned}
 use Rattle.unit_memory.proofs.taking.take_message_told.Goals as goal
 

@@ -1,6 +1,6 @@
 use Rattle.std.proofs.Common.{◌≡◌, ℤ, List, ◌++◌, map, ◌∙◌, ap, subst}
 use Rattle.std.specs.Prelude.{MatchOption}
-use Rattle.fh_time.specs.declared.values.Shape.{Shape}
+use Rattle.fh_base.specs.declared.values.Shape.{Shape}
 use Rattle.ecpri_fragments.specs.Assemblies.{message_of}
 use Rattle.uplane_sections.specs.Messages.{Item, told}
 use Rattle.unit_model.specs.Terms.{UFeed}
@@ -11,7 +11,7 @@ use Rattle.uplane_messages.specs.Left.{left_of, NothingLeft, TellsFirst}
 use Rattle.unit_memory.specs.Holding.{HoldsData}
 use Rattle.unit_memory.specs.Sections.{items_of}
 use Rattle.unit_memory.proofs.MessageLemmas.{all_treated, none_treated, one_treated}
-use Rattle.unit_memory.specs.Judgements.{judged_data}
+use Rattle.unit_model.specs.Judgements.{judged_data}
 use Rattle.unit_memory.proofs.ToldLemmas.{all_heard, none_heard, one_heard}
 use Rattle.unit_memory.proofs.taking.take_sections.Goals as goal
 

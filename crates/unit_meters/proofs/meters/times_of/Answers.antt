@@ -1,5 +1,5 @@
 use Rattle.std.proofs.Common.{rules, ◌<◌, ◌∙◌, length, sym, ap, arith}
-use Rattle.frame_deliveries.proofs.RowLemmas.{none_past}
+use Rattle.frame_ways.proofs.RowLemmas.{none_past}
 use Rattle.unit_meters.proofs.TimeLemmas.{measure_is, times_next}
 use Rattle.unit_meters.proofs.meters.times_of.Goals as goal
 use Rattle.unit_meters.proofs.meters.times_of.Goals.{in-Some+in_ok-push, in_default}

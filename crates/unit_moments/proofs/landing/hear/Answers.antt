@@ -3,7 +3,7 @@ use Rattle.std.proofs.lemmas.Result.{IfErr-at_err, on_ok_weaker}
 use Rattle.air_source.specs.declared.airs.AirFault.TheVariants.{Failed, NoMemory}
 use Rattle.delay_model.specs.Doings.{with_frame}
 use Rattle.unit_model.specs.Events.{arrival_event, result_event}
-use Rattle.frame_deliveries.specs.Landing.{arrival_at}
+use Rattle.frame_ways.specs.Landing.{arrival_at}
 use Rattle.unit_moments.specs.Landing.{HasTaken}
 use Rattle.air_source.proofs.Causes.{air_cause_since}
 use Rattle.unit_moments.proofs.CauseLemmas.{cause_passed, cause_wanted}

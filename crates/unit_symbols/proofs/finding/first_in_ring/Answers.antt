@@ -1,5 +1,5 @@
 use Rattle.std.proofs.Common.{◌∙◌, sym, subst, Option}
-use Rattle.fh_time.specs.declared.values.Ticks.{Ticks}
+use Rattle.fh_base.specs.declared.values.Ticks.{Ticks}
 use Rattle.unit_symbols.specs.Symbols.{FitsFrom, OfEndpoint}
 use Rattle.unit_symbols.proofs.SearchLemmas.{searched_from}
 use Rattle.unit_symbols.proofs.finding.first_in_ring.Goals as goal

@@ -6,7 +6,7 @@ use Rattle.uplane_sections.specs.Section.{header_size}
 use Rattle.uplane_sections.proofs.Words.{word_written, compression_written, static_written, dynamic_written}
 use Rattle.uplane_sections.proofs.Back.{section_back}
 use Rattle.uplane_sections.proofs.writing.put_section.Goals as goal
-use Rattle.fh_time.proofs.Orders.{is_false, is_true}
+use Rattle.fh_base.proofs.Orders.{is_false, is_true}
 
 static_size : (format : Format) → format.dynamic ≡ false → 4 ≡ header_size format
 static_size format is = rw is refl

@@ -1,10 +1,11 @@
 use Rattle.std.proofs.Common.{◌≡◌, ℕ, ◌+◌, ◌∙◌, ap, sym, subst, arith, rules, List, ◌++◌, ◌∷◌, []}
 use Rattle.air_source.specs.declared.links.LinkFrame.{LinkFrame}
-use Rattle.unit_model.specs.Lists.{each}
+use Rattle.fh_base.specs.Lists.{each}
 use Rattle.uplink_model.specs.Frames.{uplink_frame_of}
 use Rattle.uplink_path.specs.Sending.{SentSome, wait_behind}
-use Rattle.uplink_path.proofs.FrameLemmas.{HandedUpTo, all_handed, at_start, count_as, ends_at, frame_handed, none_handed, on_err, some_handed, wait_next, wait_now}
+use Rattle.uplink_path.proofs.FrameLemmas.{HandedUpTo, all_handed, at_start, count_as, ends_at, frame_handed, none_handed, some_handed, wait_next, wait_now}
 use Rattle.uplink_path.proofs.sending.send_message.Goals as goal
+use Rattle.fh_base.proofs.CommonLemmas.{on_err}
 
 pub loop-sub-init : goal.loop-sub-init
 loop-sub-init g c = record {

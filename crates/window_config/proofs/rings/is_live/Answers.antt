@@ -2,7 +2,7 @@ use Rattle.std.proofs.Common.{◌≡◌, ℤ, pos, ◌+ℤ◌, ◌-ℤ◌, Bool,
 use mir.Syntax.{w64}
 use Rattle.std.specs.Prelude.{int_lt}
 use Rattle.std.proofs.lemmas.Int.{ints}
-use Rattle.fh_time.specs.Air.{air_of, span_of}
+use Rattle.fh_base.specs.Air.{air_of, span_of}
 use Rattle.window_config.specs.Windows.{ticks_of_ns}
 use Rattle.window_config.proofs.Live.{live_is}
 use Rattle.window_config.proofs.rings.is_live.Goals as goal

@@ -1,6 +1,6 @@
 use Rattle.std.proofs.Common.{◌≡◌, pos, ◌+ℤ◌, ◌<◌, arith}
 use Rattle.std.proofs.lemmas.Int.{ints}
-use Rattle.fh_time.specs.Air.{least_slot_of, span_of}
+use Rattle.fh_base.specs.Air.{least_slot_of, span_of}
 use Rattle.window_config.specs.Windows.{ticks_of_ns}
 use Rattle.window_config.proofs.Live.{live_near}
 use Rattle.window_config.proofs.rings.ring_slots.Goals as goal

@@ -1,5 +1,5 @@
 use Rattle.unit_model.specs.Standing.{at_clock, heard}
-use Rattle.radio_laws.specs.Reporting.{due_of}
+use Rattle.ru_buffers.specs.Reporting.{due_of}
 use Rattle.bench_units.proofs.radio.steps.go.Goals as goal
 
 pub returns-in-Ok-clause-unit : goal.returns-in-Ok-clause-unit

@@ -1,7 +1,7 @@
 -- Of the lines of a valid plan.
 use Rattle.std.proofs.Common.{◌≡◌, ℕ, List, ap, refl, subst, sym, ◌∙◌}
 use Rattle.std.specs.Prelude.{map}
-use Rattle.fh_time.specs.declared.values.Slot.{Slot}
+use Rattle.fh_base.specs.declared.values.Slot.{Slot}
 use Rattle.window_config.specs.declared.endpoints.EndpointConfig.{EndpointConfig}
 use Rattle.du_intake.specs.Lines.{line_of, lines_at}
 use Rattle.du_intake.specs.Listing.{AreInTurn}

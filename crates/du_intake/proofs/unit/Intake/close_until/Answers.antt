@@ -1,5 +1,5 @@
 use Rattle.std.proofs.Common.{ap}
-use Rattle.fh_time.specs.declared.values.Ticks.{Ticks}
+use Rattle.fh_base.specs.declared.values.Ticks.{Ticks}
 use Rattle.du_intake.proofs.LoopLemmas.{stands_at}
 use Rattle.du_intake.proofs.unit.Intake.close_until.Goals as goal
 

@@ -3,8 +3,8 @@ use Rattle.window_config.specs.declared.endpoints.EndpointConfig.{EndpointConfig
 use Rattle.plan_model.specs.Lines.{planned}
 use Rattle.plan_model.specs.Sent.{sent}
 use Rattle.plan_model.specs.declared.lines.PlannedLine.{PlannedLine}
-use Rattle.frame_order.specs.Queues.{StandsFor}
-use Rattle.frame_order.specs.Runs.{turn_of}
+use Rattle.du_scheduler.specs.Queues.{StandsFor}
+use Rattle.du_scheduler.specs.Runs.{turn_of}
 use Rattle.du_scheduler.specs.Tables.{IsTable}
 use Rattle.du_scheduler.proofs.plans.Plan.make.Goals as goal
 

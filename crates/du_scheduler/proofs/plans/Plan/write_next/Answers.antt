@@ -1,6 +1,6 @@
 use Rattle.std.proofs.Common.{◌≡◌, ℕ, List, length, arith, map, refl, ap, ◌∙◌}
-use Rattle.frame_order.specs.Runs.{turn_of}
-use Rattle.frame_order.specs.declared.turns.Turn.{Turn}
+use Rattle.du_scheduler.specs.Runs.{turn_of}
+use Rattle.du_scheduler.specs.declared.turns.Turn.{Turn}
 use Rattle.du_scheduler.specs.Plans.{plane_of}
 use Rattle.du_scheduler.proofs.GivingLemmas.{taken_over, written_over, next_asked, next_frame, next_left, next_of, next_there, none_left, same_left}
 use Rattle.du_scheduler.proofs.plans.Plan.write_next.Goals as goal

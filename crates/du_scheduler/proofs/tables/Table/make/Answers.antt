@@ -2,7 +2,7 @@
 use Rattle.std.proofs.Common.{◌<◌, ◌≤◌, List, length, map, ◌∙◌, subst}
 use Rattle.window_config.specs.declared.endpoints.EndpointConfig.{EndpointConfig}
 use Rattle.plan_model.specs.Sent.{sent}
-use Rattle.frame_order.specs.Runs.{turn_of}
+use Rattle.du_scheduler.specs.Runs.{turn_of}
 use Rattle.schedule_laws.proofs.PlacedLemmas.{some_of}
 use Rattle.du_scheduler.proofs.TableLemmas.{filled_more, filled_table, filled_runs, runs_fit, runs_ordered}
 use Rattle.du_scheduler.proofs.tables.Table.make.Goals as goal

@@ -1,7 +1,7 @@
 use Rattle.std.proofs.Common.{◌+◌, ◌*◌, ◌<◌, ℤ, length, sym, ap, ◌∙◌, arith, rules}
 use mir.Syntax.{w8}
 use mir.Val.{Fits}
-use Rattle.fh_time.specs.declared.values.Ticks.{Ticks}
+use Rattle.fh_base.specs.declared.values.Ticks.{Ticks}
 use Rattle.ecpri_fragments.specs.Generations.{fragment}
 use Rattle.ecpri_fragments.specs.Verdicts.{verdict_on}
 use Rattle.ecpri_fragments.specs.Assemblies.{StandsFor}

@@ -1,5 +1,5 @@
 use Rattle.std.proofs.Common.{◌≡◌, refl, ap, arith, ◌+◌, rules, length, drop, true, false, Bool, cond, eqb}
-use Rattle.fh_time.specs.declared.values.Ticks.{Ticks}
+use Rattle.fh_base.specs.declared.values.Ticks.{Ticks}
 use Rattle.ecpri_fragments.specs.Generations.{fragment}
 use Rattle.ecpri_fragments.specs.Places.{table_of}
 use Rattle.ecpri_fragments.proofs.Tables.{stored}

@@ -1,9 +1,9 @@
 -- The first line, and those of the configuration.
 use Rattle.std.proofs.Common.{◌∙◌}
 use Rattle.std.proofs.lemmas.Result.{on_err_weaker, on_ok_weaker}
-use Rattle.explain_air.proofs.AirSteps.{on_any}
 use Rattle.explain_air.proofs.BeginLemmas.{begun, config_part, head_part}
 use Rattle.explain_air.proofs.air.ExplainAir.begin.Goals as goal
+use Rattle.fh_base.proofs.CommonLemmas.{on_err as on_any}
 
 pub returns-in_err-say-clause-part : goal.returns-in_err-say-clause-part
 returns-in_err-say-clause-part g c =

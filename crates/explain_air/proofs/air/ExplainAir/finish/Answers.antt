@@ -1,8 +1,9 @@
 -- What was kept, the last line, and what is owed.
 use Rattle.std.proofs.lemmas.Result.{on_err_weaker, on_ok_weaker}
-use Rattle.explain_air.proofs.AirSteps.{all_pushed, close_part, end_part, on_any, part_left}
+use Rattle.explain_air.proofs.AirSteps.{all_pushed, close_part, end_part, part_left}
 use Rattle.explain_air.specs.AirLaws.{few_heard}
 use Rattle.explain_air.proofs.air.ExplainAir.finish.Goals as goal
+use Rattle.fh_base.proofs.CommonLemmas.{on_err as on_any}
 
 pub returns-in_err-close-clause-part : goal.returns-in_err-close-clause-part
 returns-in_err-close-clause-part g c =

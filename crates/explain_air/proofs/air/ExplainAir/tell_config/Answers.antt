@@ -1,7 +1,7 @@
 -- A front of the lines of the configuration.
 use Rattle.std.proofs.lemmas.Result.{IfErr-weaker}
 use Rattle.explain_air.proofs.Fronts.{out_front}
-use Rattle.line_runs.specs.Stops.{Within}
+use Rattle.explain_heard.specs.Stops.{Within}
 use Rattle.explain_air.proofs.air.ExplainAir.tell_config.Goals as goal
 
 pub returns-clause-stop : goal.returns-clause-stop

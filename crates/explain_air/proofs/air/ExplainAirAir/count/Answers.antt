@@ -1,8 +1,9 @@
 -- What stands before the counters, and the line of this one.
 use Rattle.std.proofs.Common.{◌∙◌}
 use Rattle.std.proofs.lemmas.Result.{on_err_weaker, on_ok_weaker}
-use Rattle.explain_air.proofs.AirSteps.{close_stops, count_grows, count_stops, on_any}
+use Rattle.explain_air.proofs.AirSteps.{close_stops, count_grows, count_stops}
 use Rattle.explain_air.proofs.air.ExplainAirAir.count.Goals as goal
+use Rattle.fh_base.proofs.CommonLemmas.{on_err as on_any}
 
 pub returns-in_err-close-clause-stop : goal.returns-in_err-close-clause-stop
 returns-in_err-close-clause-stop g c =

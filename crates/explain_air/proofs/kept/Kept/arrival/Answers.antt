@@ -4,9 +4,9 @@ use Rattle.explain_air.proofs.KeptLemmas.{arrival_lines, ended_of}
 use Rattle.explain_air.proofs.Stopping.{some_first, some_second}
 use Rattle.explain_air.specs.Heard.{lines_at}
 use Rattle.explain_air.specs.Runs.{open_of}
-use Rattle.explain_lines.specs.declared.values.ExplainLine.{ExplainLine}
+use Rattle.explain_model.specs.declared.values.ExplainLine.{ExplainLine}
 use Rattle.explain_model.specs.Cells.{run_lines}
-use Rattle.line_runs.specs.Stops.{StopsSome}
+use Rattle.explain_heard.specs.Stops.{StopsSome}
 use Rattle.explain_air.proofs.kept.Kept.arrival.Goals as goal
 
 pub returns-in-Ok-clause-after : goal.returns-in-Ok-clause-after

@@ -1,7 +1,7 @@
 use Rattle.std.proofs.Common.{rules, ◌≡◌, List, subst}
 use Rattle.explain_air.proofs.KeptLemmas.{after_cell, cell_lines}
-use Rattle.explain_lines.specs.declared.values.ExplainLine.{ExplainLine}
-use Rattle.line_runs.specs.Stops.{StopsSome}
+use Rattle.explain_model.specs.declared.values.ExplainLine.{ExplainLine}
+use Rattle.explain_heard.specs.Stops.{StopsSome}
 use Rattle.explain_air.proofs.kept.Kept.cell.Goals as goal
 
 pub returns-in-Ok-clause-after : goal.returns-in-Ok-clause-after

@@ -3,10 +3,10 @@ use Rattle.std.proofs.lemmas.Result.{IfErr-weaker, on_ok_weaker}
 use Rattle.explain_air.proofs.KeptLemmas.{ending_lines, last_of}
 use Rattle.explain_air.proofs.Stopping.{some_first, some_second}
 use Rattle.explain_air.specs.Runs.{open_of}
-use Rattle.explain_growth.specs.Subjects.{reason_lines}
-use Rattle.explain_lines.specs.declared.values.ExplainLine.{ExplainLine}
+use Rattle.explain_model.specs.Subjects.{reason_lines}
+use Rattle.explain_model.specs.declared.values.ExplainLine.{ExplainLine}
 use Rattle.explain_model.specs.Cells.{run_lines}
-use Rattle.line_runs.specs.Stops.{StopsSome}
+use Rattle.explain_heard.specs.Stops.{StopsSome}
 use Rattle.explain_air.proofs.kept.Kept.close.Goals as goal
 
 pub returns-in-Err-clause-stop : goal.returns-in-Err-clause-stop

@@ -1,8 +1,8 @@
 use Rattle.std.proofs.Common.{rules, ◌≡◌, List, subst}
 use Rattle.explain_air.proofs.KeptLemmas.{after_delay, delay_lines}
-use Rattle.explain_lines.specs.declared.values.ExplainLine.{ExplainLine}
-use Rattle.explain_lines.specs.declared.values.ExplainLine.TheVariants as line
-use Rattle.line_runs.specs.Stops.{StopsSome}
+use Rattle.explain_model.specs.declared.values.ExplainLine.{ExplainLine}
+use Rattle.explain_model.specs.declared.values.ExplainLine.TheVariants as line
+use Rattle.explain_heard.specs.Stops.{StopsSome}
 use Rattle.explain_air.proofs.kept.Kept.delay.Goals as goal
 
 pub returns-in-Ok-clause-after : goal.returns-in-Ok-clause-after

@@ -3,7 +3,7 @@ use Rattle.air_source.specs.declared.events.Side.TheVariants.{Ru, Du}
 use Rattle.explain_air.proofs.KeptLemmas.{before_all}
 use Rattle.explain_air.specs.Notes.{AreNotes}
 use Rattle.explain_units.specs.Units.{IsUnitAfter}
-use Rattle.heard_records.specs.Records.{HaveHeard}
+use Rattle.explain_records.specs.Records.{HaveHeard}
 use Rattle.window_config.specs.Configs.{IsConfig}
 use Rattle.window_config.specs.declared.config.Config.{Config}
 use Rattle.explain_air.proofs.kept.Kept.make.Goals as goal

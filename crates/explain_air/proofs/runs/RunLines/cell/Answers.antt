@@ -1,6 +1,6 @@
 use Rattle.std.proofs.Common.{rules, ◌≡◌, sym}
 use Rattle.explain_air.proofs.RunLemmas.{next_prb}
-use Rattle.explain_kept.specs.Runs.{cells_of}
+use Rattle.explain_units.specs.Runs.{cells_of}
 use Rattle.explain_air.proofs.runs.RunLines.cell.Goals as goal
 
 pub with_next-requires : goal.with_next-requires

@@ -1,6 +1,6 @@
 -- List by list.
 use Rattle.std.proofs.Common.{◌≡◌, ap, rules, ◌∙◌}
-use Rattle.explain_reasons.specs.Reasons.{of_symbol}
+use Rattle.explain_model.specs.SilentReasons.{of_symbol}
 use Rattle.explain_records.proofs.OrderLemmas.{kept_with, same_kept}
 use Rattle.explain_records.proofs.store.KeptRecords.order.Goals as goal
 

@@ -1,6 +1,6 @@
 -- A frame, and then its lines.
 use Rattle.std.proofs.Common.{[], length, refl, subst, ◌∙◌}
-use Rattle.line_runs.specs.Stops.{StopsSome}
+use Rattle.explain_heard.specs.Stops.{StopsSome}
 use Rattle.explain_units.proofs.EventLemmas.{frame_said, unit_heard}
 use Rattle.unit_model.specs.Heard.{arrivals_heard}
 use Rattle.explain_units.proofs.units.UnitLines.hear.Goals as goal

@@ -2,7 +2,7 @@
 use Rattle.std.proofs.Common.{subst}
 use Rattle.std.proofs.lemmas.Result.{IfErr-weaker, on_ok_weaker}
 use Rattle.explain_units.proofs.EventLemmas.{margins_after_events}
-use Rattle.line_runs.specs.Stops.{StopsInLine}
+use Rattle.explain_heard.specs.Stops.{StopsInLine}
 use Rattle.explain_units.proofs.units.UnitLines.tell_margins.Goals as goal
 
 pub returns-clause-heard : goal.returns-clause-heard

@@ -1,7 +1,7 @@
 use Rattle.std.proofs.Common.{◌∙◌, sym, ap₂, subst}
 use Rattle.std.specs.Prelude.{IfSome}
 use Rattle.frame_ways.specs.Flying.{AreFlyingFrom}
-use Rattle.fh_time.specs.Least.{IsLeastOf, earlier_time}
+use Rattle.fh_base.specs.Least.{IsLeastOf, earlier_time}
 use Rattle.frame_ways.specs.Ways.{IsCalmTo, landings_on}
 use Rattle.frame_ways.proofs.TimeLemmas.{next_lands}
 use Rattle.frame_ways.proofs.way.Way.next_time.Goals as goal

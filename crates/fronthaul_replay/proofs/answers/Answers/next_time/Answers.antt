@@ -1,13 +1,13 @@
 use Rattle.std.proofs.Common.{List, Option, Some, None, sym, subst}
 use Rattle.air_source.specs.declared.events.Side.TheVariants.{Du}
 use Rattle.air_source.specs.declared.links.LinkFrame.{LinkFrame}
-use Rattle.fh_time.specs.Least.{IsLeastOf}
-use Rattle.fh_time.specs.declared.values.Ticks.{Ticks}
+use Rattle.fh_base.specs.Least.{IsLeastOf}
+use Rattle.fh_base.specs.declared.values.Ticks.{Ticks}
 use Rattle.frame_ways.proofs.TimeLemmas.{earlier_of_both}
 use Rattle.frame_ways.specs.Ways.{IsCalmTo, landings_on}
 use Rattle.fronthaul_replay.specs.Up.{NoneComesUp}
 use Rattle.fronthaul_replay.specs.Waiting.{on_way}
-use Rattle.frame_network.specs.SendQueues.{IsNextTime, IsSilentTo}
+use Rattle.frame_ways.specs.SendQueues.{IsNextTime, IsSilentTo}
 use Rattle.fronthaul_replay.proofs.answers.Answers.next_time.Goals as goal
 
 least_silent : (q : List LinkFrame) (o : Option Ticks) → IsNextTime q o → IsLeastOf (IsSilentTo q) o

@@ -1,6 +1,6 @@
 use Rattle.std.proofs.Common.{ℤ, pos, ◌+ℤ◌, sym, subst}
 use Rattle.air_source.specs.declared.events.Side.TheVariants.{Ru}
-use Rattle.fh_time.specs.Least.{IsLeastOf}
+use Rattle.fh_base.specs.Least.{IsLeastOf}
 use Rattle.frame_sending.specs.Due.{AreSentFrom}
 use Rattle.frame_ways.proofs.TimeLemmas.{earlier_of_both}
 use Rattle.frame_ways.specs.Ways.{IsCalmTo, landings_on}

@@ -1,6 +1,6 @@
 use Rattle.std.proofs.Common.{refl, ap}
 use Rattle.std.proofs.lemmas.List.{take_rest}
-use Rattle.pcapng_blocks.specs.Values.{held_as}
+use Rattle.pcap_frames.specs.Values.{held_as}
 use Rattle.pcap_frames.proofs.Walking.{added_behind}
 use Rattle.pcap_frames.proofs.walks.Walk.behind.Goals as goal
 

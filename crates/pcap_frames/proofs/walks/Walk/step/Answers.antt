@@ -1,5 +1,5 @@
 use Rattle.std.proofs.Common.{sym}
-use Rattle.pcapng_blocks.specs.Values.{block_as}
+use Rattle.pcap_frames.specs.Values.{block_as}
 use Rattle.pcap_frames.specs.Walks.{reading_of}
 use Rattle.pcap_frames.proofs.Walking.{expects, wanted_next, walk_next, wanted_none}
 use Rattle.pcap_frames.proofs.walks.Walk.step.Goals as goal

@@ -1,11 +1,11 @@
 use Rattle.std.proofs.Common.{◌≡◌, List, ◌∷◌, take, sym, ◌∙◌, subst}
 use Rattle.std.proofs.lemmas.List.{take_all}
 use Rattle.cplane_sections.specs.Message.{sections_in}
-use Rattle.unit_model.specs.Lists.{onto}
+use Rattle.fh_base.specs.Lists.{onto}
 use Rattle.unit_model.specs.Meetings.{commands_with}
 use Rattle.plain_units.specs.Plain.{PlainHolds}
 use Rattle.unit_model.specs.declared.decoded.ControlSection.{ControlSection}
-use Rattle.unit_model.proofs.OntoLemmas.{onto_none, onto_more}
+use Rattle.fh_base.proofs.OntoLemmas.{onto_none, onto_more}
 use Rattle.plain_units.proofs.plain.Plain.command_sections.Goals as goal
 
 pub loop-c-init : goal.loop-c-init

@@ -2,12 +2,12 @@ use Rattle.std.proofs.Common.{◌≡◌, List, [], ◌∷◌, sym, ap, ◌∙◌
 use Rattle.ecpri_frames.specs.Left.{message_of, left_of}
 use Rattle.ecpri_frames.specs.Gathering.{whole_messages}
 use Rattle.unit_model.specs.Decoding.{data_sections}
-use Rattle.unit_model.specs.Lists.{onto}
+use Rattle.fh_base.specs.Lists.{onto}
 use Rattle.unit_model.specs.Meetings.{Arrival, Meeting, meet, meetings, met_in, commands, fragments}
 use Rattle.plain_units.specs.Plain.{PlainStands}
 use Rattle.unit_model.specs.Counts.{counted_of}
 use Rattle.unit_model.specs.Reports.{hold_of}
-use Rattle.unit_model.proofs.OntoLemmas.{onto_none, onto_one}
+use Rattle.fh_base.proofs.OntoLemmas.{onto_none, onto_one}
 use Rattle.plain_units.proofs.PlainLemmas.{stands_frame}
 use Rattle.plain_units.proofs.plain.Plain.frame.Goals as goal
 

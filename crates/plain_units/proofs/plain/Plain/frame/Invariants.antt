@@ -1,7 +1,7 @@
 use Rattle.std.proofs.Common.{List}
 use Rattle.ecpri_frames.specs.Gathering.{whole_messages}
 use Rattle.ecpri_frames.specs.Left.{left_of}
-use Rattle.unit_model.specs.Lists.{onto}
+use Rattle.fh_base.specs.Lists.{onto}
 use Rattle.unit_model.specs.Meetings.{Arrival, Meeting, met_in}
 use Rattle.plain_units.specs.Plain.{PlainStands}
 use Rattle.plain_units.proofs.PlainLemmas.{MetSoFar}

@@ -3,7 +3,7 @@ use Rattle.std.proofs.lemmas.Result.{on_ok_weaker}
 use Rattle.cplane_sections.specs.Message.{sections_in}
 use Rattle.ecpri_frames.specs.Left.{message_of}
 use Rattle.unit_model.specs.Decoding.{data_sections}
-use Rattle.unit_model.specs.Lists.{onto}
+use Rattle.fh_base.specs.Lists.{onto}
 use Rattle.unit_model.specs.Meetings.{Meeting, Ignored, Commands, Piece, meet, commands_with, fragment_with, commands, fragments}
 use Rattle.plain_units.specs.Plain.{PlainHolds, PlainStands}
 use Rattle.unit_model.specs.Counts.{counted_of}

@@ -1,8 +1,8 @@
 use Rattle.std.proofs.Common.{ℤ, ◌≤ℤ◌, ◌∙◌, ap, subst, sym}
 use Rattle.std.specs.Prelude.{pos, ◌-ℤ◌}
-use Rattle.fh_time.specs.declared.values.Ticks.{Ticks}
+use Rattle.fh_base.specs.declared.values.Ticks.{Ticks}
 use Rattle.unit_model.specs.Standing.{heard}
-use Rattle.radio_laws.specs.Reporting.{due_of}
+use Rattle.ru_buffers.specs.Reporting.{due_of}
 use Rattle.ru_buffers.proofs.CallLemmas.{ready_known, ready_settled, stands_later}
 use Rattle.ru_buffers.proofs.LoopLemmas.{standing, standing_with, stands_settled_unit}
 use Rattle.ru_buffers.proofs.NextLemmas.{symbol_later}

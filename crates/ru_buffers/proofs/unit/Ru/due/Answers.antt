@@ -1,6 +1,6 @@
 use Rattle.std.proofs.Common.{sym, subst}
 use Rattle.std.specs.Prelude.{Option}
-use Rattle.fh_time.specs.declared.values.Ticks.{Ticks}
+use Rattle.fh_base.specs.declared.values.Ticks.{Ticks}
 use Rattle.ru_buffers.specs.Calls.{IsDue}
 use Rattle.ru_buffers.proofs.CallLemmas.{due_is}
 use Rattle.ru_buffers.proofs.unit.Ru.due.Goals as goal

@@ -1,6 +1,6 @@
 use Rattle.std.proofs.Common.{subst}
 use Rattle.std.specs.Prelude.{None}
-use Rattle.fh_time.proofs.Kept.{offsets_short}
+use Rattle.fh_base.proofs.Kept.{offsets_short}
 use Rattle.ru_buffers.specs.Calls.{IsNextSymbol}
 use Rattle.ru_buffers.proofs.CallLemmas.{cell_moment, no_cell}
 use Rattle.ru_buffers.proofs.LoopLemmas.{first_next, first_of, standing}

@@ -1,4 +1,4 @@
-use Rattle.fh_time.proofs.Kept.{offsets_short}
+use Rattle.fh_base.proofs.Kept.{offsets_short}
 use Rattle.ru_buffers.proofs.CallLemmas.{message_moment, no_message}
 use Rattle.ru_buffers.proofs.LoopLemmas.{message_of, no_message_of, standing}
 use Rattle.ru_buffers.proofs.unit.Ru.next_message.Goals as goal

@@ -1,5 +1,5 @@
 use Rattle.std.proofs.Common.{refl}
-use Rattle.fh_time.proofs.Kept.{offsets_short}
+use Rattle.fh_base.proofs.Kept.{offsets_short}
 use Rattle.ru_buffers.specs.declared.unit.Ru.{Ru}
 use Rattle.ru_buffers.proofs.CallLemmas.{gives, gives_proper, none_at_clock, none_by_clock, ready_where_quiet, still_ready}
 use Rattle.ru_buffers.proofs.LoopLemmas.{message_of, no_message_of, standing, standing_with}

@@ -1,8 +1,8 @@
 use Rattle.std.proofs.Common.{[], refl, sym, append-nil}
-use Rattle.fh_time.proofs.Kept.{offsets_short}
+use Rattle.fh_base.proofs.Kept.{offsets_short}
 use Rattle.unit_memory.specs.declared.memory.UnitMemory.{UnitMemory}
 use Rattle.ru_buffers.proofs.LoopLemmas.{first_next, first_of, goes_to, over_later, over_none, stops_at}
-use Rattle.radio_laws.proofs.OrderLemmas.{rest_after}
+use Rattle.ru_buffers.proofs.OrderLemmas.{rest_after}
 use Rattle.ru_buffers.proofs.unit.Ru.report_next.Goals as goal
 
 pub returns-in-None-clause-told : goal.returns-in-None-clause-told

@@ -1,6 +1,6 @@
 use Rattle.std.proofs.Common.{◌≡◌, ℕ, ◌+◌, ◌^◌, ◌<◌, ◌≤◌, false, get_or, length, None, Some}
 use Rattle.unit_model.specs.Claims.{is_from}
-use Rattle.unit_model.specs.Lists.{or_else}
+use Rattle.fh_base.specs.Lists.{or_else}
 use Rattle.slot_rings.specs.Runs.{packed_block, packed_samples}
 use Rattle.slot_rings.proofs.blocks.Blocks.fill_run.Given as goal
 

@@ -1,5 +1,5 @@
 use Rattle.std.proofs.Common.{◌∙◌, ap, Option}
-use Rattle.fh_time.specs.declared.values.Slot.{Slot}
+use Rattle.fh_base.specs.declared.values.Slot.{Slot}
 use Rattle.slot_rings.specs.Places.{cell_number, is_place_of}
 use Rattle.slot_rings.specs.Rings.{RingValue}
 use Rattle.slot_rings.proofs.RingLemmas.{reported_still, ring_accepted}

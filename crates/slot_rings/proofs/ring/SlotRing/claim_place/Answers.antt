@@ -9,7 +9,7 @@ use Rattle.slot_rings.proofs.PendingLemmas.{flagged_put, claimed_quiet}
 use Rattle.slot_rings.proofs.CountLemmas.{sections_put, sections_most, place_most}
 use Rattle.slot_rings.proofs.StartLemmas.{starts_claimed}
 use Rattle.slot_rings.proofs.ring.SlotRing.claim_place.Goals as goal
-use Rattle.fh_time.proofs.Orders.{both_ways as unequal}
+use Rattle.fh_base.proofs.Orders.{both_ways as unequal}
 
 pub overflow_sub-self : goal.overflow_sub-self
 overflow_sub-self c =

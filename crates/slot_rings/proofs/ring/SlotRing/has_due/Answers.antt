@@ -1,5 +1,5 @@
 use Rattle.std.proofs.Common.{ℕ, ◌≡◌, ◌∙◌, ap, arith, sym, true, get_or, ◌+◌}
-use Rattle.unit_model.specs.Lists.{some}
+use Rattle.fh_base.specs.Lists.{some}
 use Rattle.slot_rings.specs.Places.{PlaceValue, cell_number, claims_seen, is_reported, claim_in, no_claims, is_due}
 use Rattle.slot_rings.specs.Rings.{RingValue}
 use Rattle.slot_rings.proofs.SeenLemmas.{due_seen}

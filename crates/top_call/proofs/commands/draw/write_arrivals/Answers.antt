@@ -1,4 +1,4 @@
-use Rattle.window_picture.specs.Picture.{drawn as windows_of}
+use Rattle.pictures.specs.WindowPicture.{drawn as windows_of}
 use Rattle.top_call.proofs.Drawn.{drawn_as}
 use Rattle.top_call.proofs.commands.draw.write_arrivals.Goals as goal
 

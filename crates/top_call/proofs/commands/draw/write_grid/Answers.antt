@@ -1,4 +1,4 @@
-use Rattle.grid_picture.specs.Picture.{drawn as grid_of, span_of}
+use Rattle.pictures.specs.Picture.{drawn as grid_of, span_of}
 use Rattle.top_call.proofs.Drawn.{drawn_as}
 use Rattle.top_call.proofs.commands.draw.write_grid.Goals as goal
 

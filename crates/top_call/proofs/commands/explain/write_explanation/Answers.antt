@@ -1,5 +1,5 @@
 use Rattle.std.proofs.Common.{IfOk, sym, subst}
-use Rattle.explain_text.specs.Text.{HasFewFrames}
+use Rattle.document_texts.specs.Text.{HasFewFrames}
 use Rattle.top_call.specs.Answers.{explained}
 use Rattle.top_call.proofs.Planned.{performs_planned}
 use Rattle.top_call.proofs.commands.explain.write_explanation.Goals as goal

@@ -1,11 +1,11 @@
 use Rattle.std.proofs.Common.{◌≡◌, ◌∙◌, ℕ, ◌+◌, ap, arith, sym, subst, [], ◌∷◌}
-use Rattle.fh_time.specs.declared.values.Slot.{Slot}
+use Rattle.fh_base.specs.declared.values.Slot.{Slot}
 use Rattle.unit_model.specs.Terms.{Side}
 use Rattle.window_config.specs.declared.config.Config.{Config}
 use Rattle.window_config.specs.declared.verdicts.Class.TheVariants as class
 use Rattle.unit_model.specs.Blocks.{data_class, first_data_prb}
 use Rattle.unit_cells.specs.Cells.{IsOf}
-use Rattle.unit_cells.specs.Headings.{data_under}
+use Rattle.unit_model.specs.Headings.{data_under}
 use Rattle.unit_cells.specs.Steps.{Fills, InRing}
 use Rattle.unit_cells.proofs.CallLemmas.{data_class_is, delays_are, heading_of, filled_keeps, filled_reported, side_are}
 use Rattle.unit_cells.proofs.FillLemmas.{slot_of}

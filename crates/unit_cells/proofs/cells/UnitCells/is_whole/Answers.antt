@@ -1,14 +1,14 @@
 use Rattle.std.proofs.Common.{◌≡◌, ℕ, true, [], ◌∙◌, ap, sym}
 use Rattle.std.specs.Prelude.{is_some}
-use Rattle.fh_time.specs.declared.values.Slot.{Slot}
+use Rattle.fh_base.specs.declared.values.Slot.{Slot}
 use Rattle.unit_model.specs.Blocks.{data_prb_count, data_slot, first_data_prb}
 use Rattle.unit_model.specs.Claims.{cell_at}
-use Rattle.unit_model.specs.Lists.{every}
+use Rattle.fh_base.specs.Lists.{every}
 use Rattle.slot_rings.specs.Rings.{RingValue, ring_block}
-use Rattle.unit_cells.specs.Headings.{data_under}
+use Rattle.unit_model.specs.Headings.{data_under}
 use Rattle.unit_cells.proofs.CallLemmas.{ring_read}
 use Rattle.unit_cells.proofs.cells.UnitCells.is_whole.Goals as goal
-use Rattle.fh_time.proofs.Options.{some_is as some_equal}
+use Rattle.fh_base.proofs.Options.{some_is as some_equal}
 
 pub returns : goal.returns
 returns c r is =

@@ -1,13 +1,13 @@
 use Rattle.std.proofs.Common.{List, sym, ap, ◌∙◌, subst}
 use Rattle.ecpri_frames.specs.Messages.{Message, pdu}
-use Rattle.unit_model.specs.Lists.{onto}
+use Rattle.fh_base.specs.Lists.{onto}
 use Rattle.unit_model.specs.Meetings.{met_in}
 use Rattle.unit_model.specs.Reports.{met}
 use Rattle.unit_cells.specs.Cells.{CellsValue}
 use Rattle.unit_cells.specs.Keeping.{SameReported}
 use Rattle.unit_memory.specs.Parts.{MemoryStands}
 use Rattle.unit_memory.proofs.HoldLemmas.{arrived, to_parts}
-use Rattle.unit_memory.specs.Judgements.{judged_in}
+use Rattle.unit_model.specs.Judgements.{judged_in}
 use Rattle.unit_memory.proofs.memory.UnitMemory.arrive_told.Goals as goal
 
 pub take_messages-messages-requires-clause-unit : goal.take_messages-messages-requires-clause-unit

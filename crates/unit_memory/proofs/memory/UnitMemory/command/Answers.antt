@@ -5,11 +5,11 @@ use Rattle.cplane_sections.specs.Left.{left_of}
 use Rattle.cplane_sections.specs.Message.{sections_in}
 use Rattle.cplane_sections.specs.declared.values.CSection.{CSection}
 use Rattle.window_config.specs.declared.endpoints.EndpointConfig.{EndpointConfig}
-use Rattle.unit_model.specs.Lists.{onto}
+use Rattle.fh_base.specs.Lists.{onto}
 use Rattle.unit_model.specs.Meetings.{command, commands_with}
 use Rattle.unit_model.specs.Proper.{IsProperCommand}
 use Rattle.unit_model.specs.declared.decoded.ControlSection.{ControlSection}
-use Rattle.unit_model.proofs.OntoLemmas.{onto_none, onto_one}
+use Rattle.fh_base.proofs.OntoLemmas.{onto_none, onto_one}
 use Rattle.unit_model.proofs.Read.{commands_proper}
 use Rattle.unit_cells.specs.Cells.{endpoints_of}
 use Rattle.unit_memory.specs.Parts.{HoldsParts}

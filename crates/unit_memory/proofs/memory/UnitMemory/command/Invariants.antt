@@ -5,7 +5,7 @@ use Rattle.cplane_sections.specs.Message.{sections_in}
 use Rattle.ecpri_fragments.specs.Generations.{Fragment}
 use Rattle.fault_counters.specs.declared.kinds.Counter.{Counter}
 use Rattle.window_config.specs.declared.config.Config.{Config}
-use Rattle.unit_model.specs.Lists.{onto}
+use Rattle.fh_base.specs.Lists.{onto}
 use Rattle.unit_model.specs.Meetings.{commands_with}
 use Rattle.unit_model.specs.Proper.{IsProperCommand}
 use Rattle.unit_model.specs.declared.decoded.ControlSection.{ControlSection}

@@ -11,7 +11,7 @@ use Rattle.unit_model.specs.Reports.{hold_of}
 use Rattle.unit_memory.specs.Parts.{MemoryStands}
 use Rattle.unit_model.proofs.CommandLaws.{for_ru, told_at_ru}
 use Rattle.unit_memory.proofs.HoldLemmas.{before_message, met_so_far, stands_ignored, stands_commands, stands_piece}
-use Rattle.unit_memory.specs.Judgements.{Met, judged_commands, judged_meeting, judged_piece}
+use Rattle.unit_model.specs.Judgements.{Met, judged_commands, judged_meeting, judged_piece}
 use Rattle.unit_memory.proofs.memory.UnitMemory.message.Goals as goal
 
 pub command-requires-clause-endpoint : goal.command-requires-clause-endpoint

@@ -8,7 +8,7 @@ use Rattle.unit_model.specs.Counts.{decoded_counted, fragment_counter, piece_cou
 use Rattle.unit_model.specs.Decoding.{data_now, data_told}
 use Rattle.unit_memory.specs.Parts.{HoldsParts}
 use Rattle.unit_memory.proofs.StepLemmas.{as_data, counted_piece, of_data, parts_as}
-use Rattle.unit_memory.specs.Judgements.{judged_piece}
+use Rattle.unit_model.specs.Judgements.{judged_piece}
 use Rattle.unit_memory.proofs.memory.UnitMemory.piece.Goals as goal
 
 pub returns-clause-holds : goal.returns-clause-holds

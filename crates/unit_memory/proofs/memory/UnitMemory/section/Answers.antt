@@ -8,7 +8,7 @@ use Rattle.unit_model.proofs.CountLemmas.{added_as}
 use Rattle.unit_model.proofs.SectionLemmas.{command_count}
 use Rattle.unit_memory.proofs.StepLemmas.{keeps_command}
 use Rattle.unit_model.specs.declared.verdicts.CommandVerdict.{CommandVerdict}
-use Rattle.unit_memory.specs.Judgements.{Commanded}
+use Rattle.unit_model.specs.Judgements.{Commanded}
 use Rattle.unit_memory.proofs.memory.UnitMemory.section.Goals as goal
 use Rattle.unit_cells.proofs.KeepLemmas.{of_still as of_later}
 

@@ -1,9 +1,9 @@
 use Rattle.std.proofs.Common.{◌≡◌, List, [], ◌∷◌, length, refl, sym, ap, ◌∙◌, subst}
 use Rattle.ecpri_frames.specs.Left.{left_of, message_of}
 use Rattle.ecpri_frames.specs.Messages.{Message, is_delay}
-use Rattle.unit_model.specs.Lists.{onto}
+use Rattle.fh_base.specs.Lists.{onto}
 use Rattle.unit_model.specs.Meetings.{Meeting, meet, met_in}
-use Rattle.unit_model.proofs.OntoLemmas.{onto_none, onto_one}
+use Rattle.fh_base.proofs.OntoLemmas.{onto_none, onto_one}
 use Rattle.unit_memory.specs.Parts.{MemoryStands}
 use Rattle.unit_memory.proofs.HoldLemmas.{CountSoFar, any_one, count_none, count_one}
 use Rattle.unit_memory.proofs.StepLemmas.{reports_more, reports_none}

@@ -5,7 +5,7 @@ use Rattle.air_source.specs.declared.events.Side.{Side}
 use Rattle.ecpri_frames.specs.Left.{frame_of, left_of}
 use Rattle.fault_counters.specs.declared.kinds.Counter.{Counter}
 use Rattle.window_config.specs.declared.config.Config.{Config}
-use Rattle.unit_model.specs.Lists.{onto}
+use Rattle.fh_base.specs.Lists.{onto}
 use Rattle.unit_model.specs.Meetings.{Arrival, Meeting, met_in}
 use Rattle.unit_memory.specs.Control.{is_control}
 use Rattle.unit_memory.specs.Parts.{LeavesReported, MemoryStands}

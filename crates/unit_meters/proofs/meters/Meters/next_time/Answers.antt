@@ -1,5 +1,5 @@
 use Rattle.std.proofs.Common.{sym, subst}
-use Rattle.fh_time.specs.Least.{IsLeastOf}
+use Rattle.fh_base.specs.Least.{IsLeastOf}
 use Rattle.unit_meters.specs.Begins.{NoneBeginsTo}
 use Rattle.unit_meters.proofs.WaitLemmas.{first_begins}
 use Rattle.unit_meters.proofs.meters.Meters.next_time.Goals as goal

@@ -1,9 +1,9 @@
 use Rattle.std.proofs.Common.{refl, ◌∙◌}
-use Rattle.unit_model.specs.Lists.{onto}
+use Rattle.fh_base.specs.Lists.{onto}
 use Rattle.uplink_path.specs.Emitting.{given_too}
 use Rattle.uplink_path.proofs.EmitLemmas.{all_taken, can_pack, can_take, fewer, none_taken, on_ok, one_taken, stopped_at, stopped_last}
-use Rattle.uplink_path.proofs.FrameLemmas.{on_err}
 use Rattle.uplink_path.proofs.uplink.Uplink.emit_all.Goals as goal
+use Rattle.fh_base.proofs.CommonLemmas.{on_err}
 
 pub loop-job-init : goal.loop-job-init
 loop-job-init g c = record {

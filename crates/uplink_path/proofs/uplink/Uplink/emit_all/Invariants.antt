@@ -2,7 +2,7 @@ use Rattle.std.proofs.Common.{◌≡◌, List, length}
 use Rattle.air_source.specs.Kept.{closure_of}
 use Rattle.plan_model.specs.Packs.{Message}
 use Rattle.ru_buffers.specs.Calls.{StandsFor}
-use Rattle.radio_laws.specs.Units.{left_up_to}
+use Rattle.ru_buffers.specs.Units.{left_up_to}
 use Rattle.unit_model.specs.Standing.{History}
 use Rattle.unit_model.specs.declared.jobs.UplinkJob.{UplinkJob}
 use Rattle.uplink_path.specs.Emitting.{AreNumbered}

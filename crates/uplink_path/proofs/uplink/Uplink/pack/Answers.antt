@@ -5,10 +5,10 @@ use Rattle.plan_model.specs.Packs.{parts_of}
 use Rattle.plan_model.specs.declared.sizes.MessageSize.{MessageSize}
 use Rattle.uplink_path.specs.declared.rules.Rules.{Rules}
 use Rattle.uplink_path.proofs.CloseLemmas.{none_is, open_is}
-use Rattle.uplink_path.proofs.FrameLemmas.{on_err}
 use Rattle.uplink_path.proofs.TakeLemmas.{job_endpoint, stopped, taking, took_anew, took_first, took_with}
 use Rattle.uplink_path.proofs.uplink.Uplink.pack.Goals.{in-Some+else-takes+in_ok-send, in_default}
 use Rattle.uplink_path.proofs.uplink.Uplink.pack.Goals as goal
+use Rattle.fh_base.proofs.CommonLemmas.{on_err}
 
 pub push-requires-clause-room : goal.push-requires-clause-room
 push-requires-clause-room g c =

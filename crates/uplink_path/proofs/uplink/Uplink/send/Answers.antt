@@ -15,10 +15,10 @@ use Rattle.uplink_path.specs.Packing.{IsPacked}
 use Rattle.uplink_path.specs.Sending.{IsBehind, SentSome, wait_in}
 use Rattle.uplink_path.specs.declared.pending.Pending.{Pending}
 use Rattle.uplink_path.specs.declared.uplink.Uplink.{Uplink}
-use Rattle.uplink_path.proofs.FrameLemmas.{on_err}
 use Rattle.uplink_path.proofs.NumberLemmas.{capped_wait, numbers_next, room_stays, waits_next}
 use Rattle.uplink_path.proofs.SendableLemmas.{can_be_sent, endpoint_read, within_16}
 use Rattle.uplink_path.proofs.uplink.Uplink.send.Goals as goal
+use Rattle.fh_base.proofs.CommonLemmas.{on_err}
 
 pub bounds-self-first-2 : goal.bounds-self-first-2
 bounds-self-first-2 g c =

@@ -1,4 +1,0 @@
-pub mod Counting
-pub mod Flows
-pub mod OneLine
-pub mod Tallying

@@ -1,6 +1,0 @@
-use Rattle.std.proofs.Common.{◌≡◌, []}
-use Rattle.arrival_lines.specs.Counts.{columns_of}
-use Rattle.arrival_lines.proofs.tallies.blank_columns.Given as goal
-
-abbrev pub invariant-loop-c : goal.invariant-loop-c
-invariant-loop-c l = l.columns.items ≡ columns_of l.c []

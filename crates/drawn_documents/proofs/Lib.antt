@@ -1,2 +1,0 @@
-mod Plans
-pub mod Documents

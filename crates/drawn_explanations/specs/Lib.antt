@@ -1,2 +1,0 @@
-pub mod Drawable
-pub mod Laws

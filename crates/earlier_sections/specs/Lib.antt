@@ -1,4 +1,0 @@
-pub mod Chains
-pub mod Blocks
-pub mod Claims
-pub mod Laws

@@ -1,4 +1,0 @@
-pub mod Places
-pub mod Reasons
-pub mod Lines
-pub mod Faults

@@ -1,0 +1,5 @@
+use Rattle.std.proofs.Common.{◌≡◌, ◌++◌, take}
+use Rattle.explain_records.proofs.heard_records.keep_repeated.Given as goal
+
+abbrev pub invariant-loop-r : goal.invariant-loop-r
+invariant-loop-r l = l.kept ≡ record l.initial.kept { repeated = l.initial.kept.repeated ++ take l.r-index l.all }

@@ -1,5 +1,0 @@
-pub mod TurnOrder
-pub mod Left
-pub mod KeptLemmas
-pub mod RunLemmas
-pub mod FillLemmas

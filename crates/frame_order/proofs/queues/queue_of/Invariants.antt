@@ -1,5 +1,0 @@
-use Rattle.frame_order.specs.Filling.{IsFilled}
-use Rattle.frame_order.proofs.queues.queue_of.Given as goal
-
-abbrev pub invariant-loop-run : goal.invariant-loop-run
-invariant-loop-run l = IsFilled l.gap l.runs l.run-index l.queue

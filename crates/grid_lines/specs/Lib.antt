@@ -1,4 +1,0 @@
-pub mod Classes
-pub mod Endpoints
-pub mod Cells
-pub mod Text

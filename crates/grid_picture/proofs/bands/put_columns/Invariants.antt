@@ -1,7 +1,0 @@
-use Rattle.std.proofs.Common.{◌≡◌, ◌++◌}
-use Rattle.picture_lines.specs.Each.{each}
-use Rattle.grid_picture.specs.Bands.{column_text}
-use Rattle.grid_picture.proofs.bands.put_columns.Given as goal
-
-abbrev pub invariant-loop-k : goal.invariant-loop-k
-invariant-loop-k l = l.to ≡ l.initial.to ++ each (column_text l.span) l.k

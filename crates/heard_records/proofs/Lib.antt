@@ -1,5 +1,0 @@
-mod KeptLemmas
-mod WalkLemmas
-mod StoryLemmas
-mod OrderLemmas
-pub mod SoundLemmas

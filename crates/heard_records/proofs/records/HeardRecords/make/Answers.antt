@@ -1,6 +1,0 @@
-use Rattle.std.proofs.Common.{refl}
-use Rattle.heard_records.proofs.OrderLemmas.{starts}
-use Rattle.heard_records.proofs.records.HeardRecords.make.Goals as goal
-
-pub returns : goal.returns
-returns c = starts c.args.config.now _ refl c.new.ensures c.in_ok-ru.ensures c.in_ok-du.ensures

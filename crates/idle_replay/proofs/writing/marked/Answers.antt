@@ -1,5 +1,0 @@
-use Rattle.idle_replay.proofs.IdleLemmas.{heard_stands}
-use Rattle.idle_replay.proofs.writing.marked.Goals as goal
-
-pub returns-in-Ok : goal.returns-in-Ok
-returns-in-Ok c = heard_stands _ _ c.args.document.now c.args.first c.args.last c.in_ok-spans.ensures.stands c.in-Ok.ensures.heard

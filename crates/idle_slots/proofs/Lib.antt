@@ -1,4 +1,0 @@
-pub mod SlotLemmas
-pub mod FlagLemmas
-pub mod RunLemmas
-pub mod NextLemmas

@@ -1,6 +1,0 @@
-use Rattle.std.proofs.Common.{take}
-use Rattle.shared_cell.specs.Combined.{Stands}
-use Rattle.neighbour_tests.proofs.following.mix.Given as goal
-
-abbrev pub invariant-loop-k : goal.invariant-loop-k
-invariant-loop-k l = Stands l.mixer (take l.k l.cells)

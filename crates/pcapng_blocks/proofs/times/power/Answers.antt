@@ -1,8 +1,0 @@
-use Rattle.pcapng_blocks.proofs.Powers.{fits, some}
-use Rattle.pcapng_blocks.proofs.times.power.Goals as goal
-
-pub pow-requires : goal.pow-requires
-pow-requires c = fits c.args.exponent c.requires
-
-pub returns-clause-some : goal.returns-clause-some
-returns-clause-some c = rw c.pow.ensures (some c.args.exponent)

@@ -1,2 +1,0 @@
-pub mod Scaling
-pub mod Texts

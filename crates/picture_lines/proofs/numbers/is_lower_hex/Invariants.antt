@@ -1,6 +1,0 @@
-use Rattle.std.proofs.Common.{◌≡◌, take}
-use Rattle.picture_lines.specs.Numbers.{is_lower_hex}
-use Rattle.picture_lines.proofs.numbers.is_lower_hex.Given as goal
-
-abbrev pub invariant-loop-b : goal.invariant-loop-b
-invariant-loop-b l = l.all ≡ is_lower_hex (take l.b-index l.word)

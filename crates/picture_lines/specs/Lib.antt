@@ -1,4 +1,0 @@
-pub mod Each
-pub mod Numbers
-pub mod Refusals
-pub mod Scales

@@ -1,0 +1,10 @@
+pub mod Scaling
+pub mod LineTexts
+pub mod Ids
+pub mod Counting
+pub mod Flows
+pub mod OneLine
+pub mod Tallying
+pub mod Titles
+pub mod Writing
+pub mod Drawn

@@ -1,0 +1,7 @@
+use Rattle.std.proofs.Common.{◌≡◌, ◌++◌}
+use Rattle.pictures.specs.Each.{each}
+use Rattle.pictures.specs.Bars.{nth_column}
+use Rattle.pictures.proofs.bars.put_bars.Given as goal
+
+abbrev pub invariant-loop-column : goal.invariant-loop-column
+invariant-loop-column l = l.to ≡ l.initial.to ++ each (nth_column l.base l.columns) l.column

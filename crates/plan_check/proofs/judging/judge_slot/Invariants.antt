@@ -1,5 +1,0 @@
-use Rattle.plan_check.proofs.StepLemmas.{At}
-use Rattle.plan_check.proofs.judging.judge_slot.Given as goal
-
-abbrev pub invariant-loop-line : goal.invariant-loop-line
-invariant-loop-line l = At l.fn.ring.endpoint l.first.ep l.first.line.slot l.ring l.lines l.line-index

@@ -1,8 +1,0 @@
-use Rattle.std.proofs.Common.{◌≡◌, ◌∷◌, [], ◌++◌, map}
-use Rattle.unit_model.specs.Lists.{each}
-use Rattle.plan_model.specs.Streams.{part_in}
-use Rattle.plan_parts.specs.Parts.{timed}
-use Rattle.plan_parts.proofs.parts.put_line.Given as goal
-
-abbrev pub invariant-loop-k : goal.invariant-loop-k
-invariant-loop-k l = l.parts.items ≡ l.initial.parts.items ++ map (timed l.stream) (each l.p.line.symbol l.k (λ symbol. part_in symbol l.p ∷ []))

@@ -1,4 +1,0 @@
-pub mod Undisturbed
-pub mod Planned
-pub mod Uplink
-pub mod Counted

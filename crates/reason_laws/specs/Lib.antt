@@ -1,4 +1,0 @@
-pub mod Decoded
-pub mod Blocks
-pub mod Giving
-pub mod Grown

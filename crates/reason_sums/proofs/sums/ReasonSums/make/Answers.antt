@@ -1,6 +1,0 @@
-use Rattle.std.proofs.Common.{rules}
-use Rattle.reason_sums.proofs.AddLemmas.{none_yet}
-use Rattle.reason_sums.proofs.sums.ReasonSums.make.Goals as goal
-
-pub returns : goal.returns
-returns c = none_yet c.args.endpoints.now _ (search rules)

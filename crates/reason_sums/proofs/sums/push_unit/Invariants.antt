@@ -1,6 +1,0 @@
-use Rattle.std.proofs.Common.{◌≡◌, ◌++◌, map, take}
-use Rattle.reason_sums.specs.Counting.{none_of}
-use Rattle.reason_sums.proofs.sums.push_unit.Given as goal
-
-abbrev pub invariant-loop-endpoint : goal.invariant-loop-endpoint
-invariant-loop-endpoint l = l.all.items ≡ l.initial.all.items ++ map (none_of l.side) (take l.endpoint-index l.endpoints)

@@ -1,4 +1,0 @@
-pub mod Words
-pub mod Sums
-pub mod Counting
-pub mod Laws

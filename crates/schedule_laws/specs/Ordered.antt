@@ -1,7 +1,0 @@
--- Lists that are ordered by a test.
-use Rattle.std.specs.Prelude.{◌≡◌, Bool, false, List}
-use Rattle.unit_model.specs.Lists.{AreRelated}
-
--- none comes behind one that it puts behind
-abbrev pub AreOrderedBy : {X : Type 0} → (X → X → Bool) → List X → Type 0
-AreOrderedBy lt = AreRelated (λ p q. lt q p ≡ false)

@@ -1,6 +1,0 @@
-use Rattle.std.proofs.Common.{sym}
-use Rattle.sent_text.proofs.FrameLemmas.{none_there}
-use Rattle.sent_text.proofs.frames.line_number.Goals as goal
-
-pub returns-in-None : goal.returns-in-None
-returns-in-None c = none_there c.args.numbers.now c.args.place (sym c.in-None.ensures)

@@ -1,5 +1,0 @@
-pub mod Frames
-pub mod Laws
-pub mod Rows
-pub mod Text
-pub mod Told

@@ -1,3 +1,0 @@
-pub mod Halves
-mod Told
-mod Whole

@@ -1,2 +1,0 @@
-pub mod Silent
-pub mod SilentSteps

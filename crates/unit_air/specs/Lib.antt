@@ -1,4 +1,0 @@
-pub mod Airs
-pub mod Laws
-pub mod Stopping
-pub mod Text

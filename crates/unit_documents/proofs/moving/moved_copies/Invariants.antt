@@ -1,8 +1,0 @@
-use Rattle.std.proofs.Common.{◌≡◌, map, take}
-use Rattle.unit_documents.specs.Units.{moved}
-use Rattle.unit_documents.proofs.moving.moved_copies.Given as goal
-
-abbrev pub invariant-loop-k : goal.invariant-loop-k
-invariant-loop-k l = record {
-  items : l.longer ≡ map (moved l.fn.more) (take l.k l.times);
-}

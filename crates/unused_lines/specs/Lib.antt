@@ -1,3 +1,0 @@
-pub mod Starts
-pub mod Unused
-pub mod UnusedSteps

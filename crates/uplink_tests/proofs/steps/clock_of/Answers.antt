@@ -1,5 +1,0 @@
-use Rattle.std.proofs.Common.{sym, ◌∙◌}
-use Rattle.uplink_tests.proofs.steps.clock_of.Goals as goal
-
-pub returns : goal.returns
-returns c = c.clock.ensures c.args.config.now c.requires.history c.requires.stands ∙ sym c.requires.stands.kept.clock_is

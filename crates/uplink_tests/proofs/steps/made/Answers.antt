@@ -1,5 +1,0 @@
-use Rattle.uplink_path.proofs.StepLemmas.{unit_at_first}
-use Rattle.uplink_tests.proofs.steps.made.Goals as goal
-
-pub returns : goal.returns
-returns c = unit_at_first c.args.config.now c.make.result c.make.ensures.stands c.make.ensures.given

@@ -1,0 +1,9 @@
+pub mod Silent
+pub mod SilentSteps
+pub mod Starts
+pub mod Unused
+pub mod UnusedSteps
+pub mod Words
+pub mod Sums
+pub mod Counting
+pub mod Laws

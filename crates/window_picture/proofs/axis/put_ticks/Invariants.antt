@@ -1,7 +1,0 @@
-use Rattle.std.proofs.Common.{◌≡◌, ◌++◌}
-use Rattle.picture_lines.specs.Each.{each}
-use Rattle.window_picture.specs.Axis.{nth_tick}
-use Rattle.window_picture.proofs.axis.put_ticks.Given as goal
-
-abbrev pub invariant-loop-k : goal.invariant-loop-k
-invariant-loop-k l = l.to ≡ l.initial.to ++ each (nth_tick l.windows) l.k
