@@ -47,18 +47,18 @@ cut_front grew stopped written text fresh now events writes (inr stops) = stops_
 
 -- ---- by what was owed at first
 
--- what was owed and bytes behind it went on: a front of them was written
+-- what was owed and bytes after it went on: a front of them was written
 pub carried_from : (written : Option (List ℕ)) (owed start bytes : List ℕ) (now : Option (List ℕ)) (owed_now : List ℕ)
     → owed ≡ start → Carried written owed bytes now owed_now → WritesFront written now (start ++ bytes)
 carried_from written owed start bytes now owed_now is h = subst (λ (o : List ℕ). WritesFront written now (o ++ bytes)) is (carried_front written owed bytes now owed_now h)
 
--- and of them and more, where a front of what is owed and of more was written behind them
+-- and of them and more, where a front of what is owed and of more was written after them
 pub front_from : (written : Option (List ℕ)) (owed start bytes : List ℕ) (middle : Option (List ℕ)) (owed_now more : List ℕ) (now : Option (List ℕ))
     → owed ≡ start → Carried written owed bytes middle owed_now → WritesFront middle now (owed_now ++ more) → WritesFront written now (start ++ (bytes ++ more))
 front_from written owed start bytes middle owed_now more now is h front =
     subst (λ (o : List ℕ). WritesFront written now (o ++ (bytes ++ more))) is (front_behind written owed bytes middle owed_now more now h front)
 
--- and all of them and more, where what is owed and more was written behind them
+-- and all of them and more, where what is owed and more was written after them
 pub all_from : (written : Option (List ℕ)) (owed start bytes : List ℕ) (middle : Option (List ℕ)) (owed_now more : List ℕ) (now : Option (List ℕ))
     → owed ≡ start → Carried written owed bytes middle owed_now → now ≡ append_known middle (owed_now ++ more) → now ≡ append_known written (start ++ (bytes ++ more))
 all_from written owed start bytes middle owed_now more now is h whole =

@@ -26,7 +26,7 @@ pub stops_now : {A : Type 0} (grew : A → List Event → A → Type 0) (stopped
     → stopped old event new → StopsIn grew stopped (event ∷ []) old new
 stops_now grew stopped none event old new stop = record { before = []; event = event; after = []; is = refl; middle = old; heard = none old; stop = stop }
 
--- the air stopped in the event behind those that it heard
+-- the air stopped in the event after those that it heard
 pub stops_next : {A : Type 0} (grew : A → List Event → A → Type 0) (stopped : A → Event → A → Type 0) (before : List Event) (event : Event) (after : List Event) (old middle new : A)
     → grew old before middle → stopped middle event new → StopsIn grew stopped (before ++ event ∷ after) old new
 stops_next grew stopped before event after old middle new heard stop = record { before = before; event = event; after = after; is = refl; middle = middle; heard = heard; stop = stop }

@@ -24,7 +24,7 @@ pub moved_untold : {S : Type 0} (next : S → Event → S) (gives : S → Event 
     → Moved next gives state owed None events state_now owed_now None
 moved_untold next gives state owed events state_now owed_now = record { pushed = []; writes = refl; moved = λ none. absurd (cc none); splits = λ none. absurd (cc none) }
 
--- behind what was pushed out, a front of some bytes is one of a text that begins so, where the text is told
+-- after what was pushed out, a front of some bytes is one of a text that begins so, where the text is told
 front_behind : (written middle now : Option (List ℕ)) (pushed bytes rest text : List ℕ)
     → middle ≡ append_known written pushed → WritesFront middle now bytes → (IsSome written → text ≡ (pushed ++ bytes) ++ rest) → WritesFront written now text
 front_behind None middle now pushed bytes rest text writes front is = record { count = 0; within = omega arith; is = front.is ∙ ap (λ o. append_known o (take front.count bytes)) writes }

@@ -1,4 +1,4 @@
--- The symbol that the line of a cell begins with (this project's profile), and what stands after it.
+-- The symbol that the line of a cell begins with (this project's profile), and what is after it.
 use Rattle.std.specs.Prelude.{◌==◌, ◌&&◌, Bool, ℕ, List, ◌++◌, codes}
 use Rattle.std.specs.Ordering.{int_eq}
 use Rattle.air_source.specs.declared.events.AirCell.{AirCell}

@@ -16,7 +16,7 @@ cell_by answer slot prb = Cell (record { side = Ru; at = record { 0 = pos 0 }; i
 abbrev pub corner_at : RePlace → Wide
 corner_at p = record { i = pos (p.prb * 120 + p.re) -ℤ pos 32768; q = pos 32767 -ℤ pos p.id }
 
--- the byte that stands for a kind of event
+-- the byte that denotes a kind of event
 abbrev pub kind_of : Event → ℕ
 kind_of (Cell c) = 99
 kind_of (Delay at side id value) = 100

@@ -46,7 +46,7 @@ pub trait Air {
     ghost stopped: { AirFault → Self → Event → Self → Type 0 };
 
     /// The second air holds the same references as the first, so who lent them knows what became of
-    /// what is behind them.
+    /// what they refer to.
     ghost same: { Self → Self → Type 0 };
 
     /// Hears a cell that a unit reports.

@@ -29,7 +29,7 @@ fn slot_words(line: &mut Line, slot: Slot)
     line.spaced(u64::from(slot.slot));
 }
 
-/// Writes what the lines of a symbol begin with in place of what stood in the line.
+/// Writes what the lines of a symbol begin with in place of what was in the line.
 #[tactic(auto, unfolding(crate::specs::SymbolWords::symbol_text))]
 pub(crate) fn put_symbol(s: &CellSymbol, line: &mut Line)
     ensures text { line.new ≡ symbol_text s.now }
@@ -104,7 +104,7 @@ fn items(line: &mut Line, mask: u16, block: &[Wide; 12])
     }
 }
 
-/// Appends what stands in the line of a cell after its symbol.
+/// Appends what is in the line of a cell after its symbol.
 pub(crate) fn put_rest(c: &AirCell, line: &mut Line)
     requires { length line.old ≤ 112 }
     ensures { line.new ≡ line.old ++ rest_text c.now }
@@ -120,7 +120,7 @@ pub(crate) fn put_rest(c: &AirCell, line: &mut Line)
     line.text(b"\n");
 }
 
-/// Writes the line of a cell in place of what stood in the line: `dl T ID F S L Y PRB SECTION MASK
+/// Writes the line of a cell in place of what was in the line: `dl T ID F S L Y PRB SECTION MASK
 /// ITEMS` for a cell of the radio unit, and `ul` with the same words for one of the distributed unit.
 ///
 /// T is the start of the symbol in ticks, F the frame (both signed), S the subframe, L the slot, Y the

@@ -61,7 +61,7 @@ pub enum Event {
         /// Its bytes.
         frame: Bytes,
     },
-    /// A counter stands at a value.
+    /// A counter has a value.
     Count {
         /// The unit whose counter it is.
         side: Side,

@@ -12,7 +12,7 @@
 //!
 //! A line of a report (this project's profile) is a cell, a measured delay or a counter. It ends with a line feed, its words are
 //! parted by one space. Numbers are decimal without leading zeros, but an eAxC id has four and a mask three lower-case hexadecimal
-//! digits. A `put_` call writes where a line stands, and the call beside it answers a line of its own. A [`ReportLine`] writes what
+//! digits. A `put_` call writes in place of a line, and the call beside it answers a line of its own. A [`ReportLine`] writes what
 //! the lines of a symbol's cells have in common once. Tones and lines take no memory.
 #![tactic(auto)]
 

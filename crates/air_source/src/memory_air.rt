@@ -106,7 +106,7 @@ impl Air for MemoryAir {
 
     ghost same_more = { λ _ _ _ _ _. tt };
 
-    /// Keeps the cell, unless memory is refused. `Failed` comes exactly at the listed calls.
+    /// Keeps the cell, unless memory is refused. `Failed` is given exactly at the listed calls.
     fn cell(&mut self, c: &AirCell) -> Result<(), AirFault>
         ensures heard { OnOk result (⟦<MemoryAir as Air>⟧.grew self.old (Cell c.now ∷ []) self.new) }
         ensures stop { IfErr result (λ f. ⟦<MemoryAir as Air>⟧.stopped f self.old (Cell c.now) self.new) }
@@ -118,7 +118,7 @@ impl Air for MemoryAir {
         self.keep(Event::Cell(*c))
     }
 
-    /// Keeps the delay, unless memory is refused. `Failed` comes exactly at the listed calls.
+    /// Keeps the delay, unless memory is refused. `Failed` is given exactly at the listed calls.
     fn delay(&mut self, at: Ticks, side: Side, id: u8, value: i128) -> Result<(), AirFault>
         ensures heard { OnOk result (⟦<MemoryAir as Air>⟧.grew self.old (Delay at side id value ∷ []) self.new) }
         ensures stop { IfErr result (λ f. ⟦<MemoryAir as Air>⟧.stopped f self.old (Delay at side id value) self.new) }
@@ -135,7 +135,7 @@ impl Air for MemoryAir {
         })
     }
 
-    /// Keeps the frame, unless memory is refused. `Failed` comes exactly at the listed calls.
+    /// Keeps the frame, unless memory is refused. `Failed` is given exactly at the listed calls.
     fn arrival(&mut self, side: Side, at: Ticks, frame: &[u8]) -> Result<(), AirFault>
         requires { length frame.now < 2 ^ 32 }
         ensures heard { OnOk result (⟦<MemoryAir as Air>⟧.grew self.old (Arrival side at frame.now ∷ []) self.new) }
@@ -154,7 +154,7 @@ impl Air for MemoryAir {
         })
     }
 
-    /// Keeps the count, unless memory is refused. `Failed` comes exactly at the listed calls.
+    /// Keeps the count, unless memory is refused. `Failed` is given exactly at the listed calls.
     fn count(&mut self, side: Side, counter: Counter, value: u64) -> Result<(), AirFault>
         ensures heard { OnOk result (⟦<MemoryAir as Air>⟧.grew self.old (Count side counter value ∷ []) self.new) }
         ensures stop { IfErr result (λ f. ⟦<MemoryAir as Air>⟧.stopped f self.old (Count side counter value) self.new) }

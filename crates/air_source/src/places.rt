@@ -1,4 +1,4 @@
-// Where samples stand.
+// Where samples are.
 use fh_base::Slot;
 
 /// A resource element of a carrier (3GPP TS 38.211, 4.4).

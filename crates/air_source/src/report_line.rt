@@ -13,7 +13,7 @@ use fh_base::Ticks;
 use std::marker::Model;
 
 /// A line of a report, which each call writes in place of the last one. What the lines of all cells of a symbol begin with is
-/// written once for those that come in a row. Contracts see the list of its bytes.
+/// written once for those that follow in a row. Contracts see the list of its bytes.
 #[derive(Drop)]
 pub struct ReportLine {
     line: Line,

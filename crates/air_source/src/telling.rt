@@ -20,7 +20,7 @@ fn air_fault(fault: SinkFault) -> AirFault
     }
 }
 
-/// Owes a text of any length behind what is owed, and writes what does not fit.
+/// Owes a text of any length after what is owed, and writes what does not fit.
 ///
 /// # Errors
 ///

@@ -16,7 +16,7 @@ fn side_name(side: Side) -> &'static [u8]
     }
 }
 
-/// Writes the line of a measured one-way delay in place of what stood in the line, `delay T SIDE ID
+/// Writes the line of a measured one-way delay in place of what was in the line, `delay T SIDE ID
 /// VALUE`: T is the arrival that gave it in ticks, SIDE the unit that measured it (`du` or `ru`), ID the
 /// measurement id, and VALUE the delay in units of 2^-16 ns, signed (message type 5 of eCPRI 2.0).
 #[tactic(auto, unfolding(crate::specs::UnitLines::delay_text))]
@@ -43,7 +43,7 @@ pub fn delay_line(at: Ticks, side: Side, id: u8, value: i128) -> Line
     line
 }
 
-/// Writes the line of a counter in place of what stood in the line, `count SIDE NAME VALUE`: the unit
+/// Writes the line of a counter in place of what was in the line, `count SIDE NAME VALUE`: the unit
 /// (`du` or `ru`), the counter's name and its value. It is the same at the value 0.
 #[tactic(auto, unfolding(crate::specs::UnitLines::count_text))]
 pub fn put_count(side: Side, counter: Counter, value: u64, line: &mut Line)

@@ -59,7 +59,7 @@ struct Heard {
     end: Result<(), URefusal>,
 }
 
-/// What is told of a message on a carrier of so many PRBs, which comes in two pieces cut at `cut`,
+/// What is told of a message on a carrier of so many PRBs, which is received in two pieces cut at `cut`,
 /// and each of them in pieces of at most `most` bytes.
 fn walk(message: &[u8], format: Format, prbs: u16, cut: usize, most: usize) -> Heard
     requires width { HasWidth format.method }

@@ -95,7 +95,7 @@ fn carrier(dynamic: bool, method: Method, prbs: u16) -> Carrier
     }
 }
 
-/// The command of this header and section is this frame, and the bytes behind it stay.
+/// The command of this header and section is this frame, and the bytes after it stay.
 fn is_sent(rt: &impl Abort, pc: u16, seq: u8, head: &CHead, section: &CSection, wanted: &[u8])
     requires head_fits { HeadFits head.now }
     requires section_fits { CommandFits section.now }

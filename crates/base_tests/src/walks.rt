@@ -47,7 +47,7 @@ const HEAD: UHead = UHead {
     symbol: 0,
 };
 
-/// The first 6 items of a walk, the refusal behind them, and the test of the same message.
+/// The first 6 items of a walk, the refusal after them, and the test of the same message.
 #[derive(Clone, Copy, Debug, PartialEq, Eq)]
 struct Outcome {
     items: [UFeed; 6],

@@ -1,4 +1,4 @@
-// What the plans stand on: endpoints, the configuration, and a line of a whole slot.
+// What the plans are based on: endpoints, the configuration, and a line of a complete slot.
 ghost use Rattle.std.specs.Prelude.{◌≡◌, ◌<◌, ◌≤◌, ◌≤ℤ◌, ◌^◌, ◌∷◌, [], pos, IfSome};
 ghost use Rattle.window_config.specs.Configs.{IsConfig};
 ghost use Rattle.window_config.specs.Endpoints.{AreEndpoints, IsEndpoint};

@@ -1,4 +1,4 @@
--- The cells of several units may be added one behind the other: no unit has two of one place.
+-- The cells of several units may be added one after the other: no unit has two of one place.
 use Rattle.std.proofs.Common.{◌≡◌, ℕ, zero, suc, ◌+◌, ◌<◌, ◌≤◌, ◌/◌, ◌%◌, Bool, true, false, cond, IsTrue, List, [], ◌∷◌, ◌++◌, All, refl, ap, sym, ◌∙◌, subst, arith, append_assoc, count_by}
 use Rattle.std.proofs.lemmas.List.Elements.{All-nil, All-append, All-push}
 use Rattle.std.proofs.lemmas.List.Sums.{sum_by-append}

@@ -41,7 +41,7 @@ unfoldable pub packed_of : Method → List Iq → List ℕ
 packed_of Plain block = number_bytes 16 (component block)
 packed_of (Bfp w) block = exponent_of w block ∷ number_bytes w (mantissa w block)
 
--- the samples that bytes stand for
+-- the samples that bytes encode
 unfoldable pub unpacked_of : Method → List ℕ → List Wide
 unpacked_of Plain bytes = wide_block (λ k. signed 16 (field bytes (16 * k) 16))
 unpacked_of (Bfp w) bytes = wide_block (λ k. signed w (field bytes (8 + w * k) w) *ℤ pos (2 ^ field bytes 4 4))

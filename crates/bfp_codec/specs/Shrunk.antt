@@ -29,7 +29,7 @@ pub record IsNear (e : ℕ) (z was : ℤ) : Type 0 where
   pub most : z ≤ℤ was
   pub lost : was <ℤ (z +ℤ pos (2 ^ e))
 
--- the methods that write a shrunk block by the bytes of the block that it came from: one bit has no room for 1
+-- the methods that write a shrunk block by the bytes of the block that it was made from: one bit has no room for 1
 abbrev pub KeepsBytes : Method → Type 0
 KeepsBytes Plain = Unit {0}
 KeepsBytes (Bfp w) = 2 ≤ w

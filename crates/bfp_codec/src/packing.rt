@@ -215,7 +215,7 @@ fn pack_plain(block: &[Iq; 12], into: &mut [u8])
     put_number(into, 32, 16, four_plain(block, 2));
 }
 
-/// Writes the bytes of a block where they are to stand, over all that was there: those that `pack` answers. It takes no memory.
+/// Writes the bytes of a block where they are to be, over all that was there: those that `pack` answers. It takes no memory.
 pub fn pack_into(method: Method, block: &[Iq; 12], into: &mut [u8])
     requires width { HasWidth method }
     requires len { length into.old ≡ length_of method }

@@ -1,5 +1,5 @@
 //! The program `capture_pcap`: it hands its words and the standard streams to `run` of `pcap_export`, and ends with the status that
-//! comes of it.
+//! results from it.
 #![tactic(auto)]
 
 use fh_base::{StdSink, StdSource};

@@ -51,7 +51,7 @@ records_skip zero (b ∷ bytes) h = refl
 records_skip (suc skip) [] h = absurd (omega arith)
 records_skip (suc skip) (b ∷ bytes) h = records_skip skip bytes (omega arith)
 
--- behind a record that passes, the tests go on
+-- after a record that passes, the tests go on
 pub checked_next : (place : ℕ) (bytes : List ℕ) (size : ℕ) → size_checked bytes ≡ Ok size → checked_from place 0 bytes ≡ checked_from (place + size) 0 (drop size bytes)
 unfolding checked_from
 checked_next place [] size e = absurd cc
@@ -72,7 +72,7 @@ unfolding checked_from
 checked_stop place [] why some e = absurd (omega arith)
 checked_stop place (b ∷ bytes) why some e = ap (λ r. passed_by r place (checked_from (place + 1) (12 + length_at (b ∷ bytes)) bytes)) e
 
--- a record that passes is the first, and the others stand behind it
+-- a record that passes is the first, and the others are after it
 pub records_next : (bytes : List ℕ) (size : ℕ) → size_checked bytes ≡ Ok size → records_from 0 bytes ≡ arrived_at bytes ∷ records_from 0 (drop size bytes)
 unfolding records_from
 records_next [] size e = absurd cc
@@ -109,7 +109,7 @@ first_size place (b ∷ bytes) some e =
     let h = has_size (size_checked (b ∷ bytes)) place (checked_from (place + 1) (12 + length_at (b ∷ bytes)) bytes) e in
     h.1 ∙ ap Ok (whole (b ∷ bytes) h.0 h.1).is
 
--- the records behind the first of some that pass, pass
+-- the records after the first of some that pass, pass
 pub rest_passes : (bytes : List ℕ) → 0 < length bytes → is_ok (checked_from 0 0 bytes) ≡ true → is_ok (checked_from 0 0 (drop (13 + length_at bytes) bytes)) ≡ true
 rest_passes bytes some e =
     let size = 13 + length_at bytes in
@@ -148,7 +148,7 @@ pub ends : (bytes : List ℕ) (place : ℕ) → length bytes ≤ place → check
 unfolding checked_from
 ends bytes place ge so_far = sym (so_far ∙ ap (checked_from place 0) (drop_all place bytes ge))
 
--- behind a magic that was found, the records pass
+-- after a magic that was found, the records pass
 is_taken : (b : Bool) (x : Result (Unit {0}) CaptureRefusal) (r : CaptureRefusal) → cond b x (Err r) ≡ Ok tt → x ≡ Ok tt
 is_taken true x r e = e
 is_taken false x r e = absurd cc

@@ -8,7 +8,7 @@ use Rattle.capture_records.specs.Reading.{checked_from, records_from, checked, r
 use Rattle.capture_records.proofs.HeadBytes.{record_length, arrived_back, size_back}
 use Rattle.capture_records.proofs.Steps.{checked_next, records_next}
 
--- what stands behind the first record
+-- what is after the first record
 behind : (a : Arrived) (rest : List ℕ) → drop (13 + length a.frame) (record_bytes a ++ rest) ≡ rest
 behind a rest = drop_at (record_bytes a) rest (13 + length a.frame) (record_length a)
 

@@ -34,7 +34,7 @@ size_checked bytes =
     else (if nat_lt (length bytes - 13) (length_at bytes) then Err Cut
     else Ok (13 + length_at bytes)))
 
--- the refusal of a record that begins at a place, or what is found behind it
+-- the refusal of a record that begins at a place, or what is found after it
 abbrev pub passed_by : Result ℕ CaptureWhy → ℕ → Result (Unit {0}) CaptureRefusal → Result (Unit {0}) CaptureRefusal
 passed_by (Ok size) place behind = behind
 passed_by (Err why) place behind = Err (record { place = place; why = why })

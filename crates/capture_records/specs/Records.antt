@@ -24,7 +24,7 @@ abbrev pub way_byte : Side → ℕ
 way_byte Ru = 0
 way_byte Du = 1
 
--- what stands before a frame: the way, the time in ticks and the length
+-- what is before a frame: the way, the time in ticks and the length
 abbrev pub head_bytes : Side → ℤ → ℕ → List ℕ
 head_bytes side at len = way_byte side ∷ (to_be_bytes w64 (cast_unsigned w64 at) ++ to_be_bytes w32 len)
 

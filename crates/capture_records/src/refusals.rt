@@ -7,7 +7,7 @@ use thiserror::Error;
 /// What is wrong with a capture.
 #[derive(Clone, Copy, Debug, PartialEq, Eq, Error)]
 pub enum CaptureWhy {
-    /// The magic is not there, or other bytes stand in its place.
+    /// The magic is not there, or other bytes are in its place.
     #[error("not a capture")]
     Magic,
     /// The capture ends inside a record.

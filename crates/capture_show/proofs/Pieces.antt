@@ -64,7 +64,7 @@ pub records_none : (n : ℕ) (left : List Arrived) → left ≡ [] → records_l
 unfolding records_lines
 records_none n left e = ap (records_lines n) e
 
--- an object has bytes, so where nothing was written a part of it and of what stands before it was
+-- an object has bytes, so where nothing was written a part of it and of what is before it was
 pub object_left : (w : Option (List ℕ)) (o before : List ℕ) (l : ShownLine) → WritesPart w w (o ++ (before ++ compact_text (object_of l)))
 unfolding object_of
 object_left w o before l = record {

@@ -30,7 +30,7 @@ pub stopped_one : (json later : Bool) (w v : Option (List ℕ)) (o : List ℕ) (
     → Stopped (record { json = json; later = later; written = w; owed = o }) v (l ∷ [])
 stopped_one json later w v o l part = subst (λ (t : List ℕ). WritesPart w v (o ++ t)) (sym (piece_alone json later l)) part
 
--- the pieces of more lines, told from a state behind some
+-- the pieces of more lines, told from a state after some
 pieces_behind : (s t : State) (xs ys : List ShownLine) → Told s t xs → pieces s.json s.later xs ++ pieces t.json t.later ys ≡ pieces s.json s.later (xs ++ ys)
 pieces_behind s t xs ys h =
     ap₂ (λ j l. pieces s.json s.later xs ++ pieces j l ys) h.json h.later

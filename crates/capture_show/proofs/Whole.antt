@@ -1,4 +1,4 @@
--- The whole text: what stands before the lines, the lines, and what stands behind them.
+-- The complete text: what is before the lines, the lines, and what is after them.
 use Rattle.std.proofs.Common.{◌≡◌, ℕ, Bool, false, List, [], ◌++◌, Option, sym, ap, ap₂, subst, append_assoc, ◌∙◌}
 use Rattle.std.specs.Io.KnownBytes.{append_known}
 use Rattle.fh_base.specs.Told.{WritesFront, WritesPart}
@@ -26,7 +26,7 @@ open_part w v o json was ls none is part =
     part_of w v o (front_text json) (pieces json false ls ++ end_text json) (lines_text json ls) none (opened_first json ls)
     (subst (λ (b : Bool). WritesPart w v (o ++ front_text b)) is part)
 
--- the lines behind the opening
+-- the lines after the opening
 told_behind : (s : State) (w : Option (List ℕ)) (o : List ℕ) (json was : Bool) (ls : List ShownLine) → was ≡ json → s.json ≡ json → s.later ≡ false
     → front_text was ++ pieces s.json s.later ls ≡ front_text json ++ pieces json false ls
 told_behind s w o json was ls is json_is first = ap (λ b. front_text b ++ pieces s.json s.later ls) is ∙ ap₂ (λ j l. front_text json ++ pieces j l ls) json_is first

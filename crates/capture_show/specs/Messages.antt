@@ -62,7 +62,7 @@ command_line place id seq head = line kind.Command
     ++ (count name.Sections head.count ∷ count name.MessageType (kind_of head.body) ∷ [])
     ++ body_members head.body)
 
--- the frequency offset stands in section type 3 alone
+-- the frequency offset is in section type 3 alone
 abbrev pub freq_members : ℕ → CSection → List Member
 freq_members type s = if type == 3 then signed name.Freq s.freq_offset ∷ [] else []
 
@@ -92,7 +92,7 @@ command_lines place payload =
 
 -- ---- data
 
--- the header of a message stands in the first four bytes of its first fragment; it is shown untested
+-- the header of a message is in the first four bytes of its first fragment; it is shown untested
 abbrev pub header_of : List ℕ → UHead
 header_of bytes = head_of (take 4 bytes)
 

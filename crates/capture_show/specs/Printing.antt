@@ -6,7 +6,7 @@ use Rattle.capture_show.specs.declared.printing.Printer.{Printer}
 use Rattle.capture_show.specs.Lines.{ShownLine}
 use Rattle.capture_show.specs.Texts.{pieces}
 
--- a printer and its sink: whether it prints JSON, whether a line stands before, what the sink holds and what is owed to it
+-- a printer and its sink: whether it prints JSON, whether a line precedes, what the sink holds and what is owed to it
 pub record State : Type 0 where
   pub json : Bool
   pub later : Bool
@@ -16,7 +16,7 @@ pub record State : Type 0 where
 abbrev pub state_of : Printer → Option (List ℕ) → State
 state_of p written = record { json = p.json; later = p.later; written = written; owed = p.owed }
 
--- whether a line stands before, once these lines were told
+-- whether a line precedes, once these lines were told
 abbrev pub later_behind : Bool → List ShownLine → Bool
 later_behind later [] = later
 later_behind later (l ∷ ls) = true

@@ -13,7 +13,7 @@ use Rattle.capture_show.specs.Lines.{ShownLine, kind_text, is_bare, name_text, w
 
 -- ---- text
 
--- a member behind a space, with its name but for the line of a record
+-- a member after a space, with its name but for the line of a record
 abbrev pub member_text : Bool → Member → List ℕ
 member_text bare m = if bare then codes " " ++ field_text m.field else with_name (name_text m.name) (field_text m.field)
 
@@ -42,12 +42,12 @@ object_of l = object (put_all (shown_members l.members) (put (codes "line") (str
 
 -- ---- both
 
--- a line of text; or an object, behind a comma where another stands before it
+-- a line of text; or an object, after a comma where another precedes it
 abbrev pub piece : Bool → Bool → ShownLine → List ℕ
 piece true later l = comma_if later ++ compact_text (object_of l)
 piece false later l = line_text l
 
--- the pieces of some lines, where `later` says whether others stand before them
+-- the pieces of some lines, where `later` says whether others are before them
 unfoldable pub pieces : Bool → Bool → List ShownLine → List ℕ
 pieces json later [] = []
 pieces json later (l ∷ ls) = piece json later l ++ pieces json true ls
@@ -57,7 +57,7 @@ abbrev pub lines_text : Bool → List ShownLine → List ℕ
 lines_text true ls = compact_text (array (items_of (map object_of ls))) ++ codes "\n"
 lines_text false ls = flat_map line_text ls
 
--- what stands before and behind the pieces
+-- what is before and after the pieces
 abbrev pub front_text : Bool → List ℕ
 front_text true = codes "["
 front_text false = []

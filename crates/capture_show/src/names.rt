@@ -22,7 +22,7 @@ pub fn kind_text(kind: Kind) -> &'static str
     }
 }
 
-/// Whether the members of a line stand in the text without their names.
+/// Whether the members of a line are in the text without their names.
 pub fn is_bare(kind: Kind) -> bool
     ensures { result ≡ is_bare kind }
 {

@@ -1,4 +1,4 @@
-// What stands before and behind the lines.
+// What is before and after the lines.
 ghost use Rattle.std.specs.Prelude.{◌≡◌};
 ghost use Rattle.capture_show.specs.Texts.{front_text, end_text};
 

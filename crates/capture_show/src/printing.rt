@@ -88,14 +88,14 @@ fn tell_text<K: Sink>(shown: &Shown, owed: &mut OwedBytes, out: &mut K) -> Resul
     owed.tell(b"\n", out)
 }
 
-// What stands before an object.
+// What is before an object.
 fn comma(later: bool) -> &'static [u8]
     ensures { result.now ≡ comma_if later }
 {
     if later { b"," } else { b"" }
 }
 
-// Tells the object of a line, behind a comma where another stands before it.
+// Tells the object of a line, after a comma where another precedes it.
 fn tell_object<K: Sink>(
     alloc: Global,
     later: bool,
@@ -160,7 +160,7 @@ impl Printer {
         Ok(())
     }
 
-    /// Tells what stands before the lines.
+    /// Tells what is before the lines.
     pub fn open<K: Sink>(&mut self, out: &mut K) -> Result<(), SinkFault>
         ensures carried { OnOk result (Carried (K.written out.old) self.old.owed (front_text self.old.json) (K.written out.new) self.new.owed) }
         ensures part { OnErr result (WritesPart (K.written out.old) (K.written out.new) (self.old.owed ++ front_text self.old.json)) }
@@ -170,7 +170,7 @@ impl Printer {
         self.owed.tell(opening(self.json), out)
     }
 
-    /// Writes all that was told, and what stands behind it.
+    /// Writes all that was told, and what is after it.
     pub fn close<K: Sink>(&mut self, out: &mut K) -> Result<(), SinkFault>
         ensures all { OnOk result (K.written out.new ≡ append_known (K.written out.old) (self.old.owed ++ end_text self.old.json)) }
         ensures front { WritesFront (K.written out.old) (K.written out.new) (self.old.owed ++ end_text self.old.json) }

@@ -54,7 +54,7 @@ impl From<SinkFault> for ShowFault {
 /// # Errors
 ///
 /// `BadCapture` exactly where a record is malformed, at its place: all records are tested first, and nothing is written then. After
-/// `WriteFault`, which comes exactly where the sink's count of faults rose, and after `NoMemory` a front part of the text was written
+/// `WriteFault`, which occurs exactly where the sink's count of faults rose, and after `NoMemory` a front part of the text was written
 /// and not all.
 pub fn show<K: Sink>(alloc: Global, bytes: &[u8], json: bool, out: &mut K) -> Result<(), ShowFault>
     ensures ok { OnOk result (K.written out.new ≡ append_known (K.written out.old) (lines_text json (capture_lines bytes.now))) }

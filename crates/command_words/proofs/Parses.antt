@@ -10,7 +10,7 @@ pub program_is_simple : is_simple program ≡ true
 unfolding clap_on_literals
 program_is_simple = refl
 
--- what stands for a flag that was found, or was not
+-- the text of a flag that was found, or was not
 abbrev pub flag_text : Bool → List ℕ
 flag_text flag = if flag then codes "true" else codes "false"
 
@@ -73,7 +73,7 @@ plain_gives ws p few =
       fourth_is = ap (first_of (codes "fourth")) rows ∙ found.fourth;
     }
 
--- a flag behind the one word that may have it
+-- a flag after the one word that may have it
 pub json_gives : Gives (codes "show" ∷ codes "--json" ∷ []) (flags_of true false) (given_of (codes "show" ∷ []))
 unfolding clap_on_literals
 json_gives = record { taken = refl; json_is = refl; faults_is = refl; word_is = refl; first_is = refl; second_is = refl; third_is = refl; fourth_is = refl }

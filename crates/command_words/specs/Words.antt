@@ -49,7 +49,7 @@ plain_in low high word = number_in (length word) low high word
 abbrev pub count_in : List ℕ → Option ℕ
 count_in word = plain_in 2 8 word
 
--- how much further away each unit stands than the one before it, in nanoseconds
+-- how much further away each unit is than the one before it, in nanoseconds
 abbrev pub step_in : List ℕ → Option ℕ
 step_in word = plain_in 0 1000000 word
 

@@ -41,7 +41,7 @@ pub enum Command {
     Shared {
         /// How many units share the cell, from 2 to 8.
         count: u8,
-        /// How much further away each unit stands than the one before it, from 0 to 1,000,000 ns.
+        /// How much further away each unit is than the one before it, from 0 to 1,000,000 ns.
         step: u32,
     },
     /// `idle FIRST LAST MIN`: when a document's radio unit radiates nothing, and plan lines for slots that nobody touches.

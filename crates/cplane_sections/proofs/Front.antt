@@ -1,4 +1,4 @@
--- Written bytes with other bytes behind them, and what is written one after the other.
+-- Written bytes with other bytes after them, and what is written one after the other.
 use Rattle.std.proofs.Common.{◌≡◌, ℕ, pos, ◌+◌, ◌*◌, ◌<◌, ◌≤◌, inl, inr, List, [], ◌∷◌, ◌++◌, length, take, drop, get_or, refl, sym, ap, ◌∙◌, arith}
 use Rattle.std.proofs.lemmas.Bool.{cases_eq}
 use Rattle.std.proofs.lemmas.Bool.Decides.{nat_tests}
@@ -148,7 +148,7 @@ message_head h bytes n size fits w =
     let ends : size_of_head (kind_of h.body) ≡ length (take n bytes) = omega arith in
     record { room = omega arith; head_written = head_front h bytes (take n bytes) front w; sections_written = ends }
 
--- a section behind what was written
+-- a section after what was written
 pub message_put : (h : CHead) (ss : List CSection) (s : CSection) (front bytes : List ℕ) (n : ℕ) → n ≡ size_of_section (kind_of h.body) → n ≤ length bytes
     → WritesSection (kind_of h.body) s bytes → WritesMessage h ss front → WritesMessage h (ss ++ s ∷ []) (front ++ take n bytes)
 message_put h ss s front bytes n size fits w m =

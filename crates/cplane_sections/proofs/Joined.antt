@@ -1,4 +1,4 @@
--- What callers write into one buffer: m bytes of a piece behind the first n bytes.
+-- What callers write into one buffer: m bytes of a piece after the first n bytes.
 use Rattle.std.proofs.Common.{◌≡◌, ℕ, ◌+◌, ◌≤◌, List, ◌++◌, length, take, drop, sym, ap, ◌∙◌, arith, append_assoc}
 use Rattle.std.proofs.lemmas.List.{length-append, length-take-le, take-append-drop, take_at}
 

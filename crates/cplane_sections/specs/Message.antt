@@ -18,7 +18,7 @@ sections_of (suc n) kind bytes place before =
 abbrev pub sections_in : CHead → List ℕ → List CSection
 sections_in head bytes = sections_of head.count (kind_of head.body) bytes (size_of_head (kind_of head.body)) head.start_symbol
 
--- the first of n sections stands at the place, and the others pass
+-- the first of n sections is at the place, and the others pass
 pub record PassesOn (n kind : ℕ) (bytes : List ℕ) (place before : ℕ) : Type 0 where
   pub room : place + size_of_section kind ≤ length bytes
   pub below : before + symInc (drop place bytes) < 255

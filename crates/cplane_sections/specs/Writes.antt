@@ -39,12 +39,12 @@ pub record WritesSection (kind : ℕ) (s : CSection) (bytes : List ℕ) : Type 0
   pub idle : kind ≡ 0 → beamId bytes ≡ 0
   pub offset : kind ≡ 3 → offset_reserved bytes ≡ 0
 
--- the section stands whole at a place
+-- the complete section is at a place
 pub record StandsAt (kind : ℕ) (s : CSection) (bytes : List ℕ) (place : ℕ) : Type 0 where
   pub room : place + size_of_section kind ≤ length bytes
   pub writes : WritesSection kind s (drop place bytes)
 
--- the sections stand from a place to the end, one after the other
+-- the sections are written from a place to the end, one after the other
 unfoldable pub AreWritten : ℕ → List ℕ → ℕ → List CSection → Type 0
 AreWritten kind bytes place [] = place ≡ length bytes
 AreWritten kind bytes place (s ∷ ss) = StandsAt kind s bytes place × AreWritten kind bytes (place + size_of_section kind) ss

@@ -79,7 +79,7 @@ pub fn block_text(alloc: Global, block: &Block) -> Result<String, AllocError>
     format!(in alloc; "{bytes}{numbers}")
 }
 
-/// The numbers of samples that are not 0, each behind its place of 24.
+/// The numbers of samples that are not 0, each after its place of 24.
 fn samples_text(alloc: Global, samples: &[Wide; 12]) -> Result<String, AllocError> {
     let mut text = String::new(alloc);
     for k in 0..12 {

@@ -5,7 +5,7 @@ use crate::hexadecimal::text_of;
 use ecpri_frames::{Feed, Head, Pdu, PduRefusal, messages, pad_after, put_head, read_head};
 use std::alloc::{AllocError, Global};
 
-/// What a frame tells: the four bytes of each header, then its payload, and `ff` behind a payload of at least one byte;
+/// What a frame tells: the four bytes of each header, then its payload, and `ff` after a payload of at least one byte;
 /// and its first fault, if it has one.
 #[derive(Drop)]
 struct Told {
@@ -13,7 +13,7 @@ struct Told {
     fault: Option<PduRefusal>,
 }
 
-/// What a frame tells that comes in two pieces cut at `cut`, each of them in pieces of at most `most` bytes.
+/// What a frame tells that is given in two pieces cut at `cut`, each of them in pieces of at most `most` bytes.
 fn tell(alloc: Global, frame: &[u8], cut: usize, most: usize) -> Result<Told, AllocError>
     requires { 0 < most }
 {

@@ -1,4 +1,4 @@
-//! Vectors of an open fronthaul, whose values come from outside: reads entries from standard input, a line each, and
+//! Vectors of an open fronthaul, whose values are from outside: reads entries from standard input, a line each, and
 //! prints for each what the crates say. `tables.py` writes the entries and the wanted answers.
 //!
 //! An empty line, and one that begins with `#`, is printed as it is. A line that is no entry is answered by its number.

@@ -1,4 +1,4 @@
--- The unit that did not send the request: what comes to it, and what it answers.
+-- The unit that did not send the request: what it receives, and what it answers.
 use Rattle.std.proofs.Common.{◌≡◌, ℕ, ℤ, ◌≤ℤ◌, Bool, true, false, List, [], ◌∷◌, ◌++◌, Some, None, refl, sym, ap, ap₂, ◌∙◌, subst, inl, inr}
 use Rattle.std.specs.Prelude.{Contains, All, ◌⊎◌, map}
 use Rattle.std.proofs.lemmas.Bool.{cases_Bool}
@@ -21,7 +21,7 @@ use Rattle.delay_laws.proofs.Arithmetic.{value_stamped}
 use Rattle.delay_laws.proofs.Lists.{no_requests, requests_append, the_request}
 use Rattle.delay_laws.proofs.Phases.{IsNotWaiting, IsOfCopy, IsPart, IsReply, KnowsPeer, Requested, peer_stays, replies_stay}
 
--- a unit to which a message comes, where this is the step
+-- a unit that receives a message, where this is the step
 abbrev pub arrived : Node → ℤ → DelayMessage → Exchange × MeterStep → Node
 arrived node t m p = record { exchange = p.0; sent = node.sent ++ map (timed t) (sent_at_step p.1); came = node.came ++ timed t m ∷ [] }
 
@@ -140,13 +140,13 @@ of_announced e m s r is = rw is refl
 pub of_follow_up : (e : Exchange) (m : DelayMessage) (s r : Stamp) → m.action ≡ 5 → after_message e m s r ≡ follow_up_in e.peer e.own m
 of_follow_up e m s r is = rw is refl
 
--- ---- what comes of the request
+-- ---- what results from the request
 
 is_a_request : (x : Timed) → (x.message.action ≡ 0) ⊎ (x.message.action ≡ 1) → is_request x ≡ true
 is_a_request x (inl is) = rw is refl
 is_a_request x (inr is) = rw is refl
 
--- a request that comes now is a copy
+-- a request that is received now is a copy
 copied : (c mine : Compensation) (begun : Bool) (you me : Node) (h : Requested begun mine c you me) (t at : ℤ) (m : DelayMessage) → Contains you.sent (timed at m) → at ≤ℤ t → (m.action ≡ 0) ⊎ (m.action ≡ 1)
     → IsOfCopy c (me.came ++ timed t m ∷ []) h.request (receiving_stamp t c.receiving)
 copied c mine begun you me h t at m among after is =

@@ -1,4 +1,4 @@
--- The unit that sent the request: what comes to it.
+-- The unit that sent the request: what it receives.
 use Rattle.std.proofs.Common.{◌≡◌, ℕ, ℤ, Bool, List, [], ◌++◌, Some, refl, sym, ap, ◌∙◌, subst, inl, inr}
 use Rattle.std.specs.Prelude.{All, map}
 use Rattle.std.proofs.lemmas.List.{append-nil}
@@ -24,7 +24,7 @@ pub record IsTaken (c : Compensation) (at : ℤ) (m : DelayMessage) (p : Exchang
   pub none : sent_at_step p.1 ≡ []
   pub delay : (v : ℤ) → delay_of p.1 ≡ Some v → v ≡ delay_between (sending_ns at c.sending) c.sending (value_of m) m.comp
 
--- a request that was asked for comes again
+-- a request that was asked for is received again
 pub remote_again : (c : Compensation) (at : ℤ) (m : DelayMessage) (own : OwnState) (peer : PeerState) (id : ℕ) (now : Stamp) → HasSent c at own → IsNothing peer
     → IsTaken c at m (remote_in own peer id now) × ((v : ℤ) → delay_of (remote_in own peer id now).1 ≡ Some v → ⊥)
 remote_again c at m Idle peer id now sent none = elim sent [ ]
@@ -59,7 +59,7 @@ of_remote e m s r is = rw is refl
 pub of_remote_two : (e : Exchange) (m : DelayMessage) (s r : Stamp) → m.action ≡ 4 → after_message e m s r ≡ remote_two_in e.own e.peer m.id s
 of_remote_two e m s r is = rw is refl
 
--- what comes of the other's replies
+-- what results from the other's replies
 pub taken : (c yours : Compensation) (begun : Bool) (me you : Node) (h : Requested begun c yours me you) (m : DelayMessage) (s r : Stamp) → IsReply yours you.came h.request m
     → IsTaken c h.request.at m (after_message me.exchange m s r)
     × ((v : ℤ) → delay_of (after_message me.exchange m s r).1 ≡ Some v → IsResponse yours you.came h.request m)

@@ -1,4 +1,4 @@
--- What comes to a unit is a copy of a frame that was sent to it.
+-- What a unit receives is a copy of a frame that was sent to it.
 use Rattle.std.proofs.Common.{◌≡◌, ℕ, zero, suc, ℤ, pos, ◌==◌, ◌+ℤ◌, true, List, [], ◌∷◌, ◌++◌, length, refl, sym, ap, ◌∙◌, subst, arith, inl, inr}
 use Rattle.std.specs.Prelude.{All, Contains, map}
 use Rattle.std.specs.Ordering.{int_eq}
@@ -19,7 +19,7 @@ use Rattle.delay_laws.proofs.Standing.{tick_has}
 use Rattle.delay_laws.proofs.Ticking.{IsKnown, WasSent, state_ready}
 use Rattle.air_source.specs.Units.{other}
 
--- a message that comes at this time is a copy of one of these frames
+-- a message that is received at this time is a copy of one of these frames
 pub record IsCopyOf (sent : List Flight) (t : ℤ) (m : DelayMessage) : Type 0 where
   pub frame : Flight
   pub among : Contains sent frame
@@ -107,7 +107,7 @@ all_carried w pure first (suc n) =
 
 -- ---- what a unit's part holds
 
--- each message that it sent names the id, and each that came is a copy
+-- each message that it sent names the id, and each that was received is a copy
 pub record IsCarriedNode (sent : List Flight) (id : ℕ) (n : Node) : Type 0 where
   pub named : All (λ x. x.message.id ≡ id) n.sent
   pub carried : All (λ x. IsCopyOf sent x.at x.message) n.came

@@ -21,7 +21,7 @@ IsRemote m = (m.action ≡ 3) ⊎ (m.action ≡ 4)
 abbrev pub IsPart : Compensation → ℤ → DelayMessage → Type 0
 IsPart c at m = ((j : ℕ) × (m ≡ stamped j 0 (sending_stamp at c.sending))) ⊎ (((j : ℕ) × (m ≡ blank j 1)) ⊎ ((j : ℕ) × (m ≡ stamped j 5 (sending_stamp at c.sending))))
 
--- the stamp of a copy of the request that came
+-- the stamp of a copy of the request that was received
 pub record IsOfCopy (c : Compensation) (came : List Timed) (request : Timed) (stamp : Stamp) : Type 0 where
   pub copy : Timed
   pub among : Contains came copy
@@ -99,7 +99,7 @@ swapped begun mine yours me you (inr (inr (inl h))) = inr (inl h)
 swapped begun mine yours me you (inr (inr (inr (inl h)))) = inr (inr (inr (inr h)))
 swapped begun mine yours me you (inr (inr (inr (inr h)))) = inr (inr (inr (inl h)))
 
--- ---- more that came changes nothing of what is known
+-- ---- more that was received changes nothing of what is known
 
 pub copy_stays : (c : Compensation) (came more : List Timed) (request : Timed) (stamp : Stamp) → IsOfCopy c came request stamp → IsOfCopy c (came ++ more) request stamp
 copy_stays c came more request stamp h = record { copy = h.copy; among = Contains-append_left came more h.copy h.among; same = h.same; later = h.later; is = h.is }

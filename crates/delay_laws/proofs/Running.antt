@@ -103,12 +103,12 @@ begin_step mine yours begun me you t id kind late not_yet (inr (inr (inl h))) = 
 begin_step mine yours begun me you t id kind late not_yet (inr (inr (inr (inl h)))) = absurd (both_ways begun not_yet h.begun_is)
 begin_step mine yours begun me you t id kind late not_yet (inr (inr (inr (inr h)))) = absurd (both_ways begun not_yet h.begun_is)
 
--- ---- a message that comes
+-- ---- a message that is received
 
 abbrev pub Delayed : Compensation → Compensation → Node → Node → ℤ → Type 0
 Delayed mine yours me you v = HasDelay mine yours me you v ⊎ HasDelay yours mine you me v
 
--- what holds behind a step of the first unit
+-- what holds after a step of the first unit
 abbrev pub Behind : Bool → Compensation → Compensation → ℤ → DelayMessage → Node → Node → Exchange × MeterStep → Type 0
 Behind begun mine yours t m me you p = Phase begun mine yours (arrived me t m p) you × ((v : ℤ) → delay_of p.1 ≡ Some v → Delayed mine yours (arrived me t m p) you v)
 

@@ -22,7 +22,7 @@ heard side told = record { side = side; told = told }
 abbrev pub PhaseIn : (Side → Compensation) → Bool → Measurement → Type 0
 PhaseIn comps begun m = Phase begun (comps Ru) (comps Du) m.ru m.du
 
--- the measurement behind one more that it is about
+-- the measurement after one more that it is about
 abbrev pub told_in : (Side → Compensation) → Side → Told → Measurement → Measurement
 told_in comps side told m = with_node side (told_node (comps side) (node_of side m) told) m
 

@@ -124,7 +124,7 @@ sent_named c e (comes t m) =
     (record { response = λ by id stamp is. is; request = λ by stamp. refl; announced = λ by. refl; follow_up = λ by stamp. refl })
 sent_named c e (forgets id) = All-nil (λ (x : DelayMessage). x.id ≡ id)
 
--- ---- it stands further in the exchange
+-- ---- it is further on in the exchange
 
 higher : (a b n : ℕ) → a ≡ b → suc (step_of b) ≤ n → suc (step_of a) ≤ n
 higher a b n is le = subst (λ (x : ℕ). suc (step_of x) ≤ n) (sym is) le

@@ -20,7 +20,7 @@ use Rattle.delay_laws.proofs.Runs.{DelayIn, PhaseIn, delays_of_requests, phase_o
 use Rattle.delay_laws.proofs.Ticking.{sent_stays, ticks_run}
 use Rattle.air_source.specs.Units.{other}
 
--- ---- what came stays too
+-- ---- what was received stays too
 
 came_about : (c : Side → Compensation) (s side : Side) (told : Told) (ru du : Node) (x : Timed) → Contains (node_of side (record { ru = ru; du = du })).came x
     → Contains (node_of side (with_node s (told_node (c s) (node_of s (record { ru = ru; du = du })) told) (record { ru = ru; du = du }))).came x

@@ -69,7 +69,7 @@ pub record IsMade (comps : Side → Compensation) (heard : List Heard) (side : S
   pub late : pos 1536000000 ≤ℤ t
   pub was : WasSent comps heard side t m
 
--- a message that comes to a unit at this tick
+-- a message that is received by a unit at this tick
 pub record IsComing (comps : Side → Compensation) (heard : List Heard) (side : Side) (t : ℤ) (m : DelayMessage) : Type 0 where
   pub late : pos 1536000000 ≤ℤ t
   pub at : ℤ
@@ -142,7 +142,7 @@ begun_after w h [] id apart none = none
 begun_after w h (b ∷ bs) id apart none =
     begun_after w (told_one w h (begin_heard b)) bs id (All-tail (λ (x : Begin). x.id ≡ id → ⊥) b bs apart) (not_yet b id h.heard (All-head (λ (x : Begin). x.id ≡ id → ⊥) b bs apart) none)
 
--- ---- messages that come
+-- ---- messages that are received
 
 come_all : (w : Setting) (t : ℤ) (sent : Side → List Flight) (h : Hearing) (side : Side) (ms : List DelayMessage) → All (IsComing w.comps h.heard side t) ms → IsGood w t sent h → IsGood w t sent (told_all w h (map (came_heard side t) ms))
 come_all w t sent h side [] coming good = good

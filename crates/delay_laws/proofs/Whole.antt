@@ -44,7 +44,7 @@ whole_keeps w whole = record {
     by side t (inl is) = any_whole t (w.others side t) is
     by side t (inr none) = subst (All (λ (m : DelayMessage). IsWholeTime t)) (sym none) (All-nil (λ (m : DelayMessage). IsWholeTime t))
 
--- ---- what each unit sent and what came
+-- ---- what each unit sent and what it received
 
 abbrev pub AreWhole : List Timed → Type 0
 AreWhole xs = All (λ x. IsWholeTime x.at) xs

@@ -1,4 +1,4 @@
--- How a measured delay stands to the time that a request was on its way.
+-- How a measured delay relates to the time that a request was on its way.
 use Rattle.std.specs.Prelude.{◌≡◌, ℕ, ℤ, pos, ◌*ℤ◌, ◌+ℤ◌, ◌-ℤ◌, ◌≤ℤ◌, ◌<ℤ◌, [], ◌∷◌, Contains}
 use Rattle.delay_measure.specs.Stamps.{sending_ns, receiving_ns, delay_between}
 use Rattle.delay_measure.specs.declared.edge.Compensation.{Compensation}
@@ -17,8 +17,8 @@ IsWholeTime t = (n : ℕ) × (t ≡ pos NANOSECOND *ℤ pos n)
 abbrev pub IsWholeCompensation : ℤ → Type 0
 IsWholeCompensation c = (n : ℕ) × (c ≡ pos 65536 *ℤ pos n)
 
--- One request was sent by both units together. A copy of it came to the other unit, and the delay is the one between the stamps of
--- these two, by the compensations of the unit that sent it and of the unit that it came to. So it is the time on the way, but for
+-- One request was sent by both units together. A copy of it was received by the other unit, and the delay is the one between the stamps
+-- of these two, by the compensations of the unit that sent it and of the unit that received it. So it is the time on the way, but for
 -- less than a nanosecond, and exactly that time where all are whole nanoseconds.
 pub record HasDelay (requester responder : Compensation) (asking answering : Node) (delay : ℤ) : Type 0 where
   pub request : Timed

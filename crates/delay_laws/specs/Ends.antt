@@ -4,11 +4,11 @@ use Rattle.air_source.specs.declared.events.Side.{Side}
 use Rattle.delay_laws.specs.Delays.{IsWholeTime}
 use Rattle.delay_laws.specs.Ticks.{Setting}
 
--- how many messages of its id stand before one at most: before a Request or its Follow_Up a Remote Request, before a Response both
+-- how many messages of its id precede one at most: before a Request or its Follow_Up a Remote Request, before a Response both
 abbrev pub step_of : ℕ → ℕ
 step_of action = if action == 2 then 2 else (if action == 3 then 0 else (if action == 4 then 0 else 1))
 
--- nothing begins or comes in other frames after a time, and no copy takes longer than so many ticks
+-- nothing begins or is received in other frames after a time, and no copy takes longer than so many ticks
 pub record EndsBy (w : Setting) (last most : ℤ) : Type 0 where
   pub begins : All (λ b. b.at ≤ℤ last) w.begins
   pub others : (side : Side) (t : ℤ) → last <ℤ t → w.others side t ≡ []

@@ -44,7 +44,7 @@ sent_by comps side heard = map (λ (x : Timed). x.message) (node_of side (measur
 abbrev pub one_request : List Heard
 one_request = came Du 1100000 (message 2 1050000 0) ∷ came Ru 1050000 (message 0 1000000 0) ∷ begun Du One 1000000 ∷ []
 
--- the same where it is sent 100 ns before it leaves, and received 40 ns after it came
+-- the same where it is sent 100 ns before it leaves, and received 40 ns after it enters the unit
 abbrev pub edges : Side → Compensation
 edges Ru = record { sending = pos 0; receiving = pos 2621440 }
 edges Du = record { sending = pos 6553600; receiving = pos 0 }
@@ -64,21 +64,21 @@ abbrev pub remote_two : List Heard
 remote_two =
     came Ru 1150000 (message 2 1080000 0) ∷ came Du 1080000 (message 5 1030000 0) ∷ came Du 1080000 (message 1 0 0) ∷ came Ru 1030000 (message 4 0 0) ∷ begun Du RemoteTwo 1000000 ∷ []
 
--- a Request comes twice: its Response is sent again, and comes twice
+-- a Request is received twice: its Response is sent again, and is received twice
 abbrev pub twice : List Heard
 twice = came Du 1110000 (message 2 1050000 0) ∷ came Du 1100000 (message 2 1050000 0) ∷ came Ru 1060000 (message 0 1000000 0) ∷ came Ru 1050000 (message 0 1000000 0) ∷ begun Du One 1000000 ∷ []
 
--- a Follow_Up comes before its Request
+-- a Follow_Up is received before its Request
 abbrev pub overtaken : List Heard
 overtaken = came Ru 1060000 (message 1 0 0) ∷ came Ru 1050000 (message 5 1000000 0) ∷ begun Du Two 1000000 ∷ []
 
--- both messages of a request come twice, and the second Response comes first
+-- both messages of a request are received twice, and the second Response is received first
 abbrev pub answered_twice : List Heard
 answered_twice =
     came Du 1200000 (message 2 1050000 0) ∷ came Du 1130000 (message 2 1080000 0) ∷ came Ru 1080000 (message 5 1000000 0) ∷ came Ru 1080000 (message 1 0 0)
     ∷ came Ru 1050000 (message 5 1000000 0) ∷ came Ru 1050000 (message 1 0 0) ∷ begun Du Two 1000000 ∷ []
 
--- tick by tick: each copy takes two ticks, but the first frame to the radio unit comes twice, the second time a tick later
+-- tick by tick: each copy takes two ticks, but the first frame to the radio unit is received twice, the second time a tick later
 abbrev pub example : Setting
 example = record {
   comps = plain;
@@ -91,7 +91,7 @@ example = record {
     two_ticks Ru k = if k == 1 then pos 2 ∷ pos 3 ∷ [] else pos 2 ∷ []
     two_ticks Du k = pos 2 ∷ []
 
--- a measurement begins, and at this tick a Remote Request of its id comes in another frame
+-- a measurement begins, and at this tick a Remote Request of its id is received in another frame
 abbrev pub meeting : Setting
 meeting = record {
   comps = plain;

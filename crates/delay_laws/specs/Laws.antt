@@ -18,7 +18,7 @@ abbrev pub ExchangesAreTold : Type 0
 ExchangesAreTold = (comps : Side → Compensation) (heard : List Heard) (side : Side) (id : ℕ)
     → (node_of side (measured comps id heard)).exchange ≡ exchange_after (comps side).sending (comps side).receiving (told_to side heard) id
 
--- where each message that came was sent by the other unit, each delay that is measured is that of the one request of its id
+-- where each message that was received was sent by the other unit, each delay that is measured is that of the one request of its id
 abbrev pub DelaysAreOfRequests : Type 0
 DelaysAreOfRequests = (comps : Side → Compensation) (earlier : List Heard) (one : Heard) (delay : ℤ) → ((side : Side) → IsInRange (comps side)) → IsRun comps (one ∷ earlier)
     → delay_then (comps one.side) (node_of one.side (measured comps (id_of one.told) earlier)).exchange one.told ≡ Some delay
@@ -38,7 +38,7 @@ TickDelaysAreOfRequests = (w : Setting) → IsPure w → ((side : Side) → IsIn
 abbrev pub EventsAreMeasured : Type 0
 EventsAreMeasured = (w : Setting) → IsPure w → ((side : Side) → IsInRange (w.comps side)) → (first : ℤ) (n : ℕ) → All (IsMeasuredEvent w (state w first n)) (known w (state w first n).heard)
 
--- what becomes known while more is told stands behind what was known before
+-- what becomes known while more is told follows what was known before
 abbrev pub KnownGrows : Type 0
 KnownGrows = (w : Setting) (h : Hearing) (more : List Heard) → known w (told_all w h more).heard ≡ known w h.heard ++ known_while w h more
 
@@ -58,8 +58,8 @@ LandingIsSettled = (w : Setting) (side : Side) → ((k : ℕ) → All (λ d. pos
 abbrev pub QuietTicksChangeNothing : Type 0
 QuietTicksChangeNothing = (w : Setting) (first : ℤ) (n m : ℕ) → ((k : ℕ) → k < m → IsQuiet w (state w first n) (first +ℤ pos (n + k))) → state w first (n + m) ≡ state w first n
 
--- where nothing begins or comes otherwise after a time, all is told by three delays later, whatever comes in other frames, and nothing
--- lands then: a Remote Request is answered by at most a request, this by one Response, and a Response by nothing
+-- where nothing begins or is received otherwise after a time, all is told by three delays later, whatever is received in other frames,
+-- and nothing lands then: a Remote Request is answered by at most a request, this by one Response, and a Response by nothing
 abbrev pub AllEnds : Type 0
 AllEnds = (w : Setting) (last most : ℤ) → EndsBy w last most → (first : ℤ) (n : ℕ)
     → All (λ one. time_of one.told ≤ℤ (((last +ℤ most) +ℤ most) +ℤ most)) (state w first n).heard

@@ -8,7 +8,7 @@ use Rattle.air_source.specs.Units.{other}
 use Rattle.fh_base.specs.declared.nanoseconds.TheConstants.{NANOSECOND}
 
 -- The delay of an id is that of the one request, which a unit sent in a frame: it is measured from the time at which this was sent to
--- that at which a copy of it came to the other unit, which is the copy's time on the way later.
+-- that at which a copy of it was received by the other unit, which is the copy's time on the way later.
 pub record IsMeasured (w : Setting) (s : State) (id : ℕ) (delay : ℤ) : Type 0 where
   pub side : Side
   pub has : HasDelay (w.comps side) (w.comps (other side)) (node_of side (measured w.comps id s.heard)) (node_of (other side) (measured w.comps id s.heard)) delay

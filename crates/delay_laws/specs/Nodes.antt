@@ -13,7 +13,7 @@ use Rattle.delay_measure.specs.Table.{unused, after_begin, after_message, sent_a
 use Rattle.delay_measure.specs.After.{Told, begins, comes, forgets, id_of, exchange_next}
 use Rattle.air_source.specs.Units.{same_side}
 
--- a message, and when it was sent or came, in ticks
+-- a message, and when it was sent or received, in ticks
 pub record Timed : Type 0 where
   pub at : ℤ
   pub message : DelayMessage
@@ -21,7 +21,7 @@ pub record Timed : Type 0 where
 abbrev pub timed : ℤ → DelayMessage → Timed
 timed t m = record { at = t; message = m }
 
--- a unit's part in a measurement id: the states of its exchange, the messages that it sent and those that came to it, in order
+-- a unit's part in a measurement id: the states of its exchange, the messages that it sent and those that it received, in order
 pub record Node : Type 0 where
   pub exchange : Exchange
   pub sent : List Timed
@@ -31,7 +31,7 @@ pub record Node : Type 0 where
 abbrev pub fresh : Node
 fresh = record { exchange = unused; sent = []; came = [] }
 
--- the time of a begin or of a message that comes
+-- the time of a begin or of a message that is received
 abbrev pub time_of : Told → ℤ
 time_of (begins t id kind) = t
 time_of (comes t m) = t

@@ -1,4 +1,4 @@
--- What two units may be told, one after the other, where each message of delay measurement that comes was sent by the other unit.
+-- What two units may be told, one after the other, where each message of delay measurement that is received was sent by the other unit.
 use Rattle.std.specs.Prelude.{◌≡◌, ◌==◌, ℕ, ℤ, pos, ◌≤ℤ◌, Bool, false, List, [], ◌∷◌, Contains, ⊤}
 use Rattle.std.specs.List.{list_any}
 use Rattle.air_source.specs.declared.events.Side.{Side}
@@ -16,7 +16,8 @@ is_begin id (forgets i) = false
 abbrev pub has_begun : ℕ → List Heard → Bool
 has_begun id heard = list_any (λ one. is_begin id one.told) heard
 
--- behind what both were told: no id is begun twice by both together, and a message comes that the other unit sent, not before it was sent
+-- after what both were told: no id is begun twice by both together, and a message is received that the other unit sent, not before it
+-- was sent
 abbrev pub Comes : (Side → Compensation) → List Heard → Side → Told → Type 0
 Comes comps earlier side (begins t id kind) = has_begun id earlier ≡ false
 Comes comps earlier side (comes t m) = (at : ℤ) × Contains (node_of (other side) (measured comps m.id earlier)).sent (timed at m) × (at ≤ℤ t)

@@ -29,7 +29,7 @@ pub record Flight : Type 0 where
   pub delays : List ℤ
 
 -- what is known before: the compensations, the measurements that are begun, in order, how long the copies of the k-th frame that is
--- sent to a unit take, k from 1, and the messages of type 5 in all other frames that come to a unit at a tick, in order
+-- sent to a unit take, k from 1, and the messages of type 5 in all other frames that are received by a unit at a tick, in order
 pub record Setting : Type 0 where
   pub comps : Side → Compensation
   pub begins : List Begin
@@ -48,7 +48,7 @@ abbrev pub landing : List Flight → ℤ → List DelayMessage
 landing [] t = []
 landing (f ∷ fs) t = copies_at f.delays f.at f.message t ++ landing fs t
 
--- a frame behind so many that were sent to the unit
+-- a frame after so many that were sent to the unit
 abbrev pub flight : (ℕ → List ℤ) → ℤ → ℕ → DelayMessage → Flight
 flight delays t n m = record { at = t; message = m; delays = delays (n + 1) }
 
@@ -96,11 +96,11 @@ begin_heard b = record { side = b.side; told = begins b.at b.id b.kind }
 abbrev pub came_heard : Side → ℤ → DelayMessage → Heard
 came_heard side t m = record { side = side; told = comes t m }
 
--- what comes to a unit at a tick: what was sent to it before, then the rest
+-- what is received by a unit at a tick: what was sent to it before, then the rest
 abbrev pub arriving : Setting → State → Side → ℤ → List Heard
 arriving w s side t = map (came_heard side t) (landing (s.sent side) t ++ w.others side t)
 
--- measurements begin; then the radio unit is told what comes to it, and then the distributed unit
+-- measurements begin; then the radio unit is told what it receives, and then the distributed unit
 unfoldable pub hearing : Setting → ℤ → State → Hearing
 hearing w t s = told_all w (told_all w (told_all w (record { heard = s.heard; made = λ side. [] }) (map begin_heard (due t w.begins))) (arriving w s Ru t)) (arriving w s Du t)
 
@@ -113,13 +113,13 @@ unfoldable pub state : Setting → ℤ → ℕ → State
 state w first zero = record { heard = []; sent = λ side. [] }
 state w first (suc n) = after_tick w (first +ℤ pos n) (state w first n)
 
--- no id is begun twice, none before a millisecond, and no message of type 5 comes in any other frame
+-- no id is begun twice, none before a millisecond, and no message of type 5 is received in any other frame
 pub record IsPure (w : Setting) : Type 0 where
   pub once : AppearOnce (map (λ b. b.id) w.begins)
   pub late : All (λ b. pos 1536000000 ≤ℤ b.at) w.begins
   pub alone : (side : Side) (t : ℤ) → w.others side t ≡ []
 
--- nothing begins at a tick, and nothing comes
+-- nothing begins at a tick, and nothing is received
 pub record IsQuiet (w : Setting) (s : State) (t : ℤ) : Type 0 where
   pub begins : due t w.begins ≡ []
   pub landing : (side : Side) → landing (s.sent side) t ≡ []

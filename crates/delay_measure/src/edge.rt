@@ -1,7 +1,7 @@
 // The edges of a unit.
 
 /// The edges of a unit at which a delay is compensated: between a time stamp and the moment at which the message
-/// leaves the unit, or comes to it.
+/// leaves the unit, or enters it.
 #[derive(Clone, Copy, Debug, PartialEq, Eq)]
 pub enum Edge {
     Sending,

@@ -15,7 +15,7 @@ pub struct DelayMessage {
     pub action: u8,
     /// The seconds of the timestamp, 48 bits.
     pub seconds: u64,
-    /// The nanoseconds of the timestamp. From 10^9 on they are taken as they stand.
+    /// The nanoseconds of the timestamp. From 10^9 on they are taken as they are.
     pub nanoseconds: u32,
     /// The compensation value, in units of 2^-16 ns.
     pub comp: i64,

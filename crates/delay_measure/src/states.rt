@@ -20,7 +20,7 @@ pub enum OwnState {
 pub enum PeerState {
     /// Nothing.
     Nothing,
-    /// A Request with Follow_Up came, received with this stamp, and its Follow_Up is awaited.
+    /// A Request with Follow_Up was received with this stamp, and its Follow_Up is awaited.
     Noted(Stamp),
     /// This message was answered by a Response with this stamp.
     Answered(DelayMessage, Stamp),

@@ -36,11 +36,11 @@ pub enum MeterStep {
     SendResult(DelayMessage, i128),
     /// The delay from this end to the peer is known.
     Result(i128),
-    /// The message came before: its Response is sent again.
+    /// The message was received before: its Response is sent again.
     Again(DelayMessage),
     /// Its Follow_Up is awaited.
     Noted,
-    /// It comes again, or the id is in use.
+    /// It is received again, or the id is in use.
     Repeat,
     /// Nothing is known that it could answer, or its action is none of the six.
     Unknown,

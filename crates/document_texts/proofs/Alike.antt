@@ -1,4 +1,4 @@
--- Units that report the same bare cells, none twice: at most one cell of each stands at a place, and those of one place agree.
+-- Units that report the same bare cells, none twice: at most one cell of each is at a place, and those of one place agree.
 use Rattle.std.proofs.Common.{◌≡◌, ◌==◌, ◌&&◌, IsTrue, ℕ, ◌+◌, ◌≤◌, Bool, true, false, cond, List, [], ◌∷◌, map, count_by, refl, ap, ap₂, sym, ◌∙◌, subst, arith}
 use Rattle.std.specs.List.{AllByRecursion}
 use Rattle.std.specs.Ordering.{int_eq}
@@ -106,7 +106,7 @@ all_agree (x ∷ xs) (y ∷ ys) h apart =
     let w = heads (bare x) (bare y) (map bare xs) (map bare ys) h in
     ((agrees x y w.0, all_elsewhere x ys (moved_apart (place_of x) xs ys w.1 apart.0)), one_before x y xs ys w.0 apart.0 (all_agree xs ys w.1 apart.1))
 
--- ---- how many stand at a place
+-- ---- how many are at a place
 
 none_at : (p : CellPlace) (xs : List AirCell) → AllByRecursion (λ x. is_same p (place_of x) ≡ false) xs → count_by (is_at p) xs ≡ 0
 none_at p [] h = refl

@@ -16,11 +16,11 @@ use Rattle.document_texts.specs.Faults.{HasShareCause, has_share_fault, of_air, 
 use Rattle.document_texts.specs.declared.faults.ShareFault.{ShareFault}
 use Rattle.document_texts.specs.declared.faults.ShareFault.TheVariants as share
 
--- a cause since the count stood still is one since before
+-- where the count did not change, a cause since then is one since before
 pub share_cause_since : {T : Type 0} (before middle now : ℕ) (r : Result T ShareFault) → middle ≡ before → HasShareCause middle now r → HasShareCause before now r
 share_cause_since before middle now r still cause = counts_since (has_share_fault r) before middle now still cause
 
--- of want of memory, where the count stood still
+-- of want of memory, where the count did not change
 pub share_wanted : {T : Type 0} (before now : ℕ) (r : Result T ShareFault) → IsErrAnd r (λ e. e ≡ share.NoMemory) → now ≡ before → HasShareCause before now r
 share_wanted before now (Ok x) wants still = still
 share_wanted before now (Err share.WriteFault) wants still = absurd (cc wants)

@@ -1,4 +1,4 @@
--- The counters stand behind all other events.
+-- The counters are after all other events.
 use Rattle.std.proofs.Common.{◌≡◌, ℕ, zero, suc, ◌==◌, ℤ, pos, ◌+ℤ◌, Bool, true, false, List, [], ◌∷◌, ◌++◌, map, if◌then◌else◌, refl, sym, true≢false}
 use Rattle.std.specs.List.{flat_map}
 use Rattle.air_source.specs.declared.events.AirCell.{AirCell}

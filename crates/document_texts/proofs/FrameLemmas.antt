@@ -285,7 +285,7 @@ module _ (d : Document) (f : SentFrame) (t : Turn) (h : IsTurnFor d f t) where
 
 -- ---- a document's line
 
--- the number that stands where no number does
+-- the number at a place that has none
 pub none_there : (xs : List ℕ) (k : ℕ) → slice_get xs k ≡ None → 0 ≡ slice_index xs k
 none_there [] k h = refl
 none_there (x ∷ xs) zero h = absurd cc

@@ -14,7 +14,7 @@ behind_six m (suc n) =
     (ap₂ (λ (xs : List ℕ) (k : ℕ). xs ++ element_text m k) (behind_six m n) at
     ∙ append_assoc (elements_text m 0 6) (elements_text m 6 n) (element_text m (6 + n)))
 
--- whether there are words or the one, the line feed stands behind them
+-- whether there are words or the one, the line feed is after them
 parted : (b : Bool) (head one all front back feed : List ℕ) → all ≡ front ++ back → head ++ (cond b one all ++ feed) ≡ (head ++ cond b one front) ++ (cond b [] back ++ feed)
 parted true head one all front back feed is = sym (append_assoc head one feed)
 parted false head one all front back feed is =

@@ -19,7 +19,7 @@ mod FaultLemmas
 mod TimesLemmas
 pub mod RowLemmas
 mod FewLemmas
-mod FrameLemmas
+pub mod FrameLemmas
 mod PartLemmas
 mod CopyLemmas
 mod SentTellLemmas

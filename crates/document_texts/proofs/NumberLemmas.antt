@@ -3,7 +3,7 @@ use Rattle.std.proofs.Common.{◌≡◌, ℕ, zero, suc, ◌+◌, ◌≤◌, Lis
 use Rattle.std.proofs.lemmas.List.{drop_all}
 use Rattle.std.specs.List.{slice_get}
 
--- those so far, and those to come, are all
+-- those so far, and those to follow, are all
 abbrev pub Goes : ℕ → List ℕ → List ℕ → Type 0
 Goes k all so_far = so_far ++ drop k all ≡ all
 

@@ -196,7 +196,7 @@ module _ (d : Document) where
   unfolding sent_text
   lines_cut w v o none front = front_part w v lines_text end_text some_end (subst (λ (t : List ℕ). WritesFront w v (t ++ lines_text)) none front)
 
-  -- all of them, and a part of what comes after
+  -- all of them, and a part of what follows
   pub end_cut : (w v u : Option (List ℕ)) (o p : List ℕ) → o ≡ [] → Carried w o lines_text v p → WritesPart v u (p ++ end_text) → WritesPart w u (sent_text d)
   unfolding sent_text
   end_cut w v u o p none told part = subst (λ (t : List ℕ). WritesPart w u (t ++ (lines_text ++ end_text))) none (part_behind w o lines_text v p end_text u told part)

@@ -133,7 +133,7 @@ some_mixes ms none =
     let nine : length combined_text ≡ 9 = refl in
     omega (arith, empty, nine, length-append combined_text rest)
 
--- and not all, since the combined cells were still to come
+-- and not all, since the combined cells were still to follow
 pub units_part : (d : Document) (count step n : ℕ) (w v u : Option (List ℕ)) → n < count → v ≡ append_known w (units_text d step n) → WritesFront v u (unit_lines d step n) → WritesPart w u (shared_text d count step)
 unfolding shared_text
 units_part d count step n w v u below before front =

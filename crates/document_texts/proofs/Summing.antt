@@ -55,7 +55,7 @@ both_before : (xs ys cells : List AirCell) → AllByRecursion (λ c. AllByRecurs
 both_before xs ys [] h k = tt
 both_before xs ys (c ∷ cells) h k = (all_both (Agrees c) xs ys h.0 k.0, both_before xs ys cells h.1 k.1)
 
--- one list more behind the others
+-- one list more after the others
 one_behind : (f : ℕ → List AirCell) (a n : ℕ) → all_of (map f (range_with_len a (suc n))) ≡ all_of (map f (range_with_len a n)) ++ f (a + n)
 one_behind f a zero = append-nil (f a) ∙ ap f (omega arith)
 one_behind f a (suc n) =
@@ -83,7 +83,7 @@ shown_in blocks ps es from end =
 
 -- ---- the units
 
--- the combined cells as the mixer has them behind n units
+-- the combined cells as the mixer has them after n units
 unfoldable pub units_taken : Document → ℕ → ℕ → List Mixed
 units_taken d step zero = []
 units_taken d step (suc n) = all_taken (events_of (unit_of d n step)) (units_taken d step n)
@@ -140,7 +140,7 @@ module _ (d : Document) (is : IsDocument d) (valid : IsValid d.config d.plan) (s
   one_unit n few =
       taken_heard (events_of (unit_of d n step)) (combined (units_cells d step n)) ∙ one_more (units_cells d step n) (unit_cells d step n) (apart n) (follow n few)
 
-  -- no cell was passed over: behind n units it has the combined cells of all of theirs
+  -- no cell was passed over: after n units it has the combined cells of all of theirs
   pub mixed : (n : ℕ) → n ≤ 8 → units_taken d step n ≡ combined (units_cells d step n)
   unfolding units_taken units_cells
   mixed zero few = refl

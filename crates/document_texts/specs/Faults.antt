@@ -1,4 +1,4 @@
--- Under which names the faults below are passed on, and when a fault of writing comes (this project's profile).
+-- Under which names the faults below are passed on, and when a fault of writing occurs (this project's profile).
 use Rattle.std.specs.Prelude.{ℕ, Bool, true, false, Result, Ok, Err}
 use Rattle.fh_base.specs.Causes.{Counts}
 use Rattle.air_source.specs.declared.airs.AirFault.{AirFault}

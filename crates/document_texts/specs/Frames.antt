@@ -35,7 +35,7 @@ pub record IsFrameOf (d : Document) (f : SentFrame) (parts : List PlacedLine) (t
   pub turn : IsTurnFor d f t
   pub parts_are : parts ≡ map placed_line (parts_of f.message)
 
--- the part's line stands at its place in a plan, and is of this endpoint
+-- the part's line is at its place in a plan, and is of this endpoint
 pub record StandsIn (plan : List PlanLine) (e : EndpointConfig) (x : Part) : Type 0 where
   pub line : slice_get plan x.planned.index ≡ Some x.planned.line
   pub endpoint : x.planned.endpoint ≡ e

@@ -9,7 +9,7 @@ use Rattle.fh_base.specs.CarriedLaws.{carried_none, carried_more}
 use Rattle.shared_cell.specs.declared.values.Mixed.{Mixed}
 use Rattle.document_texts.specs.UnitText.{all_taken, event_taken, unit_event_text, unit_events_text}
 
--- the lines of the events went on behind what was owed, and their cells were added up
+-- the lines of the events went on after what was owed, and their cells were added up
 pub record Heard (written : Option (List ℕ)) (owed : List ℕ) (mixed : List Mixed) (events : List Event) (now : Option (List ℕ)) (owed_now : List ℕ) (mixed_now : List Mixed) : Type 0 where
   pub carried : Carried written owed (unit_events_text events) now owed_now
   pub taken : mixed_now ≡ all_taken events mixed

@@ -53,7 +53,7 @@ pub record TellsReasons (d : Document) : Type 0 where
   -- where each planned element radiates once and each is taken in once, no line says why
   pub undisturbed : HasNoWhy d (traffic_of d)
 
--- the records that the reasons look at are of what both units decoded, each with its verdict over all that came before it
+-- the records that the reasons look at are of what both units decoded, each with its verdict over all that was before it
 pub record AreOfDecoded (d : Document) : Type 0 where
   pub kept : AreKept d.config (events_of d)
   -- a cell has a block exactly where a record gives it one, and of the same section id

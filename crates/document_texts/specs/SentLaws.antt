@@ -71,7 +71,7 @@ sent_then d t = flat_map copies_told (filter (λ r. int_eq r.line.at.0 t) (rows_
 pub record IsListed (d : Document) : Type 0 where
   -- the lines are the frames that the plan sends to the radio unit, each once and in the sent order, with their copies
   pub frames : map delayed_told (rows_of d) ≡ all_delayed Ru d
-  -- they stand in the order of time
+  -- they are in the order of time
   pub order : AllPairs IsUpTo (rows_of d)
   -- each is as long as it says
   pub lengths : map (λ r. r.line.bytes) (rows_of d) ≡ map (λ r. length r.frame) (rows_of d)
@@ -79,5 +79,5 @@ pub record IsListed (d : Document) : Type 0 where
   pub numbers : (k : ℕ) (r : SentRow) → slice_get (rows_of d) k ≡ Some r → r.line.number ≡ length (of_class r.line.class (take (k + 1) (rows_of d)))
   -- without measurements their copies are, before the injected frames, all that lands at the radio unit
   pub planned : landings_of d ≡ flat_map copies_told (rows_of d) ++ injected_to Ru d
-  -- and with them those of delay measurement stand between, by the tick at which they were sent
+  -- and with them those of delay measurement are in between, by the tick at which they were sent
   pub lands : landings_for Ru d ≡ each_tick first_clock tick_count (sent_then d) ++ injected_to Ru d

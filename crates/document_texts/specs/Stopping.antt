@@ -5,7 +5,7 @@ use Rattle.fh_base.specs.Told.{WritesFront}
 use Rattle.air_source.specs.declared.airs.AirFault.{AirFault}
 use Rattle.air_source.specs.declared.airs.AirFault.TheVariants.{Failed, NoMemory}
 
--- a failure has its cause in the sink; want of memory comes of the sink or of the mixer
+-- a failure has its cause in the sink; want of memory is of the sink or of the mixer
 abbrev pub Why : AirFault → ℕ → ℕ → Type 0
 Why Failed faults faults_now = Rose faults faults_now
 Why NoMemory faults faults_now = Unit {0}

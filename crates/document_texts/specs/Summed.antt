@@ -21,7 +21,7 @@ unfoldable pub all_planned : Document → ℕ → ℕ → List AirCell
 all_planned d step zero = []
 all_planned d step (suc n) = all_planned d step n ++ planned_cells d step n
 
--- the uplink cells of the units behind the first
+-- the uplink cells of the units after the first
 abbrev pub further_cells : Document → ℕ → ℕ → List (List AirCell)
 further_cells d step count = map (unit_cells d step) (range_with_len 1 (count - 1))
 

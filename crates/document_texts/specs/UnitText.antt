@@ -26,14 +26,14 @@ unit_event_text (Count side counter value) = of_radio side (count_text side coun
 abbrev pub unit_events_text : List Event → List ℕ
 unit_events_text events = flat_map unit_event_text events
 
--- the combined cells behind an event: the distributed unit's cells are added up
+-- the combined cells after an event: the distributed unit's cells are added up
 abbrev pub event_taken : Event → List Mixed → List Mixed
 event_taken (Cell c) ms = taken c ms
 event_taken (Delay at side id value) ms = ms
 event_taken (Arrival side at frame) ms = ms
 event_taken (Count side counter value) ms = ms
 
--- behind some events
+-- after some events
 abbrev pub all_taken : List Event → List Mixed → List Mixed
 all_taken [] ms = ms
 all_taken (e ∷ events) ms = all_taken events (event_taken e ms)

@@ -1,4 +1,4 @@
-//! The texts that are made of whole documents: explanations, shared cells, idle endpoints and frames that are sent.
+//! The texts that are made of complete documents: explanations, shared cells, idle endpoints and frames that are sent.
 //!
 //! The explanation of a document: what became of each frame, message, section and cell, and the reason of every silent cell.
 //!
@@ -20,9 +20,9 @@
 //!
 //! One cell over several radio units: what each of them radiates and counts, and the sum of what their distributed units take in.
 //!
-//! Each downlink frame of a document is copied to every unit, and each unit stands a step further away than the one before it. [`share`]
+//! Each downlink frame of a document is copied to every unit, and each unit is a step further away than the one before it. [`share`]
 //! replays the document of one unit after the other (`unit_documents`), writes what the radio unit makes of it, and adds up the uplink
-//! cells (`shared_cell`). So one unit's document and replay stand in memory at a time, and beside them one entry a planned uplink cell.
+//! cells (`shared_cell`). So one unit's document and replay are in memory at a time, and beside them one entry a planned uplink cell.
 //!
 //! When the endpoints of a document are idle, by its replay (this project's profile).
 //!
@@ -35,7 +35,7 @@
 //! The frames that a document's plan sends to the radio unit, as text (this project's profile).
 //!
 //! [`list_sent`] writes a line for each frame in the order in which they are sent, with the number that a `deliver` line names it by, and
-//! with what becomes of it; `end` stands at the end.
+//! with what becomes of it; `end` is at the end.
 #![tactic(auto)]
 
 mod combined;

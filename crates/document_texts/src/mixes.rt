@@ -73,8 +73,8 @@ fn elements(line: &mut Line, m: &Mixed, first: usize)
     }
 }
 
-/// Writes the first half of the line of a combined cell in place of what stood in the line: `mix T ID F S L Y PRB SECTION MASK UNITS`,
-/// and behind it the words of elements 0 to 5, or the one word `missing` where no unit has samples.
+/// Writes the first half of the line of a combined cell in place of what was in the line: `mix T ID F S L Y PRB SECTION MASK UNITS`,
+/// and after it the words of elements 0 to 5, or the one word `missing` where no unit has samples.
 ///
 /// T is the start of the symbol in ticks, F the frame (both signed), S the subframe, L the slot, Y the symbol, UNITS how many units have
 /// samples there. An element of the mask has the word `I,Q`, the sums of the units' samples, and another `.`.
@@ -91,7 +91,7 @@ pub fn put_mix_front(m: &Mixed, line: &mut Line)
     }
 }
 
-/// Writes the second half of the line of a combined cell in place of what stood in the line: the words of elements 6 to 11, none where no
+/// Writes the second half of the line of a combined cell in place of what was in the line: the words of elements 6 to 11, none where no
 /// unit has samples, and the line feed.
 #[tactic(auto, unfolding(crate::specs::Lines::mix_back_text))]
 pub fn put_mix_back(m: &Mixed, line: &mut Line)

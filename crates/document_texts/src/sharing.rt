@@ -18,7 +18,7 @@ use fh_document::Document;
 use shared_cell::Mixer;
 use std::alloc::Global;
 
-/// Writes what the `count` radio units of a shared cell do with a document, where each stands `step` nanoseconds further away than the
+/// Writes what the `count` radio units of a shared cell do with a document, where each is `step` nanoseconds further away than the
 /// one before it: for each unit the line `unit R`, its radiated cells and its counters, then `combined`, the line of each combined uplink
 /// cell in the order of a report's `ul` lines, and `end`.
 ///

@@ -28,7 +28,7 @@ pub struct UnitAir<'a, K> {
     sink: &'a mut K,
     mixer: &'a mut Mixer,
     owed: OwedBytes,
-    // the line of the last event, which is written where it stands
+    // the line of the last event, which is written in place
     line: Line,
 }
 
@@ -51,7 +51,7 @@ impl<'a, K: Sink> UnitAir<'a, K> {
         }
     }
 
-    // Owes the line behind what is owed.
+    // Owes the line after what is owed.
     fn tell(&mut self) -> Result<(), AirFault>
         ensures sink_reference { sink_name self.new ≡ sink_name self.old }
         ensures mixer_reference { mixer_name self.new ≡ mixer_name self.old }
@@ -78,7 +78,7 @@ impl<'a, K: Sink> UnitAir<'a, K> {
         Ok(())
     }
 
-    /// Owes the line that stands above what a unit writes.
+    /// Owes the line above what a unit writes.
     ///
     /// # Errors
     ///

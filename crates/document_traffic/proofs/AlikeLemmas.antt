@@ -148,7 +148,7 @@ module _ (d : Document) (side : Side) where
       ∙ without at_flown t (flown_of (delayed d side now f)) (flown_behind now fs) (differ f (inl refl))
       ∙ none_behind t now fs (λ g i. differ g (inr i))
 
-  -- ---- frames of class m, by their numbers behind so many
+  -- ---- frames of class m, by their numbers after so many
 
   abbrev AreNumbered : ℕ → List Flight → Type 0
   AreNumbered k [] = Unit {0}

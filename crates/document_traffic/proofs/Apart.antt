@@ -1,5 +1,5 @@
 -- What lands at a unit, told with the frames of class m apart from those of the classes c and u: tick by tick of the sending time the
--- copies of what leaves then, in the sent order of the classes c and u, then of class m, and the injected frames behind all of it.
+-- copies of what leaves then, in the sent order of the classes c and u, then of class m, and the injected frames after all of it.
 use Rattle.std.specs.Prelude.{ℤ, ◌+ℤ◌, List, ◌++◌, filter, map}
 use Rattle.std.specs.List.{flat_map}
 use Rattle.std.specs.Ordering.{int_eq}

@@ -1,4 +1,4 @@
--- Each frame of a plain document has a copy, and each copy comes within the transport.
+-- Each frame of a plain document has a copy, and each copy is received within the transport.
 use Rattle.std.proofs.Common.{◌≡◌, ◌≢◌, ℕ, ℤ, ◌≤ℤ◌, inl, inr, true, ◌&&◌, ◌==◌, List, [], ◌∷◌, Option, Some, None, refl, sym, subst, arith}
 use Rattle.std.specs.Prelude.{All, IsSomeAnd}
 use Rattle.std.proofs.lemmas.Bool.{and_parts, cases_Bool, eqb-true}

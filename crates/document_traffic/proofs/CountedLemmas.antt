@@ -96,7 +96,7 @@ module _ (w : Setting) (k : Counter) where
         | inr others ↦ rw others (begins_counted side later x bs shorts (subst (λ (to : Bool). IsSideOf side later (if to then next else x)) others is) (subst (λ (to : Bool). Tallies side later (if to then next else x) shorts) others counts))
       ]
 
-  -- ---- a message comes
+  -- ---- a message is received
 
   -- of a message that is too short its counter counts one
   short_if : Bool → ℕ

@@ -59,7 +59,7 @@ others_ids d side t = all_flat (λ (a : Arrival). delay_messages a.frame) (λ a.
 
 -- ---- stamps of a document
 
--- a tick that is gone over is none behind the end of time
+-- a tick that is gone over is none after the end of time
 tick_low : (k : ℕ) → first_clock ≤ℤ (first_clock +ℤ pos k)
 tick_low k = omega (arith, ints)
 

@@ -131,7 +131,7 @@ known_at_tick w t s =
     (known_grows w (before s) bs ∙ ap (λ (es : List Event). known w s.heard ++ es) (begins_know_none w (before s) (due t w.begins)) ∙ append-nil (known w s.heard)))
     ∙ append_assoc (known w s.heard) ru du
 
--- the messages of these frames come to a side at a tick
+-- the messages of these frames are received at a side at a tick
 abbrev Come : Setting → State → Side → ℤ → List Arrival → Type 0
 Come w s side t arrivals = messages_of arrivals ≡ landing (s.sent side) t ++ w.others side t
 

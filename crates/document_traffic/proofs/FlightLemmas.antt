@@ -64,7 +64,7 @@ flown_lands (g ∷ fs) f ticks m i none =
       | inr later ↦ flown_lands fs f ticks later i (back_empty (copies_at g.delays g.at g.message t) (landing fs t) none)
     ]
 
--- ---- when other frames come
+-- ---- when other frames are received
 
 pub none_at : (t : ℤ) (arrivals : List Arrival) → All (λ a. a.at ≡ t → ⊥) arrivals → landing_at arrivals t ≡ []
 none_at t [] differ = refl

@@ -1,4 +1,4 @@
--- What was delivered of sound flows of messages stands in generations that hold one message each.
+-- What was delivered of sound flows of messages is in generations that hold one message each.
 use Rattle.std.proofs.Common.{◌≡◌, ℕ, ℤ, ◌%◌, inl, inr, Bool, false, ◌==◌, ◌&&◌, List, [], ◌∷◌, refl, ap, sym, ◌∙◌, subst}
 use Rattle.std.specs.Prelude.{All, if◌then◌else◌, ⊤}
 use Rattle.std.proofs.lemmas.Bool.{cases_Bool, and_from, and_parts, eq-eqb, eqb-true, both_ways}
@@ -12,7 +12,7 @@ use Rattle.document_traffic.specs.Generations.{EachHoldsOneMessage, HoldsOneMess
 use Rattle.fh_base.proofs.Orders.{and_false as not_both}
 use Rattle.fh_base.specs.Members.{IsIn}
 
--- ---- what came of a message
+-- ---- what was received of a message
 
 module _ (num : Numbers) (ep n : ℕ) where
   with_own : (a : Fragment) (xs : List Fragment) → a.ep ≡ ep → number_of num a ≡ n → of_message num ep n (a ∷ xs) ≡ a ∷ of_message num ep n xs
@@ -59,7 +59,7 @@ module _ (num : Numbers) (ep n : ℕ) where
 -- ---- the generations of an endpoint and a sequence id
 
 module _ (num : Numbers) (ep q : ℕ) where
-  -- one holds what came of a message, and something came
+  -- one holds what was received of a message, and something was received
   record Holds (xs : List Fragment) (g : Generation) : Type 0 where
     n : ℕ
     held : g.held ≡ of_message num ep n xs
@@ -86,7 +86,7 @@ module _ (num : Numbers) (ep q : ℕ) where
     seq = w.seq;
   }
 
-  -- one more came
+  -- one more was received
   module _ (hold fast slow : ℤ) (first : ℕ → ℕ → ℤ) (a : Fragment) (xs : List Fragment) (h : AreApart hold fast slow first num (a ∷ xs)) where
     -- of another endpoint or sequence id
     unlike : is_of ep q a ≡ false → (g : Generation) (w : Holds xs g) → a.ep ≡ ep → number_of num a ≡ w.n → ⊥
@@ -103,7 +103,7 @@ module _ (num : Numbers) (ep q : ℕ) where
       All-weaker (HoldsOther xs each.0.n) (HoldsOther (a ∷ xs) each.0.n) (λ g w. (still a xs g w.0 (unlike not_it g w.0), w.1)) gs each.1,
     )
 
-    -- of this one: it joins what came of its message, or is the first of it
+    -- of this one: it joins what was received of its message, or is the first of it
     own : (g : Generation) → a.ep ≡ ep → a.seq ≡ q → g.held ≡ a ∷ of_message num ep (number_of num a) xs → Holds (a ∷ xs) g
     own g e s is = record {
       n = number_of num a;
@@ -113,7 +113,7 @@ module _ (num : Numbers) (ep q : ℕ) where
       seq = s;
     }
 
-    -- where nothing of its message came, all others are of other messages
+    -- where nothing of its message was received, all others are of other messages
     others_before : of_message num ep (number_of num a) xs ≡ [] → (g : Generation) (w : Holds xs g) → w.n ≡ number_of num a → ⊥
     others_before none g w same = subst (IsIn w.one) (ap (λ (i : ℕ). of_message num ep i xs) same ∙ none) w.there
 

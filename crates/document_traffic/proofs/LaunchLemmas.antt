@@ -17,7 +17,7 @@ pub record AreLaunched (t : ℤ) (ms : List DelayMessage) (fs : List Flight) : T
   pub now : All (λ (f : Flight). f.at ≡ t) fs
   pub messages : map (λ (f : Flight). f.message) fs ≡ ms
 
--- they stand behind those that were sent before
+-- they follow those that were sent before
 launched_behind : (delays : ℕ → List ℤ) (t : ℤ) (sent : List Flight) (ms : List DelayMessage) → (fs : List Flight) × (launched delays t sent ms ≡ sent ++ fs) × AreLaunched t ms fs
 launched_behind delays t sent [] = ([], sym (append-nil sent), record { now = All-nil (λ (f : Flight). f.at ≡ t); messages = refl })
 launched_behind delays t sent (m ∷ ms) =

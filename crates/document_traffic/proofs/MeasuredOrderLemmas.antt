@@ -55,7 +55,7 @@ leaves_within Du d f m =
 
 -- ---- frames of class m are sent in the order of ticks
 
--- in the order of ticks, none before a first or behind a last one
+-- in the order of ticks, none before a first or after a last one
 pub record AreUpTo (first last : ℤ) (fs : List Flight) : Type 0 where
   pub rising : IsRising (λ (f : Flight). f.at) fs
   pub within : (f : Flight) → IsIn f fs → (first ≤ℤ f.at) × (f.at ≤ℤ last)

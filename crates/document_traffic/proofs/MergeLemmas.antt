@@ -1,4 +1,4 @@
--- Two lists that are told tick by tick together: at each tick those of the one and behind them those of the other.
+-- Two lists that are told tick by tick together: at each tick those of the one and after them those of the other.
 use Rattle.std.proofs.Common.{◌≡◌, ℕ, ℤ, pos, suc, ◌+ℤ◌, ◌≤ℤ◌, ◌<ℤ◌, inl, inr, List, [], ◌∷◌, ◌++◌, map, ap, ap₂, sym, ◌∙◌, arith}
 use Rattle.std.proofs.lemmas.Bool.Decides.{Decides-int_eq}
 use Rattle.std.proofs.lemmas.Int.{ints}
@@ -22,7 +22,7 @@ pub record AreFrom {X : Type 0} (key : X → ℤ) (from : ℤ) (xs : List X) : T
 pub rest_from : {X : Type 0} (key : X → ℤ) (from : ℤ) (x : X) (xs : List X) → AreFrom key from (x ∷ xs) → AreFrom key from xs
 rest_from key from x xs h = record { rising = h.rising.1; begun = λ y m. h.begun y (inr m) }
 
--- where the first comes later all do
+-- where the first is later all are
 pub later_from : {X : Type 0} (key : X → ℤ) (from : ℤ) (x : X) (xs : List X) → (from +ℤ pos 1) ≤ℤ key x → AreFrom key from (x ∷ xs) → AreFrom key (from +ℤ pos 1) (x ∷ xs)
 later_from key from x xs later h = record { rising = h.rising; begun = λ y m. elim m [ inl e ↦ own y e | inr t ↦ behind (key y) (h.rising.0 y t) ] }
   where
@@ -44,7 +44,7 @@ module _ {X Y : Type 0} (first : X → ℤ) (second : Y → ℤ) (as_first : Y �
   abbrev pub merged : List X → List Y → ℤ → List X
   merged xs ys t = at_key first xs t ++ map as_first (at_key second ys t)
 
-  -- the first of the one comes at the tick
+  -- the first of the one is at the tick
   pub first_merged : (from : ℤ) (n : ℕ) (x : X) (xs : List X) (ys : List Y) → first x ≡ from → each_tick from (suc n) (merged (x ∷ xs) ys) ≡ x ∷ each_tick from (suc n) (merged xs ys)
   unfolding each_tick
   first_merged from n x xs ys here =
@@ -53,7 +53,7 @@ module _ {X Y : Type 0} (first : X → ℤ) (second : Y → ℤ) (as_first : Y �
       (ticks_same (from +ℤ pos 1) n (merged (x ∷ xs) ys) (merged xs ys) (λ t low.
       ap (λ (zs : List X). zs ++ map as_first (at_key second ys t)) (without first t x xs (ahead (first x) from t here low))))
 
-  -- the first of the other comes, and none of the one
+  -- the first of the other is, and none of the one
   pub second_merged : (from : ℤ) (n : ℕ) (xs : List X) (y : Y) (ys : List Y) → at_key first xs from ≡ [] → second y ≡ from
       → each_tick from (suc n) (merged xs (y ∷ ys)) ≡ as_first y ∷ each_tick from (suc n) (merged xs ys)
   unfolding each_tick
@@ -66,7 +66,7 @@ module _ {X Y : Type 0} (first : X → ℤ) (second : Y → ℤ) (as_first : Y �
       ∙ ap (λ (zs : List X). (zs ++ (as_first y ∷ map as_first (at_key second ys from))) ++ more) none
       ∙ ap (λ (zs : List X). as_first y ∷ ((zs ++ map as_first (at_key second ys from)) ++ more)) (sym none)
 
-  -- none comes at the tick
+  -- none is at the tick
   pub none_merged : (from : ℤ) (n : ℕ) (xs : List X) (ys : List Y) → at_key first xs from ≡ [] → at_key second ys from ≡ []
       → each_tick from (suc n) (merged xs ys) ≡ each_tick (from +ℤ pos 1) n (merged xs ys)
   unfolding each_tick

@@ -1,4 +1,4 @@
--- What comes of delay measurement at a tick is what both units are told then.
+-- What is received of delay measurement at a tick is what both units are told then.
 use Rattle.std.proofs.Common.{◌≡◌, ℕ, ℤ, pos, zero, suc, ◌+ℤ◌, Bool, true, false, if◌then◌else◌, List, [], ◌∷◌, ◌++◌, refl, ap, ap₂, sym, ◌∙◌}
 use Rattle.std.specs.Prelude.{All, map}
 use Rattle.std.specs.List.{flat_map}
@@ -85,7 +85,7 @@ flights_tell t (f ∷ fs) fit =
     ∙ ap₂ (λ (ms more : List DelayMessage). ms ++ more) (copies_tell t f f.delays (frames_are_read f.message (All-head (λ (g : Flight). IsDelayMessage g.message) f fs fit)))
     (flights_tell t fs (All-tail (λ (g : Flight). IsDelayMessage g.message) f fs fit))
 
--- ---- so what comes at a tick is what they are told
+-- ---- so what is received at a tick is what they are told
 
 landing_flat : (t : ℤ) (fs : List Flight) → landing fs t ≡ flat_map (λ (f : Flight). copies_at f.delays f.at f.message t) fs
 landing_flat t [] = refl

@@ -1,4 +1,4 @@
--- Nothing of a document comes after the end of time.
+-- Nothing of a document occurs after the end of time.
 use Rattle.std.proofs.Common.{◌≡◌, pos, ◌≤ℤ◌, List, [], sym, subst}
 use Rattle.std.specs.Prelude.{filter}
 use Rattle.air_source.specs.declared.events.Side.TheVariants.{Ru}

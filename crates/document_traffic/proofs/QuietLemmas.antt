@@ -21,7 +21,7 @@ use Rattle.document_traffic.specs.MeasuredLaws.{UnmeasuredLandsTheSame}
 use Rattle.document_traffic.specs.Measured.{delay_messages, others_of}
 use Rattle.unit_model.specs.Times.{tick_count}
 
--- ---- no message of delay measurement comes in an injected frame
+-- ---- no message of delay measurement is received in an injected frame
 
 abbrev pub HasNone : Arrival → Type 0
 HasNone a = delay_messages a.frame ≡ []

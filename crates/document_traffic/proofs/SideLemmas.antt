@@ -63,7 +63,7 @@ others_stay w side h d (one ∷ ones) s = others_stay w side (told_one w h (hear
 
 -- ---- the messages of a frame
 
--- a message goes on with the side, and its delay is what becomes known, behind those of the frame before
+-- a message goes on with the side, and its delay is what becomes known, after those of the frame before
 abbrev pub Follows : Setting → Side → ℤ → Hearing → Doings → List DelayMessage → Doings → Type 0
 Follows w side t h d ms e =
     IsSideOf side (told_all w h (map (came_heard side t) ms)) e
@@ -187,11 +187,11 @@ others_pass w side t h d (m ∷ ms) s = others_pass w side t (told_one w h (came
 
 -- ---- a tick
 
--- what a unit has once all that begins at it has begun, and these frames came
+-- what a unit has once all that begins at it has begun, and these frames were received
 abbrev pub ticked : Setting → Side → ℤ → Doings → List Arrival → Doings
 ticked w side t d arrivals = with_frames (w.comps side) t (with_begins (w.comps side) d (filter (λ b. same_side side b.side) (due t w.begins))) arrivals
 
--- where the frames have all messages that come to it, it goes on with its side of what both hear
+-- where the frames have all messages that are received at it, it goes on with its side of what both hear
 pub tick_told : (w : Setting) (side : Side) (t : ℤ) (s : State) (d : Doings) (arrivals : List Arrival) → messages_of arrivals ≡ landing (s.sent side) t ++ w.others side t → IsSideOf side (before s) d
     → IsSideOf side (hearing w t s) (ticked w side t d arrivals)
 unfolding hearing

@@ -116,12 +116,12 @@ HasStamps Nothing = Unit {0}
 HasStamps (Noted first) = IsStamp first
 HasStamps (Answered seen received) = IsStamp received
 
--- behind a begin
+-- after a begin
 record IsBegin (p : Exchange × Begun) : Type 0 where
   peer : HasStamps p.0.peer
   sent : All FitsBesides (sent_at_begin p.1)
 
--- behind a message that came
+-- after a message that was received
 record IsStep (p : Exchange × MeterStep) : Type 0 where
   peer : HasStamps p.0.peer
   sent : All FitsBesides (sent_at_step p.1)

@@ -100,7 +100,7 @@ pub heard_next : (w : Setting) (first : ℤ) (n : ℕ) → (state w first (suc n
 unfolding state both_after
 heard_next w first n = refl
 
--- of delay measurement comes what both units are said to be told, in all ticks that are gone over
+-- what is received of delay measurement is what both units are said to be told, in all ticks that are gone over
 abbrev pub ComesAsTold : Document → Type 0
 ComesAsTold d = (side : Side) (t : ℤ) → messages_of (landing_at (landings_for side d) t) ≡ landing ((exchanges d).sent side) t ++ others_of d side t
 

@@ -32,12 +32,12 @@ DelaysAreExact = (d : Document) → IsDocument d → (first : ℤ) (n : ℕ) (la
     → delay_then (compensation_of d one.side) (exchange_of (setting_of d no_others) earlier one.side (id_of one.told)) one.told ≡ Some delay
     → IsMeasuredExactly (setting_of d no_others) (state (setting_of d no_others) first n) (id_of one.told) delay
 
--- whatever comes in other frames, nothing that is sent at a tick or later lands at it
+-- whatever is received in other frames, nothing that is sent at a tick or later lands at it
 abbrev pub LandingIsSettled : Type 0
 LandingIsSettled = (d : Document) → IsDocument d → (others : Side → ℤ → List DelayMessage) (side : Side) (first : ℤ) (n m : ℕ)
     → landing ((state (setting_of d others) first (n + m)).sent side) (first +ℤ pos n) ≡ landing ((state (setting_of d others) first n).sent side) (first +ℤ pos n)
 
--- where no other frame comes after 1,000 s, all is told by 1,009 s, and nothing lands then
+-- where no other frame is received after 1,000 s, all is told by 1,009 s, and nothing lands then
 abbrev pub AllEnds : Type 0
 AllEnds = (d : Document) → IsDocument d → (others : Side → ℤ → List DelayMessage)
     → ((side : Side) (t : ℤ) → ticks_of_ns (pos LAST_TIME) <ℤ t → others side t ≡ []) → (first : ℤ) (n : ℕ)

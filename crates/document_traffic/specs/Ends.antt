@@ -1,4 +1,4 @@
--- Nothing of a document comes after the end of time (this project's profile).
+-- Nothing of a document occurs after the end of time (this project's profile).
 use Rattle.std.specs.Prelude.{◌≡◌, ℤ, List, []}
 use Rattle.air_source.specs.declared.events.Side.{Side}
 use Rattle.air_source.specs.declared.events.Side.TheVariants.{Ru}

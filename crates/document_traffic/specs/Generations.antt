@@ -5,8 +5,8 @@ use Rattle.fragment_laws.specs.Apart.{of_message}
 use Rattle.fragment_laws.specs.Flow.{Bounds, Flow, IsCopyOf, numbers_of}
 use Rattle.fh_base.specs.Members.{IsIn}
 
--- A generation of an endpoint's fragments holds fragments of one message only, which was sent, and every copy of them that came: they are
--- what came of this message, each copy as often as it came, the newest first.
+-- A generation of an endpoint's fragments holds fragments of one message only, which was sent, and every copy of them that was received:
+-- they are what was received of this message, each copy as often as it was received, the newest first.
 pub record HoldsOneMessage (b : Bounds) (flow : ℕ → Flow) (came : List Fragment) (ep : ℕ) (g : Generation) : Type 0 where
   pub message : ℕ
   pub was_sent : message < (flow ep).count

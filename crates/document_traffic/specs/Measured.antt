@@ -1,6 +1,6 @@
 -- The frames of delay measurement, and what both units measure in a document's replay (eCPRI 2.0, section 3.2.4.6; this project's
--- profile). Times are ticks. What is sent of the classes c and u does not rest on delay measurement, and class m rests on what came
--- before, so it is told tick by tick.
+-- profile). Times are ticks. What is sent of the classes c and u does not rest on delay measurement, and class m rests on what was
+-- received before, so it is told tick by tick.
 use Rattle.std.specs.Prelude.{ℤ, List, filter}
 use Rattle.std.specs.List.{flat_map}
 use Rattle.std.specs.Ordering.{int_eq}

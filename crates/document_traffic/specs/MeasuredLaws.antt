@@ -34,7 +34,7 @@ pub record IsDelayMessage (m : DelayMessage) : Type 0 where
 -- ---- what arrivals leave a unit
 
 -- but for what they count, these arrivals leave a unit what those leave it: what it decodes, the fragments of data, what a radio unit
--- accepts of it, what came in time, and what is reported
+-- accepts of it, what was received in time, and what is reported
 pub record LeaveTheSame (side : Side) (c : Config) (these those : List Arrival) : Type 0 where
   pub commands : commands_of side c these ≡ commands_of side c those
   pub sections : data_of side c these ≡ data_of side c those
@@ -70,7 +70,7 @@ pub record AreDistinct (side : Side) (d : Document) : Type 0 where
 abbrev pub DocumentsAreDistinct : Type 0
 DocumentsAreDistinct = (d : Document) (side : Side) → IsReplayable d → AreDistinct side d
 
--- then of delay measurement comes at each tick, in order, what both units were said to be told then
+-- then what is received of delay measurement at each tick is, in order, what both units were said to be told then
 abbrev pub MessagesLand : Type 0
 MessagesLand =
     (d : Document) (side : Side) (t : ℤ) → AreDistinct side d

@@ -15,8 +15,8 @@ pub record IsWithin (bounds : Range) (ns : ℤ) : Type 0 where
   pub from : bounds.min ≤ℤ ns
   pub to : ns ≤ℤ bounds.max
 
--- a `deliver` line of commands or data has a copy, and each comes within the transport of its way: T12 to the radio unit, T34 to the
--- distributed unit; nothing is asked of one of delay measurement
+-- a `deliver` line of commands or data has a copy, and each is received within the transport of its way: T12 to the radio unit, T34 to
+-- the distributed unit; nothing is asked of one of delay measurement
 pub record IsPlainLine (t : Delays) (x : Delivery) : Type 0 where
   pub some : x.class ≢ M → x.copies ≢ []
   pub within : x.class ≢ M → All (IsWithin (transport_of x.side t)) x.copies

@@ -31,7 +31,7 @@ leaving_made at frame = record { at = at; class = M; frame = frame }
 abbrev pub leaving_flight : Flight → Leaving
 leaving_flight f = leaving_made f.at (delay_frame f.message)
 
--- what leaves at a tick: of these frames, and behind them of those of delay measurement
+-- what leaves at a tick: of these frames, and after them of those of delay measurement
 abbrev pub leaving_then : List Leaving → List Flight → ℤ → List Leaving
 leaving_then ls fs t = filter (λ f. int_eq f.at t) ls ++ map leaving_flight (flights_then fs t)
 
@@ -57,7 +57,7 @@ landings_for side d = landing_with d side (all_leaving side d)
 abbrev pub begins_at : Document → Side → ℤ → List Begin
 begins_at d side t = filter (λ b. same_side side b.side) (due t (map begin_of d.measures))
 
--- what a unit has of it once they have begun, and once these frames came too
+-- what a unit has of it once they have begun, and once these frames were received too
 abbrev pub begun : Document → Side → ℤ → Doings → Doings
 begun d side t x = with_begins (compensation_of d side) x (begins_at d side t)
 
@@ -77,7 +77,7 @@ doings_in d side (suc n) = after_tick d side (first_clock +ℤ pos n) (doings_in
 abbrev pub doings_at : Document → Side → ℤ → Doings
 doings_at d side t = doings_in d side (int_gap first_clock t)
 
--- when all that lands at a tick has come, with the frames that it made in the tick
+-- when all that lands at a tick has been received, with the frames that it made in the tick
 abbrev pub made_at : Document → Side → ℤ → Doings
 made_at d side t = told_frames d side t (doings_at d side t) (landing_at (landings_for side d) t)
 

@@ -24,7 +24,7 @@ begin_of m = record { side = m.side; id = m.id; kind = m.kind; at = ticks_of_ns 
 abbrev pub ways_of : Document → Side → ℕ → List ℤ
 ways_of d side k = map ticks_of_ns (copies_of d side M k)
 
--- a document, where these messages of type 5 come in its other frames
+-- a document, where these messages of type 5 are received in its other frames
 abbrev pub setting_of : Document → (Side → ℤ → List DelayMessage) → Setting
 setting_of d others = record { comps = compensation_of d; begins = map begin_of d.measures; delays = ways_of d; others = others }
 

@@ -20,7 +20,7 @@ pub record IsSideOf (side : Side) (h : Hearing) (d : Doings) : Type 0 where
 abbrev pub heard_at : Side → Told → Heard
 heard_at side one = record { side = side; told = one }
 
--- the messages of a frame that comes to a side
+-- the messages of a frame that is received at a side
 abbrev pub heard_of : Side → ℤ → List ℕ → List Heard
 heard_of side t frame = map (came_heard side t) (delay_messages frame)
 

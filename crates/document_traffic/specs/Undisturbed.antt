@@ -44,7 +44,7 @@ abbrev pub transport_of : Side → Delays → Range
 transport_of Ru t = t.t12
 transport_of Du t = t.t34
 
--- of a frame a copy comes, and each comes within these bounds
+-- of a frame a copy is received, and each is received within these bounds
 pub record IsCarried (bounds : Range) (x : Delayed) : Type 0 where
   pub some : x.delays ≢ []
   pub from : All (λ ns. bounds.min ≤ℤ ns) x.delays
@@ -74,7 +74,7 @@ blocks_for d = blocks_of d.config (source_for d)
 abbrev pub told_for : Side → Document → Traffic → List AirCell
 told_for side d t = cells_heard side (events d.config t)
 
--- the fragments of data that came at a unit, the newest first
+-- the fragments of data that were received at a unit, the newest first
 abbrev pub fragments_at : Side → Document → Traffic → List Fragment
 fragments_at side d t = fragments (met side d.config (all_arrivals (landings_at side t)))
 

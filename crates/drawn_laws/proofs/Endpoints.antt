@@ -226,7 +226,7 @@ got_again [] k e is = cc
 got_again (x ∷ es) zero e is = ap (option_map read_endpoint) is
 got_again (x ∷ es) (suc k) e is = got_again es k e is
 
--- an id stands at one place
+-- an id is at one place
 at_end : (xs ys : List ℕ) (x : ℕ) → get_or (xs ++ x ∷ ys) (length xs) 0 ≡ x
 at_end [] ys x = refl
 at_end (y ∷ xs) ys x = at_end xs ys x

@@ -1,4 +1,4 @@
--- Sections stand after frames.
+-- Sections are after frames.
 use Rattle.std.proofs.Common.{◌≡◌, true, List, [], ◌∷◌, ◌++◌, Option, Some, refl, ap, ◌∙◌}
 use Rattle.std.specs.List.{AllByRecursion}
 use Rattle.std.proofs.lemmas.Bool.{and_from, and_parts}
@@ -6,7 +6,7 @@ use Rattle.air_source.specs.declared.events.Side.{Side}
 use Rattle.drawn_laws.specs.Drawable.{has_frame, have_frames, last_way}
 use Rattle.explain_model.specs.declared.values.ExplainLine.{ExplainLine}
 
--- wherever these lines stand, their sections stand after frames
+-- wherever these lines are, their sections are after frames
 abbrev pub HaveFrames : List ExplainLine → Type 0
 HaveFrames ls = (last : Option Side) → have_frames last ls ≡ true
 
@@ -27,7 +27,7 @@ pub free_frames : (ls : List ExplainLine) → AllByRecursion IsFree ls → HaveF
 free_frames [] h last = refl
 free_frames (l ∷ ls) h last = and_from (has_frame last l) (have_frames (last_way last l) ls) (h.0 last) (free_frames ls h.1 (last_way last l))
 
--- a line that may stand after a frame to this unit, and is none
+-- a line that may be after a frame to this unit, and is none
 pub record IsAfter (side : Side) (l : ExplainLine) : Type 0 where
   pub frame : has_frame (Some side) l ≡ true
   pub way : last_way (Some side) l ≡ Some side

@@ -1,4 +1,4 @@
--- Lines of events, and those after them, that a picture takes: each is drawable, and sections stand after frames.
+-- Lines of events, and those after them, that a picture takes: each is drawable, and sections are after frames.
 use Rattle.std.proofs.Common.{Bool, true, false, List, [], ◌∷◌, ◌++◌, refl, sym, subst}
 use Rattle.std.specs.Prelude.{if◌then◌else◌}
 use Rattle.std.specs.List.{AllByRecursion, flat_map}

@@ -68,7 +68,7 @@ prbs_by : (prbs start num : ℕ) (none : Bool) → (not none && nat_lt prbs (sta
 prbs_by prbs start num true h = omega arith
 prbs_by prbs start num false h = ltb-false prbs (start + num) h
 
--- ---- pieces of which each element but the first stands one PRB behind the one before it
+-- ---- pieces of which each element but the first is one PRB after the one before it
 
 module _ {A : Type 0} (related : A → A → Bool) (prb limit : A → ℕ) (next : (a b : A) → related a b ≡ true → (prb b ≡ prb a + 1) × (limit b ≡ limit a)) where
   pub piece_within : (x : A) (xs : List A) → AreLinked related (x ∷ xs) → AllByRecursion (λ a. prb a < limit a) (x ∷ xs) → prb x + length (x ∷ xs) ≤ limit x

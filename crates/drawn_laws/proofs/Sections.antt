@@ -151,7 +151,7 @@ command_read ws at t numbers place verdict margins = (
       (taken (margins_at ws (verdict_place ws + 1)) (margins_of t) _ _ (ap (λ (n : ℕ). margins_at ws (n + 1)) place ∙ margins) refl),
 )
 
--- what stands behind the mask
+-- what is after the mask
 abbrev behind_mask : Bool → Bool → CommandVerdict → Timing → List (List ℕ) → List (List ℕ)
 behind_mask uplink idle v t rest = word_list uplink (codes "uplink") ++ word_list idle (codes "idle") ++ command_name v ∷ [] ++ timing_list t ++ rest
 

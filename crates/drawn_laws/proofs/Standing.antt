@@ -1,4 +1,4 @@
--- At most 128 fragments stand in a generation: their subsequence ids differ, and have 7 bits.
+-- At most 128 fragments are stored in a generation: their subsequence ids differ, and have 7 bits.
 use Rattle.std.proofs.Common.{◌≡◌, ℕ, zero, suc, ℤ, ◌+◌, ◌^◌, ◌<◌, ◌≤◌, ◌==◌, Bool, true, false, List, [], ◌∷◌, length, Option, Some, None, refl, sym, subst, arith}
 use Rattle.std.specs.Prelude.{◌||◌, is_some, nat_lt, if◌then◌else◌}
 use Rattle.std.specs.List.{AllByRecursion}
@@ -67,7 +67,7 @@ module _ (p q : ℕ → Bool) (k : ℕ) (yes : q k ≡ true) (no : p k ≡ false
   count_more zero low = absurd (omega (arith, low))
   count_more (suc n) low = here_or_later n (k == n) refl low (count_more n)
 
--- ---- what stands
+-- ---- what is stored
 
 abbrev pub IsSmall : Fragment → Type 0
 IsSmall f = f.sub < 2 ^ 7

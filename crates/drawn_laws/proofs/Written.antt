@@ -51,7 +51,7 @@ use Rattle.drawn_laws.proofs.Words.{AreWords, IsWord, ◌⊕◌, is_letter, no_w
 
 -- ---- pieces
 
--- words behind a text that ends within the first of them
+-- words after a text that ends within the first of them
 pub joined : {a : List ℕ} {vs ws : List (List ℕ)} → AreWords a vs → (front back : List ℕ) → AreWords (front ++ back) ws → AreWords (a ++ front ++ back) (vs ++ ws)
 joined {a = a} p front back q = let both = p ⊕ q in record { is = append_assoc a front back ∙ both.is; words = both.words }
 
@@ -205,7 +205,7 @@ from_list from = (codes "from=" ++ decimal from) ∷ []
 abbrev pub by_list : ℕ → ℕ → List (List ℕ)
 by_list by from = (codes "by=" ++ decimal by) ∷ (codes "from=" ++ decimal from) ∷ []
 
--- what stands behind the first word of a reason
+-- what is after the first word of a reason
 abbrev pub rest_list : Reason → List (List ℕ)
 rest_list (reason.Other section from) = (codes "with=" ++ decimal section) ∷ (codes "from=" ++ decimal from) ∷ []
 rest_list (reason.Late by from) = by_list by from
@@ -269,7 +269,7 @@ prbs_words prb num = named (codes "prb=") prb refl ⊕ named (codes "num=") num 
 pub mask_words : (mask : ℕ) → AreWords (32 ∷ (codes "mask=" ++ hex3_text mask)) ((codes "mask=" ++ hex3_text mask) ∷ [])
 mask_words mask = one_word (codes "mask=" ++ hex3_text mask) (mask_word mask)
 
--- a run of cells behind its first word
+-- a run of cells after its first word
 abbrev pub run_list : PrbRun → ℕ → List (List ℕ)
 run_list r mask =
     signed_decimal r.at.0 ∷ hex4_text r.place.id ∷ signed_decimal r.place.slot.frame ∷ decimal r.place.slot.subframe ∷ decimal r.place.slot.slot

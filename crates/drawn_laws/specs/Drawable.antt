@@ -38,7 +38,7 @@ pub record IsNear (z : ℤ) : Type 0 where
   pub low : neg_ℤ (pos (10 ^ 16)) <ℤ z
   pub high : z <ℤ pos (10 ^ 16)
 
--- ---- what stands before the events
+-- ---- what is before the events
 
 -- the windows in their order
 abbrev pub windows_of : (WindowName → Range) → List ExplainLine
@@ -166,7 +166,7 @@ is_to_radio None = false
 is_to_radio (Some Ru) = true
 is_to_radio (Some Du) = false
 
--- a section stands after a frame, that of a command after one to the radio unit
+-- a section is after a frame, that of a command after one to the radio unit
 abbrev pub has_frame : Option Side → ExplainLine → Bool
 has_frame last (line.Control c) = is_to_radio last
 has_frame last (line.Data d) = is_some last

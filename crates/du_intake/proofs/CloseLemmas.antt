@@ -173,7 +173,7 @@ module _ (c : Config) (planned : List Allocation) (u : Intake) (h : History) (ne
   by_wait : (to : ℤ) → (next.start.0 +ℤ u.wait.0) ≤ℤ to → (next.start.0 +ℤ wait_of Du c.delays) ≤ℤ to
   by_wait to order = subst (λ (w : ℤ). (next.start.0 +ℤ w) ≤ℤ to) all.wait_is order
 
-  -- its moment has come
+  -- its moment is reached
   pub not_late : (to : ℤ) (n : ℕ) → (next.start.0 +ℤ u.wait.0) ≤ℤ to → (f : SymbolStart) → next_in u ≡ Some f → to <ℤ (f.start.0 +ℤ u.wait.0) → HasStillLeft planned n f
   not_late to n order f at late =
       let same : f ≡ next = some_same (next_in u) f next at is in

@@ -146,7 +146,7 @@ module _ (c : Config) (planned : List Allocation) (m : UnitMemory) (clock : ℤ)
         prb = below;
       }
 
-  -- nothing is told of a symbol whose cells in use all stand before the cursor
+  -- nothing is told of a symbol whose cells in use are all before the cursor
   pub quiet : (x : SymbolStart) → IsSwept c.endpoints x.ep x.endpoint x.slot x.symbol x.start.0
       → ((prb : ℕ) → prb < x.endpoint.prbs → is_behind cursor.next cursor.prb (start_at x.ep x.endpoint x.slot x.symbol) prb ≡ true) → told_of still x ≡ []
   quiet x swept behind =
@@ -160,7 +160,7 @@ module _ (c : Config) (planned : List Allocation) (m : UnitMemory) (clock : ℤ)
       let some = not_zero (used_mask (claim_at planned cell)) used in
       k.reports x.endpoint cell (used_cell x.endpoint cell x.start.0 swept below some) refl some ∙ behind prb below))
 
-  -- something is told of a symbol of which a cell in use does not stand before the cursor
+  -- something is told of a symbol of which a cell in use is not before the cursor
   pub told : (x : SymbolStart) (prb : ℕ) → IsSwept c.endpoints x.ep x.endpoint x.slot x.symbol x.start.0 → prb < x.endpoint.prbs
       → 0 < used_mask (claim_at planned (uplink_cell_in x prb)) → is_behind cursor.next cursor.prb (start_at x.ep x.endpoint x.slot x.symbol) prb ≡ false → told_of still x ≢ []
   told x prb swept below used ahead none =
@@ -173,7 +173,7 @@ module _ (c : Config) (planned : List Allocation) (m : UnitMemory) (clock : ℤ)
       (k.reports x.endpoint cell (used_cell x.endpoint cell x.start.0 swept below used) refl used ∙ ahead) (not_none (used_mask (claim_at planned cell)) used)
       (sym (one_cell x.endpoint cell start (claim_at planned cell) (known.blocks cell) h.reported done refl refl) ∙ here)
 
-  -- where the cursor stands behind all symbols, nothing is due
+  -- where the cursor is after all symbols, nothing is due
   pub none_due : cursor.next ≡ None → (to : ℤ) → intake_due_of c planned h to ≡ []
   unfolding due
   none_due none to =

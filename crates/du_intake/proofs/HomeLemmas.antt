@@ -82,7 +82,7 @@ home_cases a b h k =
     and_from (a.ep == b.ep) _ (eq-eqb a.ep b.ep ep)
     (slot_cases a.slot b.slot (no_rest (nat_lt a.ep b.ep) (a.ep == b.ep) _ h (eq-eqb a.ep b.ep ep)) (no_rest (nat_lt b.ep a.ep) (b.ep == a.ep) _ k (eq-eqb b.ep a.ep (sym ep))))
 
--- of one slot, a line comes before and behind the same
+-- the lines of one slot are before and after the same lines
 pub same_before : (a b x : UplinkLine) → same_home a b ≡ true → home_before x a ≡ home_before x b
 same_before a b x h =
     let e = home_is b.ep b.slot a h in
@@ -115,7 +115,7 @@ homes_stay old new stable ep slot =
 
 -- ---- where one slot ends
 
--- between lines of one slot no other stands
+-- between lines of one slot there is no other
 pub apart : (ls : List UplinkLine) → AreLinesInOrder ls → (i p q j : ℕ) (a b x y : UplinkLine) → i ≤ p → p < q → q ≤ j → slice_get ls i ≡ Some a → slice_get ls p ≡ Some b
     → slice_get ls q ≡ Some x → slice_get ls j ≡ Some y → same_home x b ≡ false → same_home y a ≡ false
 apart ls order i p q j a b x y ip pq qj at_i at_p at_q at_j other = elim (cases_Bool (same_home y a)) [

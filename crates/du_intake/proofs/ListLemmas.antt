@@ -1,4 +1,4 @@
--- Lists whose elements stand to one another in some way, and what a stable sort leaves of that.
+-- Lists whose elements are related to one another in some way, and what a stable sort leaves of that.
 use Rattle.std.proofs.Common.{◌≡◌, ℕ, suc, ◌<◌, inl, inr, Bool, true, false, if◌then◌else◌, List, [], ◌∷◌, ◌++◌, length, filter, get_or, Option, Some, refl, sym, ◌∙◌, subst, arith}
 use Rattle.std.specs.List.{AllPairs, slice_get}
 use Rattle.std.specs.List.Sorted.{IsSortedBy, IsStableBy, ties}
@@ -67,7 +67,7 @@ tied_pairs {X = X} lt o R (p ∷ ps) each =
     rest true xs h = pairs_rest R p xs h
     rest false xs h = h
 
--- those that tie still stand to one another as they did
+-- those that tie are still related to one another as they were
 pub stable_pairs : {X : Type 0} (lt : X → X → Bool) → IsStrictWeakOrder lt → (R : X → X → Type 0) (xs ys : List X) → AllPairs R xs → IsStableBy lt xs ys
     → AllPairs (λ p q. ties lt p q ≡ true → R p q) ys
 stable_pairs lt o R xs ys p stable = tied_pairs lt o R ys (λ x. subst (AllPairs R) (sym (stable x)) (AllPairs-filter R (ties lt x) xs p))

@@ -136,7 +136,7 @@ in_symbols e slot own first last y below is =
     in_each (symbol_record e slot first last y) 0 (symbols_of e.numerology) y (symbol_if e slot own first last) (omega arith) (omega (arith, below))
     (subst (λ (b : Bool). IsIn (symbol_record e slot first last y) (let ss : List PlannedSymbol = if b then symbol_record e slot first last y ∷ [] else [] in ss)) (sym is) (inl refl))
 
--- they stand by their numbers
+-- they are in the order of their numbers
 by_number : (e : EndpointConfig) (slot : Slot) (own : List UplinkLine) (first last from n : ℕ) → AllPairs (λ p q. p.symbol < q.symbol) (each from n (symbol_if e slot own first last))
 unfolding each
 by_number e slot own first last from zero = λ i j d low high. absurd (omega (arith, high))

@@ -25,7 +25,7 @@ use Rattle.unit_symbols.specs.Searches.{IsNotBefore}
 other_ahead : (a b x : Bool) → a ≡ false → b ≡ true → (a || (not b && x)) ≡ false
 other_ahead a b x h k = rw (h, k) refl
 
--- all that stands before the next symbol stands before a cursor at its first PRB
+-- all that is before the next symbol is before a cursor at its first PRB
 behind_then : (next x : SymbolStart) (p : ℕ) (new : Option SymbolStart) → (comes_before x next ≡ true) → IfSome new (λ f. comes_before next f ≡ true) → is_behind new 0 x p ≡ true
 behind_then next x p None before after = refl
 behind_then next x p (Some f) before after = or_left (comes_before x f) _ (comes_trans x next f before after)

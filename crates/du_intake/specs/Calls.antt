@@ -1,4 +1,4 @@
--- What the calls of the intake say of the histories for which it stands (this project's profile).
+-- What the calls of the intake say of the histories that it stands for (this project's profile).
 use Rattle.std.specs.Prelude.{◌≡◌, ◌≢◌, ℤ, pos, ◌-ℤ◌, ◌<ℤ◌, ◌≤ℤ◌, List, [], length, Option, Some, None}
 use Rattle.fh_base.specs.declared.values.Ticks.{Ticks}
 use Rattle.window_config.specs.declared.config.Config.{Config}
@@ -26,11 +26,11 @@ cursor_in u = cursor_by u.memory u.plan u.place
 abbrev pub IntakeStandsFor : Config → List Allocation → Intake → History → Type 0
 IntakeStandsFor c planned u h = IntakeStands c planned u.memory u.clock.0 u.wait.0 u.plan (length u.row.items) (cursor_in u) h
 
--- no cell whose moment comes before a time is left to be reported
+-- no cell whose moment is before a time is left to be reported
 abbrev pub IsReportedBefore : Config → List Allocation → History → ℤ → Type 0
 IsReportedBefore c planned h at = intake_due_of c planned h (at -ℤ pos 1) ≡ []
 
--- it stands for some history, and all cells whose moments come before a time are reported
+-- it stands for some history, and all cells whose moments are before a time are reported
 pub record MayTakeAt (at : ℤ) (u : Intake) : Type 0 where
   pub config : Config
   pub planned : List Allocation
@@ -47,7 +47,7 @@ abbrev pub IsIntakeDue : Config → List Allocation → History → Option Ticks
 IsIntakeDue c planned h None = (to : ℤ) → intake_due_of c planned h to ≡ []
 IsIntakeDue c planned h (Some t) = IsLeastIntakeMoment c planned h t.0
 
--- It may take a frame at a time that is not before its clock, where every cell whose moment comes before that time was reported.
+-- It may take a frame at a time that is not before its clock, where every cell whose moment is before that time was reported.
 pub record IntakeMayTake (u : Intake) (c : Config) (planned : List Allocation) (at : ℤ) (h : History) : Type 0 where
   pub stands : IntakeStandsFor c planned u h
   pub reported : IsReportedBefore c planned h at

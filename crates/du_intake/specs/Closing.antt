@@ -85,16 +85,16 @@ pub record IntakeGoesOn {A : Type 0} (grew : A → List Event → A → Type 0) 
   pub told : List AirCell
   pub is : intake_due_of c planned h to ≡ told ++ intake_due_of c planned (heard h told) to
   pub closes : Closes c planned new (heard h told)
-  -- a cell is planned from the place on, where its moment did not come
+  -- a cell is planned from the place on, where its moment was not reached
   pub left : (m : SymbolStart) → next_in new ≡ Some m → to <ℤ (m.start.0 +ℤ new.wait.0) → HasStillLeft planned new.place.prb m
   pub heard_is : grew before (map Reported told) after
 
--- the symbol of the next cell, whose moment comes by a time
+-- the symbol of the next cell, whose moment is reached by a time
 pub record IsNextDue (u : Intake) (to : ℤ) (m : SymbolStart) : Type 0 where
   pub next : next_in u ≡ Some m
   pub by : (m.start.0 +ℤ u.wait.0) ≤ℤ to
 
--- the moment of the next cell, if there is one, comes after a time
+-- the moment of the next cell, if there is one, is after a time
 abbrev pub ComesLater : Intake → ℤ → Type 0
 ComesLater u to = (m : SymbolStart) → next_in u ≡ Some m → to <ℤ (m.start.0 +ℤ u.wait.0)
 

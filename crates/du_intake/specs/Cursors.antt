@@ -21,7 +21,7 @@ pub record IsTimedAllocation (a : Allocation) : Type 0 where
 
 -- ---- symbols in their order
 
--- it comes after the last one, if there is one
+-- it is after the last one, if there is one
 abbrev pub is_after : Option SymbolStart → SymbolStart → Bool
 is_after None m = true
 is_after (Some last) m = comes_before last m
@@ -38,7 +38,7 @@ pub record IsNamed (planned : List Allocation) (m : SymbolStart) : Type 0 where
   pub at : slice_get planned k ≡ Some by
   pub names : NamesIn by by.num_symbol m
 
--- the first symbol behind the last one, if there is one, that these allocations name
+-- the first symbol after the last one, if there is one, that these allocations name
 pub record IsNextPlannedSymbol (planned : List Allocation) (last next : Option SymbolStart) : Type 0 where
   pub named : IfSome next (IsNamed planned)
   pub after : IfSome next (λ m. is_after last m ≡ true)
@@ -51,7 +51,7 @@ pub record CellCursor : Type 0 where
   pub next : Option SymbolStart
   pub prb : ℕ
 
--- the cell of a symbol at a PRB comes before that of the next symbol at the next PRB
+-- the cell of a symbol at a PRB is before that of the next symbol at the next PRB
 abbrev pub is_behind : Option SymbolStart → ℕ → SymbolStart → ℕ → Bool
 is_behind None next_prb m prb = true
 is_behind (Some next) next_prb m prb = comes_before m next || (not (comes_before next m) && nat_lt prb next_prb)

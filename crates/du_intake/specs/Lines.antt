@@ -30,7 +30,7 @@ is_home ep slot l = (l.ep == ep) && same_slot l.slot slot
 abbrev pub same_home : UplinkLine → UplinkLine → Bool
 same_home a b = is_home b.ep b.slot a
 
--- the slot of the first comes before that of the other: by endpoint, and of one endpoint by slot
+-- the slot of the first is before that of the other: by endpoint, and of one endpoint by slot
 abbrev pub home_before : UplinkLine → UplinkLine → Bool
 home_before a b = nat_lt a.ep b.ep || ((a.ep == b.ep) && slot_before a.slot b.slot)
 
@@ -38,7 +38,7 @@ home_before a b = nat_lt a.ep b.ep || ((a.ep == b.ep) && slot_before a.slot b.sl
 abbrev pub lines_at : ℕ → Slot → List UplinkLine → List UplinkLine
 lines_at ep slot ls = filter (is_home ep slot) ls
 
--- none comes behind one of a later slot
+-- none is after one of a later slot
 abbrev pub AreLinesInOrder : List UplinkLine → Type 0
 AreLinesInOrder ls = (i j : ℕ) (p q : UplinkLine) → i < j → slice_get ls i ≡ Some p → slice_get ls j ≡ Some q → home_before q p ≡ false
 

@@ -60,11 +60,11 @@ pub record AreSymbols (es : List EndpointConfig) (ls : List UplinkLine) (n : ℕ
 abbrev pub starts_before : PlannedSymbol → PlannedSymbol → Bool
 starts_before a b = is_lt (int_cmp a.start.0 b.start.0)
 
--- none starts before one that stands before it
+-- none starts before one that precedes it
 abbrev pub AreAscending : List PlannedSymbol → Type 0
 AreAscending ss = AllPairs (λ p q. starts_before q p ≡ false) ss
 
--- those that start at one tick stand as they stood
+-- those that start at one tick keep their order
 abbrev pub IsStableByStart : List PlannedSymbol → List PlannedSymbol → Type 0
 IsStableByStart old new = IsStableBy starts_before old new
 

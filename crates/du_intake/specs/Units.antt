@@ -1,4 +1,4 @@
--- What the distributed unit keeps in fixed memory, and the histories for which it stands: it answers for the slots that are live (this
+-- What the distributed unit keeps in fixed memory, and the histories that it stands for: it answers for the slots that are live (this
 -- project's profile).
 use Rattle.std.specs.Prelude.{◌≡◌, ℕ, ℤ, ◌<◌, ◌≤◌, ◌≤ℤ◌, false, true, All, List, [], IfSome}
 use Rattle.std.specs.List.{list_any}
@@ -28,7 +28,7 @@ use Rattle.du_intake.specs.declared.plan.Place.{Place}
 use Rattle.du_intake.specs.declared.plan.UplinkPlan.{UplinkPlan}
 use Rattle.fh_base.specs.declared.carrier.TheConstants.{CARRIER_PRBS}
 
--- what is due up to a time, over all that came
+-- what is due up to a time, over all that was received
 abbrev pub intake_due_of : Config → List Allocation → History → ℤ → List AirCell
 intake_due_of c planned h to = due Du c.delays c.endpoints (du_known c planned h.arrivals) h.reported to
 
@@ -58,7 +58,7 @@ pub record IntakeKeeps (c : Config) (planned : List Allocation) (m : UnitMemory)
   pub owed : All (IsOwed Du c (du_known c planned h.arrivals)) h.reported
   pub given : h.given ≡ []
   pub plan : ArePlanned c planned
-  -- the cells that stand before the cursor were reported, and no others
+  -- the cells that are before the cursor were reported, and no others
   pub reports : (e : EndpointConfig) (cell : Cell) → IsCell c e cell → cell.down ≡ false → 0 < used_mask (claim_at planned cell)
       → list_any (cell_heard e cell) h.reported ≡ is_behind cursor.next cursor.prb (start_at cell.ep e cell.slot cell.symbol) cell.prb
   pub named : IfSome cursor.next (IsNamed planned)
@@ -67,8 +67,8 @@ pub record IntakeKeeps (c : Config) (planned : List Allocation) (m : UnitMemory)
 abbrev pub IsLiveAtIntake : Config → ℤ → ℕ → Slot → Type 0
 IsLiveAtIntake c clock ep slot = IsLiveFor Du c clock ep slot
 
--- The unit stands for a history: it answers for the slots that are live as the definitions do over all that came, and its claims are
--- those of the plan.
+-- The unit stands for a history: it answers for the slots that are live as the definitions do over all that was received, and its
+-- claims are those of the plan.
 pub record IntakeStands (c : Config) (planned : List Allocation) (m : UnitMemory) (clock wait : ℤ) (plan : UplinkPlan) (room : ℕ) (cursor : CellCursor) (h : History) : Type 0 where
   pub answers : StandsByPlan (IsLiveAtIntake c h.clock) c planned (kept_of m clock plan.lines.items) h
   pub kept : IntakeKeeps c planned m clock cursor h

@@ -24,7 +24,7 @@ use fh_base::Ticks;
 use unit_cells::UnitCells;
 use unit_model::{SymbolStart, block_counter, samples_under};
 
-/// Whether a time comes before another one.
+/// Whether a time is before another one.
 fn is_before(a: Ticks, b: Ticks) -> bool
     ensures before { result ≡ true → a.0 <ℤ b.0 }
     ensures after { result ≡ false → b.0 ≤ℤ a.0 }
@@ -145,7 +145,7 @@ impl Intake {
         Ok(())
     }
 
-    /// The symbol of the next cell, where its moment comes by a time.
+    /// The symbol of the next cell, where its moment is reached by a time.
     fn next_due(&self, to: Ticks) -> Option<SymbolStart>
         requires unit { ClosesSome self.now }
         ensures some { IfSome result (λ m. IsNextDue self.now to.0 m) }
@@ -164,7 +164,7 @@ impl Intake {
         Some(next)
     }
 
-    /// Reports all cells whose moments come by a time.
+    /// Reports all cells whose moments are reached by a time.
     fn close_due<A: Air>(&mut self, to: Ticks, air: &mut A) -> Result<(), AirFault>
         requires { IntakeStandsForSome self.old }
         ensures told { (c : SpecConfig) (planned : List SpecAllocation) (h : History) → IntakeStandsFor c planned self.old h
@@ -188,8 +188,8 @@ impl Intake {
 
     /// Hands the air every planned cell that was not reported whose moment, the start of its symbol and Ta4's maximum, is at most
     /// `to`: in the order of starts, endpoints, slots, symbols and PRBs, with the elements that lines name of it, and with the
-    /// samples that came under their section id. The clock is then `to`. After an error the clock stays, and the next cell to be
-    /// reported is the one in which the air stopped. No memory is asked for beside the air's.
+    /// samples that were received under their section id. The clock is then `to`. After an error the clock stays, and the next cell
+    /// to be reported is the one in which the air stopped. No memory is asked for beside the air's.
     ///
     /// # Errors
     ///

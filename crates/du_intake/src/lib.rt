@@ -1,8 +1,8 @@
 //! The distributed unit's intake in fixed memory.
 //!
 //! [`Intake`] takes all its memory when it is made. Frames are delivered at the times at which they arrive; what they bring for the
-//! uplink cells of a plan is kept until Ta4's maximum behind the start of the cells' symbol. The contracts of its calls say for which
-//! histories it stands (`specs/Calls.antt`), by the definitions of `unit_model` over all that ever came.
+//! uplink cells of a plan is kept until Ta4's maximum after the start of the cells' symbol. The contracts of its calls say which
+//! histories it stands for (`specs/Calls.antt`), by the definitions of `unit_model` over all that was ever received.
 #![tactic(auto)]
 
 mod claims;

@@ -32,7 +32,7 @@ fn is_named(lines: &[UplinkLine], symbol: u8) -> bool
     lines.iter().any(|line| has_symbol(line, symbol))
 }
 
-/// The end of the lines of the slot whose first line stands at an index.
+/// The end of the lines of the slot whose first line is at an index.
 fn slot_end(lines: &[UplinkLine], first: usize) -> usize
     requires { first < length lines.now }
     ensures { IsSlotEnd lines.now first result }

@@ -49,8 +49,8 @@ fn empty_row(alloc: Global) -> Result<Vec<PlannedClaim>, NoMemory>
 
 /// The distributed unit's intake, in memory that is taken when it is made.
 ///
-/// Its contracts say of each history for which it stands, for which it stands after a call. Of slots that are live at its clock it
-/// answers as the definitions do over all that ever came; its claims are those of its plan, of every slot.
+/// Its contracts say of each history that it stands for, which one it stands for after a call. Of slots that are live at its clock it
+/// answers as the definitions do over all that was ever received; its claims are those of its plan, of every slot.
 #[derive(Drop)]
 pub struct Intake {
     pub(crate) memory: UnitMemory,
@@ -70,7 +70,7 @@ impl Intake {
     ghost use Rattle.plan_model.specs.Lines.{uplink_allocations};
     ghost use Rattle.unit_memory.specs.Control.{has_delay};
 
-    /// Takes all memory of the unit, for the lines of a plan at their endpoints. Its clock stands one frame before 0.
+    /// Takes all memory of the unit, for the lines of a plan at their endpoints. Its clock is one frame before 0.
     ///
     /// # Errors
     ///

@@ -49,7 +49,7 @@ module _ (c : Config) (stream : Stream) (ep : ℕ) where
   frames_are DownData m = refl
   frames_are UpData m = refl
 
-  -- a message behind these, the newest first
+  -- a message after these, the newest first
   abbrev before : List (Message Part) → Message Part → ℕ
   before earlier m = frames_before part_fields frames m earlier
 

@@ -64,7 +64,7 @@ module _ (c : Config) (lines : List PlanLine) (config : IsConfig c) (fit : All I
   abbrev ps : List PlannedLine
   ps = planned c.endpoints lines
 
-  -- the parts of a frame's message stand in the lines
+  -- the parts of a frame's message are in the lines
   pub frame_stands : (f : SentFrame) (parts : List PlacedLine) → IsIn f (sent c ps) → parts ≡ map placed_line (parts_of f.message) → StandsAt ps parts (parts_of f.message)
   frame_stands f parts there are =
       let w = sent_is c ps f there in

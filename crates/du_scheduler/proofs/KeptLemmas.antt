@@ -1,4 +1,4 @@
--- The frames of one time stand in their order.
+-- The frames of one time are in their order.
 use Rattle.std.proofs.Common.{◌≡◌, ℕ, ℤ, pos, zero, suc, ◌+◌, ◌<◌, ◌+ℤ◌, ◌<ℤ◌, ◌⊎◌, inl, inr, false, List, [], ◌∷◌, map, refl, sym, ◌∙◌, arith}
 use Rattle.std.specs.List.{AllByRecursion}
 use Rattle.std.specs.Ordering.{int_eq, int_cmp, nat_cmp, ordering_then, is_gt}
@@ -16,7 +16,7 @@ use Rattle.schedule_laws.proofs.SentOrderLemmas.{time_is, later_than}
 use Rattle.fh_base.specs.Members.{IsIn}
 use Rattle.fh_base.proofs.MemberLemmas.{InOrder, order_join, order_filter}
 
--- ---- which of two frames comes first
+-- ---- which of two frames is first
 
 first_less : (o q : Ordering) → o ≡ Less → is_gt (ordering_then o q) ≡ false
 first_less o q e = rw e refl

@@ -1,4 +1,4 @@
--- The first of the frames that are left comes next.
+-- The first of the frames that are left is next.
 use Rattle.std.proofs.Common.{◌≡◌, ◌≤ℤ◌, get_or, ℕ, zero, suc, ◌+◌, ◌-◌, ◌<◌, ◌≤◌, ◌⊎◌, inl, inr, false, List, [], ◌∷◌, ◌++◌, length, All, Option, Some, None, IfSome, refl, ap, ap₂, sym, ◌∙◌, subst, arith}
 use Rattle.std.specs.List.{AllByRecursion, sum_by}
 use Rattle.std.specs.List.Sorted.{IsPermutation}
@@ -52,7 +52,7 @@ turns_first : (gap : ℕ) (r : Run) (k n : ℕ) → 0 < n → turns gap r k n �
 turns_first gap r k zero some = absurd (omega arith)
 turns_first gap r k (suc n) some = ap (λ (m : ℕ). turn_at gap r k ∷ turns gap r (k + 1) m) (omega arith)
 
--- what is left of it is its next frame and what is left behind it
+-- what is left of it is its next frame and what is left after it
 pub rest_is : (gap : ℕ) (r : Run) → IsRun r → rest_of gap r ≡ r.turn ∷ rest_with gap (next_of gap r)
 rest_is gap r h = turns_first gap r 0 r.left h.some ∙ ap₂ (λ (t : Turn) (ts : List Turn). t ∷ ts) (first_is gap r h.order) (go (cases_lt 1 r.left))
   where

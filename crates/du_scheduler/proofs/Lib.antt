@@ -2,7 +2,7 @@ pub mod CountLemmas
 pub mod OrderLemmas
 pub mod ProperLemmas
 mod PartLemmas
-mod FrameLemmas
+pub mod FrameLemmas
 mod GivingLemmas
 pub mod PlanLemmas
 pub mod MessageLemmas

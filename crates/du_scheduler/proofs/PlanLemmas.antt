@@ -1,4 +1,4 @@
--- For callers: a plan stays one that was tested, what a call gave, and what is then still to come.
+-- For callers: a plan stays one that was tested, what a call gave, and what is then still to follow.
 use Rattle.std.proofs.Common.{◌≡◌, refl, subst, sym, ◌∙◌, [], ◌∷◌, List, map, Result, Ok, Err}
 use Rattle.std.specs.Prelude.{Option, Some, None, IfOk}
 use Rattle.air_source.specs.declared.places.RePlace.{RePlace}
@@ -20,7 +20,7 @@ pub plan_checked : (c : Config) (lines : List PlanLine) (r : Result Plan PlanRef
 plan_checked c lines (Ok p) is = record { config = c; lines = lines; left = sent c (planned c.endpoints lines); is = is }
 plan_checked c lines (Err e) is = tt
 
--- behind `next_frame` it is still one, whatever was given
+-- after `next_frame` it is still one, whatever was given
 pub still_plan : {X : Type 0} → (old new : Plan) (r : Option X) → LeavesPlan old new r → IsPlan old → IsPlan new
 still_plan old new None leaves p =
     let left = leaves p.config p.lines p.left p.is in
@@ -31,7 +31,7 @@ still_plan old new (Some x) leaves p =
 
 -- ---- of the same configuration and lines
 
--- the first frame was given and the others are to come, or there was none
+-- the first frame was given and the others are to follow, or there was none
 abbrev pub GoesOn : Config → List PlanLine → (RePlace → Wide) → List SentFrame → Option Sent → Plan → Type 0
 GoesOn c lines answer left None new = (left ≡ []) × HasToSend c lines [] new
 GoesOn c lines answer left (Some s) new = (f : SentFrame) × (rest : List SentFrame) × (left ≡ f ∷ rest) × IsSent c answer f s × HasToSend c lines rest new
@@ -54,7 +54,7 @@ goes_on c lines answer left old new (Some s) h given leaves =
 
 -- ---- what `next_time` tells
 
--- a time is that of the first frame to come
+-- a time is that of the first frame to follow
 pub time_told : (left : List SentFrame) (t : Ticks) → first_time (map turn_of left) ≡ Some t → (f : SentFrame) × (rest : List SentFrame) × (left ≡ f ∷ rest) × (f.at ≡ t.0)
 time_told [] t told = absurd (cc)
 time_told (f ∷ rest) t told = (f, rest, refl, cc)

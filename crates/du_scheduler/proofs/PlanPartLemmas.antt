@@ -84,7 +84,7 @@ from_stable xs ys stable y m =
     let there : IsIn y (filter (ties part_first y) ys) = in_filter (ties part_first y) y ys m (equal_tied part_total y y (tied_itself part_total y)) in
     (of_filter (ties part_first y) y xs (subst (IsIn y) (stable y) there)).0
 
--- what is not put behind precedes
+-- what is not put after precedes
 step : (P Q R : Type 0) {G : Type 0} (o r : Ordering) → MatchOrdering o P Q R → is_lt (ordering_then o r) ≡ false → (Q → is_lt r ≡ false → G) → (R → G) → G
 step P Q R Less r m h same later = absurd (true≢false h)
 step P Q R Equal r m h same later = same m h

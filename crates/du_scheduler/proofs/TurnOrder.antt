@@ -133,7 +133,7 @@ first_is gap r h =
 time_later : (a last : ℤ) (gap n : ℕ) → int_min (int_min (a +ℤ pos gap) last +ℤ pos n) last ≡ int_min (a +ℤ pos (n + gap)) last
 time_later a last gap n = grind (arith, ints, nat_tests)
 
--- behind its next frame a run goes on as it would have
+-- after its next frame a run goes on as it would have
 pub later_is : (gap : ℕ) (r s : Run) (k : ℕ) → s.turn ≡ turn_at gap r 1 → s.last ≡ r.last → turn_at gap s k ≡ turn_at gap r (k + 1)
 unfolding made
 later_is gap r s k turn last =

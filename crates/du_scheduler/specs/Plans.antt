@@ -66,7 +66,7 @@ pub record IsSent (c : Config) (answer : RePlace → Wide) (f : SentFrame) (s : 
   pub ep : s.ep ≡ f.ep
   pub bytes : s.bytes.now ≡ sent_bytes c (source_of c.endpoints answer) f
 
--- the first frame to come, or none where none is left
+-- the first frame to follow, or none where none is left
 abbrev pub GivesSent : Config → (RePlace → Wide) → List SentFrame → Option Sent → Type 0
 GivesSent c answer left None = left ≡ []
 GivesSent c answer left (Some s) = (f : SentFrame) × (rest : List SentFrame) × (left ≡ f ∷ rest) × IsSent c answer f s
@@ -89,7 +89,7 @@ pub record IsLent (w : Written) (p : Plan) (s : Sent) : Type 0 where
   pub ep : s.ep ≡ w.ep
   pub bytes : s.bytes.now ≡ take w.size p.room.items
 
--- when a frame was given, the others are to come
+-- when a frame was given, the others are to follow
 abbrev pub LeavesPlan : {X : Type 0} → Plan → Plan → Option X → Type 0
 LeavesPlan old new None = (c : Config) (lines : List PlanLine) (left : List SentFrame) → HasToSend c lines left old → (left ≡ []) × HasToSend c lines [] new
 LeavesPlan old new (Some x) =

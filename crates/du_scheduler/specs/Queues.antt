@@ -27,7 +27,7 @@ abbrev pub left_of : ℕ → List (Reverse Run) → List Turn
 left_of gap [] = []
 left_of gap (r ∷ rs) = rest_of gap r.0 ++ left_of gap rs
 
--- these are the frames to come, in order
+-- these are the frames to follow, in order
 pub record StandsFor (q : Queue) (l : List Turn) : Type 0 where
   pub rising : AreRising l
   pub same : (t : Turn) → times t (left_of q.gap (heap_items q.heap)) ≡ times t l

@@ -61,7 +61,7 @@ runs_of c lines = runs_from c lines 0 c.endpoints
 abbrev pub rests_of : ℕ → List Run → List Turn
 rests_of gap runs = joined (map (rest_of gap) runs)
 
--- these frames in order, each as often as it stands among the others
+-- these frames in order, each as often as it is among the others
 pub record IsOrderOf (all l : List Turn) : Type 0 where
   pub rising : AreRising l
   pub same : (t : Turn) → times t l ≡ times t all

@@ -31,7 +31,7 @@ place_is UpData = refl
 streams_tie : (a b : Stream) → sameb the_type a b ≡ eq_by_cmp nat_cmp (stream_place a) (stream_place b)
 streams_tie a b = ap₂ (λ (i j : ℕ). i == j) (place_is a) (place_is b) ∙ unsigned_ties (stream_place a) (stream_place b)
 
--- the fields of a turn, in the order in which they stand
+-- the fields of a turn, in the order in which they are listed
 abbrev pub are_alike : Turn → Turn → Bool
 are_alike x y = int_eq x.at.0 y.at.0 && ((x.endpoint == y.endpoint) && (sameb the_type x.stream y.stream && ((x.sub == y.sub) && (x.number == y.number))))
 

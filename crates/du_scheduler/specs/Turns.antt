@@ -36,7 +36,7 @@ abbrev pub AreRising : List Turn → Type 0
 AreRising [] = ⊤
 AreRising (t ∷ ts) = AllByRecursion (IsUpTo t) ts × AreRising ts
 
--- when the frame k frames behind the next one leaves: a gap after the one before it, and no later than the last may
+-- when the frame k frames after the next one leaves: a gap after the one before it, and no later than the last may
 abbrev pub leaves : ℕ → Run → ℕ → ℤ
 leaves gap r k = int_min (r.turn.at.0 +ℤ pos (k * gap)) r.last.0
 
@@ -60,19 +60,19 @@ pub record IsRun (r : Run) : Type 0 where
   pub order : r.turn.at.0 ≤ℤ r.last.0
   pub bound : r.last.0 <ℤ pos (2 ^ 62)
 
--- what is left of it behind its next frame
+-- what is left of it after its next frame
 abbrev pub next_of : ℕ → Run → Option Run
 next_of gap r = if nat_lt 1 r.left then Some (record { turn = turn_at gap r 1; last = r.last; left = r.left - 1 }) else None
 
 abbrev pub is_turn : Turn → Turn → Bool
 is_turn t u = is_eq (turn_cmp t u)
 
--- how often a frame stands in a list
+-- how often a frame is in a list
 abbrev pub times : Turn → List Turn → ℕ
 times t [] = 0
 times t (u ∷ us) = (if is_turn t u then 1 else 0) + times t us
 
--- Where frame i of a symbol leaves a gap behind the one before it, and no later than `spread` after the first, and the next
+-- Where frame i of a symbol leaves a gap after the one before it, and no later than `spread` after the first, and the next
 -- frame of a message is such a frame, its other frames leave like that too.
 abbrev pub FramesLeaveInTime : Type 0
 FramesLeaveInTime =

@@ -1,4 +1,4 @@
--- A message whose parts stand in a list of lines, as it can be written (this project's means).
+-- A message whose parts are in a list of lines, as it can be written (this project's means).
 use Rattle.std.specs.Prelude.{◌≡◌, ◌<◌, ◌≤◌, ⊤, List, [], ◌∷◌, length, map, Some}
 use Rattle.std.specs.List.{slice_get}
 use Rattle.plan_model.specs.Packs.{Message, parts_of}
@@ -14,7 +14,7 @@ use Rattle.window_config.specs.declared.config.TheConstants.{MESSAGE_SECTIONS}
 use Rattle.frame_bytes.specs.Headers.{carrier_of}
 use Rattle.fh_base.specs.declared.carrier.TheConstants.{CARRIER_PRBS}
 
--- each part's line stands at its place
+-- each part's line is at its place
 abbrev pub StandIn : List PlannedLine → List Part → Type 0
 StandIn lines [] = ⊤
 StandIn lines (x ∷ xs) = (slice_get lines x.planned.index ≡ Some x.planned) × StandIn lines xs

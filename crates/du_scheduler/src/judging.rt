@@ -36,7 +36,7 @@ fn why_of(verdict: CommandVerdict) -> PlanWhy
     }
 }
 
-/// The first of a slot's lines that is refused, and why: its lines stand in the order of the plan, `first` is one of them, and the
+/// The first of a slot's lines that is refused, and why: its lines are in the order of the plan, `first` is one of them, and the
 /// ring, of one place, has nothing of the slot yet.
 fn judge_slot(
     ring: &mut SlotRing,
@@ -87,7 +87,7 @@ fn lesser(a: Option<(usize, PlanWhy)>, b: Option<(usize, PlanWhy)>) -> Option<(u
     }
 }
 
-/// The least of what the slots of an endpoint's lines refuse, each by itself: the lines stand in the order of slots, and the ring has
+/// The least of what the slots of an endpoint's lines refuse, each by itself: the lines are in the order of slots, and the ring has
 /// one place and nothing yet.
 fn judge_slots(ring: &mut SlotRing, lines: &[PlannedLine]) -> Option<(usize, PlanWhy)>
     requires one { length ring.old.places ≡ 1 }
@@ -106,7 +106,7 @@ fn judge_slots(ring: &mut SlotRing, lines: &[PlannedLine]) -> Option<(usize, Pla
     least
 }
 
-/// The least of what the slots of an endpoint's lines refuse, which stand in the order of slots.
+/// The least of what the slots of an endpoint's lines refuse, which are in the order of slots.
 fn judge_own(alloc: Global, own: &[PlannedLine]) -> Result<Option<(usize, PlanWhy)>, NoMemory>
     requires endpoint { (p : SpecLine) → IsIn p own.now → IsEndpoint p.endpoint }
     requires lines { (p : SpecLine) → IsIn p own.now → AllByRecursion (IsEndpointLine p.endpoint (ep_of own.now)) own.now }

@@ -40,7 +40,7 @@ pub(crate) fn placed_lines(alloc: Global, parts: &[TimedPart]) -> Result<Vec<Pla
 impl StreamParts {
     ghost use Rattle.du_scheduler.specs.Kept.{HasMessage, end_of, message_in};
 
-    /// The place behind a message's last part.
+    /// The place after a message's last part.
     fn end_of(&self, number: usize) -> usize
         requires { number < 2 ^ 32 }
         ensures { result ≡ end_of self.now number }

@@ -5,7 +5,7 @@ ghost use Rattle.du_scheduler.specs.OpenMessages.{same_place};
 use crate::parts::TimedPart;
 use plan_model::{Departures, MessageSize};
 
-/// A message that may take more parts: its first part, how large it is, and how long behind the first frame of its symbol its own
+/// A message that may take more parts: its first part, how large it is, and how long after the first frame of its symbol its own
 /// first one leaves.
 #[derive(Clone, Copy, Debug, PartialEq, Eq)]
 pub struct OpenMessage {
@@ -56,7 +56,7 @@ impl OpenMessage {
         }
     }
 
-    /// The message of one part behind this one, which so many frames carry.
+    /// The message of one part after this one, which so many frames carry.
     pub(crate) fn next_to(
         &self,
         departures: &Departures,

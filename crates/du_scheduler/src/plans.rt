@@ -71,7 +71,7 @@ struct Written {
     size: usize,
 }
 
-/// How many bytes the longest frame has: 9,000 application bytes behind the eCPRI headers.
+/// How many bytes the longest frame has: 9,000 application bytes after the eCPRI headers.
 const ROOM: usize = 9008;
 
 /// A plan whose lines were tested, and the frames that it has still to send.
@@ -177,7 +177,7 @@ impl Plan {
 
     /// The next frame in the order of what is sent; None exactly where all were given, and then nothing changes.
     ///
-    /// Its bytes stand in the plan's room until the next call. This takes no memory. The source is asked for the samples of the
+    /// Its bytes are kept in the plan's room until the next call. This takes no memory. The source is asked for the samples of the
     /// PRBs that the frame touches, and for no others.
     pub fn next_frame<F: Fn(RePlace) -> Wide>(&mut self, source: &Samples<F>) -> Option<Sent<'_>>
         requires kept { IsKept F.pre F.post source.now }

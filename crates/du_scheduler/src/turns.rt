@@ -9,7 +9,7 @@ use fh_base::Ticks;
 use plan_model::Stream;
 use std::cmp::Ordering;
 
-/// Which frame it is and when it leaves. Frames are ordered by time, endpoint, stream, number and subsequence id; the fields stand
+/// Which frame it is and when it leaves. Frames are ordered by time, endpoint, stream, number and subsequence id; the fields are ordered
 /// so that a queue's items are short.
 #[derive(Clone, Copy, Debug, PartialEq, Eq)]
 pub struct Turn {
@@ -98,7 +98,7 @@ pub struct Run {
     pub left: u8,
 }
 
-/// What is left of a message behind its next frame.
+/// What is left of a message after its next frame.
 pub(crate) fn next_of(gap: u32, run: &Run) -> Option<Run>
     requires { IsRun run.now }
     ensures { result ≡ next_of gap run.now }

@@ -46,7 +46,7 @@ fn fits(part: u16, width: u8) -> bool
     (part as u32) >> width == 0
 }
 
-// a number, and behind its bits those of one more part
+// a number, and after its bits those of one more part
 fn joined(number: u32, width: u8, part: u16) -> u32
     requires small { number < 2 ^ 16 }
     requires narrow { width ≤ 16 }

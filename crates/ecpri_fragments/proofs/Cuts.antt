@@ -8,7 +8,7 @@ use Rattle.ecpri_fragments.specs.Pieces.{joined as joined_up}
 reverse_cons : (a : Fragment) (xs : List Fragment) → reverse (a ∷ xs) ≡ reverse xs ++ a ∷ []
 reverse_cons a xs = reverse_onto xs a []
 
--- pieces behind others, and one behind them
+-- pieces after others, and one after them
 joined_append : {X : Type 0} (xs ys : List (List X)) → joined_up (xs ++ ys) ≡ joined_up xs ++ joined_up ys
 joined_append [] ys = refl
 joined_append (x ∷ xs) ys = rw (joined_append xs ys) (sym (append_assoc x (joined_up xs) (joined_up ys)))

@@ -1,4 +1,4 @@
--- Where a fragment with E = 1 stands, no greater subsequence does: what stands of a complete message is its pieces alone.
+-- Where a fragment with E = 1 is stored, no greater subsequence is: what is stored of a complete message is its pieces alone.
 use Rattle.std.proofs.Common.{◌≡◌, ℕ, ◌≤◌, Bool, true, false, cond, ◌&&◌, ◌||◌, ltb, List, [], ◌∷◌, Option, Some, None, refl, sym, ap, ◌∙◌, arith}
 use Rattle.std.proofs.lemmas.Bool.{ltb-false, le-ltb, or_parts, or_from}
 use Rattle.std.proofs.lemmas.Option.{same_Some}

@@ -1,4 +1,4 @@
--- What holds of all fragments holds of those that stand in a generation, whatever it is.
+-- What holds of all fragments holds of those that are stored in a generation, whatever it is.
 use Rattle.std.proofs.Common.{ℕ, ℤ, Bool, true, false, List, [], ◌∷◌}
 use Rattle.std.specs.Prelude.{All, Option, Some, None, if◌then◌else◌}
 use Rattle.std.proofs.lemmas.List.Elements.{All-nil, All-cons, All-head, All-tail}
@@ -44,7 +44,7 @@ held_now P hold at (g ∷ gs) h = go (is_within hold g.start at)
 pub all_seen : (P : Fragment → Type 0) (hold : ℤ) (f : Fragment) (earlier : List Fragment) → All P (of_id f.ep f.seq earlier) → All P (seen hold f earlier)
 all_seen P hold f earlier h = held_now P hold f.at (generations_of hold f.ep f.seq earlier) (all_held P hold (of_id f.ep f.seq earlier) h)
 
--- and of those of it that stand
+-- and of those of it that are stored
 stand_kept : (P : Fragment → Type 0) (o : Option Verdict) (f : Fragment) (s : List Fragment) → P f → All P s → All P (with_one o f s)
 stand_kept P (Some v) f s p h = h
 stand_kept P None f s p h = All-cons P f s p h

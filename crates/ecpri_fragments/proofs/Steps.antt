@@ -248,7 +248,7 @@ begins_first hold (g ∷ gs) a v b = go (is_within hold g.start a.at) v b
     go true v b = absurd (cc)
     go false v b = (begun a, g ∷ gs, refl, refl, not_placed (refused [] a) _ a v)
 
--- Where the first fragment of a generation is too long, that generation begins at its time, and nothing stands in it.
+-- Where the first fragment of a generation is too long, that generation begins at its time, and nothing is stored in it.
 pub too_long_begins : (hold : ℤ) (a : Fragment) (arrivals : List Fragment) → verdict_on hold a arrivals ≡ TooLong → is_first hold a arrivals ≡ true →
     (g : Generation) × (gs : List Generation) × (generations_of hold a.ep a.seq (a ∷ arrivals) ≡ g ∷ gs) × (g.start ≡ a.at) × (standing g.held ≡ [])
 too_long_begins hold a arrivals v b =

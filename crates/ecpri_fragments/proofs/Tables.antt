@@ -1,4 +1,4 @@
--- What a table holds once a fragment stands in it, and why one does not.
+-- What a table holds once a fragment is stored in it, and why one is not.
 use Rattle.std.proofs.Common.{◌≡◌, ℕ, zero, suc, ◌+◌, ◌<◌, ◌≤◌, inl, inr, Bool, true, false, cond, ◌&&◌, ◌||◌, eqb, ltb, List, [], ◌∷◌, ◌++◌, length, take, drop, max, set, Option, Some, None, is_some, refl, sym, ap, ◌∙◌, subst, arith, ℤ}
 use Rattle.std.proofs.lemmas.List.{get_or-set_same, get_or-set_other, length-take-le, take-append-drop, take-append-le, drop-take, drop_at, append_assoc}
 use Rattle.std.proofs.Math.Seq.{take-append_seam}
@@ -11,12 +11,12 @@ use Rattle.ecpri_fragments.specs.Verdicts.{piece_at, stands, end_of, all_stand, 
 use Rattle.ecpri_fragments.specs.Spans.{span_of, shown, Inside, end_of_span, all_in, whole_in}
 use Rattle.ecpri_fragments.specs.Places.{Table, Holds, IsBelow, EndsAt, top_of, is_past, refused_in}
 
--- a part of the memory stays where more is written behind it
+-- a part of the memory stays where more is written after it
 kept : (bytes xs : List ℕ) (from len : ℕ) → from + len ≤ length bytes → take len (drop from (bytes ++ xs)) ≡ take len (drop from bytes)
 kept bytes xs from len h =
     sym (drop-take from len (bytes ++ xs)) ∙ ap (λ (ys : List ℕ). drop from ys) (take-append-le (from + len) bytes xs h) ∙ drop-take from len bytes
 
--- and where more is written over what stands behind it
+-- and where more is written over what is after it
 kept_before : (bytes ys : List ℕ) (used from len : ℕ) → from + len ≤ used → used ≤ length bytes → take len (drop from (take used bytes ++ ys)) ≡ take len (drop from bytes)
 kept_before bytes ys used from len h r =
     let l : from + len ≤ length (take used bytes) = rw (length-take-le used bytes r) h in
@@ -86,13 +86,13 @@ greater_same : (s : List Fragment) (k : ℕ) → has_greater s k ≡ ltb (k + 1)
 greater_same [] k = sym (le-ltb (k + 1) 0 (omega arith))
 greater_same (b ∷ s) k = rw (greater_same s k) (greater_one k b.sub (top_of s))
 
--- Why a fragment does not stand is told by the table.
+-- Why a fragment is not stored is told by the table.
 pub refused_same : (t : Table) (s : List Fragment) (a : Fragment) → Holds t s → a.sub < 128 → refused s a ≡ refused_in t a.sub a.last (length a.bytes)
 refused_same t s a h low =
     let x : stands s a.sub ≡ is_some (span_of t.spans a.sub) = sym (there (span_of t.spans a.sub) t.bytes ∙ ap is_some (h.pieces a.sub low)) in
     rw (← h.whole, x, past_same t.ending s a.sub h.ends h.ending, greater_same s a.sub, ← h.top, ← h.used) refl
 
--- what is known of a fragment that stands
+-- what is known of a fragment that is stored
 pub passed : (x y z : Bool) → cond x (Some Repeat) (cond y (Some Stray) (cond z (Some TooLong) None)) ≡ None → y ≡ false
 passed true y z e = absurd (cc)
 passed false true z e = absurd (cc)
@@ -122,7 +122,7 @@ own : (spans : List (Option Span)) (bytes xs rest : List ℕ) (used sub : ℕ) �
 own spans bytes xs rest used sub r h =
     rw (get_or-set_same spans sub (Some (record { from = used; len = length xs })) None h) (ap (λ (ys : List ℕ). Some ys) (fresh bytes xs rest used r))
 
--- A fragment that stands now, in memory behind all others.
+-- A fragment that is stored now, in memory after all others.
 pub stored : (t u : Table) (s : List Fragment) (a : Fragment) (rest : List ℕ) → Holds t s → Inside t.spans t.used → refused s a ≡ None → a.sub < 128 → length t.spans ≡ 128 → t.used ≤ length t.bytes →
     u.spans ≡ set t.spans a.sub (Some (record { from = t.used; len = length a.bytes })) →
     u.bytes ≡ take t.used t.bytes ++ a.bytes ++ rest → u.used ≡ t.used + length a.bytes →

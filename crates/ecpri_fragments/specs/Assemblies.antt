@@ -35,7 +35,7 @@ StandIn numbers done places hold arrivals = (ep seq : ℕ) (n : Option ℕ) (d :
 unfoldable pub StandsFor : Assembly → List Fragment → Type 0
 StandsFor a arrivals = StandIn a.pool.numbers.items a.done.items a.pool.places.items a.hold.0 arrivals
 
--- whether a fragment that arrives now comes to a message that is whole, of an id without a place
+-- whether a fragment that arrives now belongs to a message that is complete, of an id without a place
 abbrev pub repeats : Option ℕ → Option Begun → ℤ → ℤ → Bool
 repeats None (Some b) hold at = is_within hold b.at.0 at
 repeats None None hold at = false

@@ -8,12 +8,12 @@ abbrev pub AllWithin : ℤ → ℤ → List Fragment → Type 0
 AllWithin hold start [] = ⊤
 AllWithin hold start (b ∷ more) = (is_within hold start b.at ≡ true) × AllWithin hold start more
 
--- an opening fragment, and more that came no later than `hold` after it
+-- an opening fragment, and more that were received no later than `hold` after it
 abbrev pub IsGeneration : ℤ → List Fragment → Type 0
 IsGeneration hold [] = ⊥
 IsGeneration hold (a ∷ more) = AllWithin hold a.at more
 
--- the next generation opens with a fragment that came later than that
+-- the next generation opens with a fragment that was received later than that
 abbrev pub BeginsAfter : ℤ → List Fragment → List Fragment → Type 0
 BeginsAfter hold [] next = ⊥
 BeginsAfter hold (a ∷ more) [] = ⊥

@@ -49,7 +49,7 @@ abbrev pub generations : ℤ → List Fragment → List Generation
 generations hold [] = []
 generations hold (a ∷ earlier) = with_fragment hold a (generations hold earlier)
 
--- whether what arrives now begins a generation, behind these
+-- whether what arrives now begins a generation, after these
 abbrev pub begins : ℤ → ℤ → List Generation → Bool
 begins hold at [] = true
 begins hold at (g ∷ gs) = if is_within hold g.start at then false else true

@@ -15,7 +15,7 @@ abbrev pub top_of : List Fragment → ℕ
 top_of [] = 0
 top_of (a ∷ s) = max (top_of s) (a.sub + 1)
 
--- the fields of a place that describe what stands
+-- the fields of a place that describe what is stored
 pub record Table : Type 0 where
   pub spans : List (Option Span)
   pub bytes : List ℕ
@@ -62,7 +62,7 @@ pub record Holds (t : Table) (s : List Fragment) : Type 0 where
   pub last : t.last ≡ last_of s
   pub whole : t.whole ≡ is_whole s
 
--- The place is in a generation that began then and in which these stand.
+-- The place is in a generation that began then and in which these are stored.
 abbrev pub Stands : Place → ℤ → List Fragment → Type 0
 Stands p start s = (t : Ticks) × (p.begun ≡ Some t) × (t.0 ≡ start) × Holds (table_of p) s
 
@@ -76,7 +76,7 @@ abbrev pub IsDone : ℤ → List Generation → Type 0
 IsDone start [] = ⊥
 IsDone start (g ∷ gs) = (start ≡ g.start) × (is_whole (standing g.held) ≡ true)
 
--- A fragment that comes where these stand has the verdict, and new is the place after it.
+-- A fragment that is received where these are stored has the verdict, and new is the place after it.
 abbrev pub Joins : ℤ → List Fragment → Fragment → Verdict → Place → Type 0
 Joins start s a v new = (v ≡ verdict s a) × Stands new start (placed s a)
 

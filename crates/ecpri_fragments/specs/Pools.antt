@@ -9,14 +9,14 @@ abbrev pub place_at : List Place → Option ℕ → Option Place
 place_at places None = None
 place_at places (Some k) = slice_get places k
 
--- The id, which had no place, has that one now, in which nothing stands; each other id has the place that it had.
+-- The id, which had no place, has that one now, in which nothing is stored; each other id has the place that it had.
 pub record HandsOut (old : Pool) (id number : ℕ) (new : Pool) : Type 0 where
   pub numbers : new.numbers.items ≡ slice_set old.numbers.items id (Some number)
   pub len : vec_len new.numbers ≡ vec_len old.numbers
   pub fresh : (p : Place) → slice_get new.places.items number ≡ Some p → StandsIn p []
   pub others : (j k : ℕ) → slice_get old.numbers.items j ≡ Some (Some k) → slice_get new.places.items k ≡ slice_get old.places.items k
 
--- The id has that place: the one that it had, or one in which nothing stands. Each other id has the place that it had.
+-- The id has that place: the one that it had, or one in which nothing is stored. Each other id has the place that it had.
 pub record Opens (old : Pool) (id number : ℕ) (new : Pool) : Type 0 where
   pub len : vec_len new.numbers ≡ vec_len old.numbers
   pub has : slice_get new.numbers.items id ≡ Some (Some number)

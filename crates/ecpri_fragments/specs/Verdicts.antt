@@ -5,7 +5,7 @@ use Rattle.ecpri_fragments.specs.declared.verdict.Verdict.TheVariants.{Stored, W
 use Rattle.ecpri_fragments.specs.Generations.{Fragment, seen}
 use Rattle.ecpri_fragments.specs.declared.place.TheConstants.{MESSAGE_BYTES}
 
--- the bytes of the fragment that stands at this subsequence
+-- the bytes of the fragment that is stored at this subsequence
 abbrev pub piece_at : List Fragment → ℕ → Option (List ℕ)
 piece_at [] k = None
 piece_at (a ∷ s) k = if a.sub == k then Some a.bytes else piece_at s k
@@ -18,7 +18,7 @@ abbrev pub end_of : List Fragment → Option ℕ
 end_of [] = None
 end_of (a ∷ s) = if a.last then Some a.sub else end_of s
 
--- each subsequence below n stands
+-- each subsequence below n is stored
 abbrev pub all_stand : List Fragment → ℕ → Bool
 all_stand s zero = true
 all_stand s (suc n) = stands s n && all_stand s n
@@ -27,16 +27,16 @@ abbrev pub whole_to : List Fragment → Option ℕ → Bool
 whole_to s None = false
 whole_to s (Some e) = all_stand s (e + 1)
 
--- the subsequences up to that of the fragment with E = 1 stand
+-- the subsequences up to that of the fragment with E = 1 are stored
 abbrev pub is_whole : List Fragment → Bool
 is_whole s = whole_to s (end_of s)
 
--- a fragment with E = 1 and a lesser subsequence stands
+-- a fragment with E = 1 and a lesser subsequence is stored
 abbrev pub is_past_end : List Fragment → ℕ → Bool
 is_past_end [] k = false
 is_past_end (b ∷ s) k = (b.last && nat_lt b.sub k) || is_past_end s k
 
--- a fragment with a greater subsequence stands
+-- a fragment with a greater subsequence is stored
 abbrev pub has_greater : List Fragment → ℕ → Bool
 has_greater [] k = false
 has_greater (b ∷ s) k = nat_lt k b.sub || has_greater s k
@@ -48,7 +48,7 @@ abbrev pub size : List Fragment → ℕ
 size [] = 0
 size (a ∷ s) = length a.bytes + size s
 
--- why a fragment does not stand with these, by the first rule that holds; none where it does
+-- why a fragment is not stored with these, by the first rule that holds; none where it is
 abbrev pub refused : List Fragment → Fragment → Option Verdict
 refused s a =
     if is_whole s || stands s a.sub then Some Repeat
@@ -64,26 +64,26 @@ abbrev pub with_one : Option Verdict → Fragment → List Fragment → List Fra
 with_one (Some v) a s = s
 with_one None a s = a ∷ s
 
--- what a fragment is where these stand in its generation, and what stands after it
+-- what a fragment is where these are stored in its generation, and what is stored after it
 abbrev pub verdict : List Fragment → Fragment → Verdict
 verdict s a = answer (refused s a) (is_whole (a ∷ s))
 
 abbrev pub placed : List Fragment → Fragment → List Fragment
 placed s a = with_one (refused s a) a s
 
--- what stands of all that arrived in a generation
+-- what is stored of all that arrived in a generation
 abbrev pub standing : List Fragment → List Fragment
 standing [] = []
 standing (a ∷ held) = placed (standing held) a
 
--- what stands in its generation when a fragment arrives, and what it is there
+-- what is stored in its generation when a fragment arrives, and what it is there
 abbrev pub standing_before : ℤ → Fragment → List Fragment → List Fragment
 standing_before hold a earlier = standing (seen hold a earlier)
 
 abbrev pub verdict_on : ℤ → Fragment → List Fragment → Verdict
 verdict_on hold a earlier = verdict (standing_before hold a earlier) a
 
--- a verdict that leaves all as it was: the fragment stands nowhere, and begins no generation
+-- a verdict that leaves all as it was: the fragment is stored nowhere, and begins no generation
 abbrev pub Rests : Verdict → Bool → Type 0
 Rests Repeat first = ⊤
 Rests Stray first = ⊤
@@ -91,7 +91,7 @@ Rests TooLong first = first ≡ false
 Rests Stored first = ⊥
 Rests Whole first = ⊥
 
--- when the first and the last of these came
+-- when the first and the last of these were received
 abbrev pub first_of : List Fragment → ℤ
 first_of [] = pos 0
 first_of (a ∷ []) = a.at
@@ -101,7 +101,7 @@ abbrev pub last_of : List Fragment → ℤ
 last_of [] = pos 0
 last_of (a ∷ s) = a.at
 
--- a whole message: its pieces in the order of subsequences, and when the first and the last of them came
+-- a complete message: its pieces in the order of subsequences, and when the first and the last of them were received
 pub record Message : Type 0 where
   pub pieces : List (List ℕ)
   pub first : ℤ

@@ -31,7 +31,7 @@ pub struct Assembly {
     ghost last_below: { ForSome last (λ id. id < endpoints * 256) },
 }
 
-/// A whole message, lent from the memory in which its pieces stand.
+/// A complete message, lent from the memory in which its pieces are stored.
 #[derive(Clone, Copy)]
 pub struct Lease<'a> {
     place: &'a Place,
@@ -42,15 +42,15 @@ pub struct Lease<'a> {
 /// What became of a fragment.
 #[derive(Clone, Copy)]
 pub enum Taken<'a> {
-    /// It stands, and its message is not whole yet.
+    /// It is stored, and its message is not complete yet.
     Stored,
-    /// It stands, and its message is whole now.
+    /// It is stored, and its message is complete now.
     Whole(Lease<'a>),
-    /// A duplicate: one with its subsequence stands, or the message was complete before it came.
+    /// A duplicate: one with its subsequence is stored, or the message was complete before it was received.
     Repeat,
-    /// It lies beyond the fragment with E = 1, or has E = 1 and one that stands lies beyond it.
+    /// It lies beyond the fragment with E = 1, or has E = 1 and one that is stored lies beyond it.
     Stray,
-    /// With it more than 16,384 bytes would stand.
+    /// With it more than 16,384 bytes would be stored.
     TooLong,
 }
 
@@ -113,7 +113,7 @@ impl Assembly {
         }
     }
 
-    /// Whether what arrives now comes to a message that is whole, of an id without a place.
+    /// Whether what arrives now belongs to a message that is complete, of an id without a place.
     fn repeats(&self, id: usize, at: Ticks) -> bool
         requires { id < vec_len self.now.pool.numbers }
         ensures { (n : Option ℕ) (d : Option Begun) → slice_get self.now.pool.numbers.items id ≡ Some n → slice_get self.now.done.items id ≡ Some d → result ≡ repeats n d self.now.hold.0 at.0 }
@@ -209,7 +209,7 @@ impl Lease<'_> {
         self.count
     }
 
-    /// The piece with subsequence `k`, where it stands in memory.
+    /// The piece with subsequence `k`, where it is in memory.
     pub fn piece(&self, k: usize) -> &[u8]
         requires { k < length (message_of self.now).pieces }
         ensures { result.now ≡ slice_index_or (message_of self.now).pieces k [] }

@@ -1,6 +1,6 @@
 //! Messages of eCPRI type 0 from their fragments, in memory that is taken once.
 //!
-//! An application message may come in up to 128 fragments, in any order and more than once (O-RAN.WG4.CUS, section
+//! An application message may be received in up to 128 fragments, in any order and more than once (O-RAN.WG4.CUS, section
 //! 5.1.3.2, ecpriSeqid). Fragments of one endpoint and one sequence id form generations by their times: see `specs/Generations.antt`.
 #![tactic(auto)]
 

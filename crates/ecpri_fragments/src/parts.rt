@@ -61,14 +61,14 @@ pub(crate) fn clear(spans: &mut [Option<Span>], n: usize)
     }
 }
 
-/// When the first piece came, where one comes now.
+/// When the first piece was received, where one is received now.
 pub(crate) fn first_after(top: u8, first: Ticks, at: Ticks) -> Ticks
     ensures { result ≡ (if top == 0 then at else first) }
 {
     if top == 0 { at } else { first }
 }
 
-/// The subsequence of the fragment with E = 1, where this one stands now.
+/// The subsequence of the fragment with E = 1, where this one is stored now.
 pub(crate) fn end_after(seq: SeqField, end: Option<u8>) -> Option<u8>
     ensures { result ≡ (if seq.last then Some seq.sub else end) }
 {

@@ -37,7 +37,7 @@ pub(crate) struct Place {
     end: Option<u8>,
     top: u8,
     whole: bool,
-    // how many bytes stand
+    // how many bytes are stored
     used: u16,
     spans: [Option<Span>; SUBSEQUENCES],
     bytes: [u8; MESSAGE_BYTES],
@@ -56,7 +56,7 @@ impl Place {
     ghost use Rattle.ecpri_fragments.specs.Spans.{span_of, bytes_of};
     ghost use Rattle.ecpri_fragments.specs.Places.{Holds, IsDone, Stands, StandsIn, Joins, Puts, table_of, refused_in};
 
-    /// A place in which nothing stands.
+    /// A place in which nothing is stored.
     pub(crate) fn new() -> Place
         ensures { StandsIn result [] }
     {
@@ -93,7 +93,7 @@ impl Place {
         }
     }
 
-    /// Forgets what stands.
+    /// Forgets what is stored.
     fn begin(&mut self, at: Ticks)
         requires low { neg_ℤ (pos (2 ^ 56)) ≤ℤ at.0 }
         requires high { at.0 ≤ℤ pos (2 ^ 56) }
@@ -121,7 +121,7 @@ impl Place {
         }
     }
 
-    /// Why a fragment of this length does not join those that stand.
+    /// Why a fragment of this length does not join those that are stored.
     fn refusal(&self, seq: SeqField, len: usize) -> Option<Verdict>
         requires sub { seq.sub < 128 }
         ensures room { result ≡ None → self.now.used + len ≤ MESSAGE_BYTES }
@@ -144,7 +144,7 @@ impl Place {
         None
     }
 
-    /// Lets a fragment stand.
+    /// Stores a fragment.
     fn store(&mut self, at: Ticks, seq: SeqField, bytes: &[u8])
         requires sub { seq.sub < 128 }
         requires fits { self.old.used + length bytes.now ≤ MESSAGE_BYTES }
@@ -178,7 +178,7 @@ impl Place {
         }
     }
 
-    /// Takes a fragment into the generation that stands.
+    /// Takes a fragment into the current generation.
     fn join(&mut self, at: Ticks, seq: SeqField, bytes: &[u8]) -> Verdict
         requires sub { seq.sub < 128 }
         ensures { (ep : ℕ) (start : ℤ) (s : List Fragment) → Stands self.old start s → Joins start s (fragment ep at seq bytes.now) result self.new }

@@ -56,7 +56,7 @@ impl Pool {
         number
     }
 
-    /// Hands out a place in which nothing stands, to an id that has none.
+    /// Hands out a place in which nothing is stored, to an id that has none.
     pub(crate) fn hand_out(&mut self, id: usize) -> usize
         requires { slice_get self.old.numbers.items id ≡ Some None }
         ensures { HandsOut self.old id result self.new }

@@ -3,11 +3,11 @@
 /// What a fragment is in its generation, by the first rule that holds: Repeat, Stray, TooLong, Whole, Stored.
 #[derive(Clone, Copy, Debug, PartialEq, Eq)]
 pub enum Verdict {
-    /// It stands there, and the message is not whole yet.
+    /// It is stored there, and the message is not complete yet.
     Stored,
-    /// It stands there, and the message is whole now.
+    /// It is stored there, and the message is complete now.
     Whole,
-    /// A duplicate: one with its subsequence stands, or the message was complete before it came.
+    /// A duplicate: one with its subsequence is stored, or the message was complete before it was received.
     Repeat,
     /// Its subsequence and the one with E = 1 contradict each other.
     Stray,

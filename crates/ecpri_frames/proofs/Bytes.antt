@@ -14,7 +14,7 @@ use Rattle.ecpri_frames.specs.Phases.{Item, Start, Byte, Close, Telling, bytes_t
 pub lt_tells : (m n : ℕ) → ((ltb m n ≡ true) × (m < n)) ⊎ ((ltb m n ≡ false) × (n ≤ m))
 lt_tells m n = grind (arith, nat_tests)
 
--- what is read behind the bytes of a message is read from there
+-- what is read after the bytes of a message is read from there
 pub read_skip : (k n at : ℕ) (rest : List ℕ) → k ≤ length rest → read_from at (k + n) rest ≡ read_from (at + k) n (drop k rest)
 read_skip zero n at rest h = rw (zero-add, add-zero) refl
 read_skip (suc k) n at [] h = absurd (omega arith)
@@ -45,14 +45,14 @@ third at a b c (d ∷ rest) =
     let f : at - 2 ≡ at + 1 - 3 = omega arith in
     rw (e, f) refl
 
--- behind a whole header
+-- after a complete header
 pub closed : (size there : ℕ) → 0 < size → there ≡ size → closes size there ≡ Close ∷ []
 closed size there p e = rw (lt-ltb 0 size p, eq-eqb there size e) refl
 
 pub open_yet : (size there : ℕ) → there ≢ size → closes size there ≡ []
 open_yet size there e = grind (arith, nat_tests)
 
--- the rest of the frame behind a whole payload of `size` bytes
+-- the rest of the frame after a complete payload of `size` bytes
 behind : (at : ℕ) (head : Head) (rest : List ℕ) (more : Bool) (size pad : ℕ) → size ≤ length rest →
     telling (cond more (cond (ltb (length rest) (size + pad)) (fault (at + length rest) NoPadding) (read_from at (size + pad) rest)) over)
     ≡ cond more (in_padding (at + size) pad (drop size rest)) (telling over)

@@ -17,7 +17,7 @@ use Rattle.ecpri_frames.specs.Gathering.{is_whole, whole_messages, opened, longe
 use Rattle.ecpri_frames.proofs.Bytes.{lt_tells, closed, open_yet, shut}
 use Rattle.ecpri_frames.proofs.Histories.{silent}
 
--- where nothing more comes nothing more is told
+-- where nothing more is received nothing more is told
 pub nothing_more : (p : Pdu) → (tells p []).items ≡ []
 nothing_more p = silent p.phase p.place p.waits
 
@@ -46,7 +46,7 @@ pub unheld : (xs : List ℕ) (items : List Item) (last : Bool) → gathered None
 unheld xs items true = ap (gathered None) (append_assoc (bytes_told xs) (Close ∷ []) items) ∙ gathered_none xs (Close ∷ items)
 unheld xs items false = ap (gathered None) (append_assoc (bytes_told xs) [] items) ∙ gathered_none xs items
 
--- One answer completes these messages, and the others come from what is told behind it.
+-- One answer completes these messages, and the others result from what is told after it.
 pub gathered_step : (at : ℕ) (what : Feed) (piece : List ℕ) (held : Option Message) (items : List Item) →
     gathered held (feed_told at what piece ++ items) ≡ completed at what piece held ++ gathered (held_after at what piece held) items
 gathered_step at feed.More piece held items = refl
@@ -140,7 +140,7 @@ gathered_told bytes = gathered_messages None (pdu bytes).messages (fit_read 0 0 
 pub joined : (frame : List ℕ) (at used : ℕ) → take used (drop at frame) ++ drop (at + used) frame ≡ drop at frame
 joined frame at used = rw (← drop-drop used at frame) (take-append-drop used (drop at frame))
 
--- A caller that feeds all the rest of a frame at once: the answer completes these messages, and the others come from what is left.
+-- A caller that feeds all the rest of a frame at once: the answer completes these messages, and the others result from what is left.
 pub walked : (old new : Pdu) (frame : List ℕ) (at used : ℕ) (what : Feed) (held : Option Message) →
     Tells old new (take used (drop at frame)) (feed_told (used_by new) what (drop at frame)) →
     gathered held (tells old (drop at frame)).items

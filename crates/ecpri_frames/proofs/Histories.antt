@@ -9,7 +9,7 @@ use Rattle.ecpri_frames.specs.Phases.{Item, Telling, after, awaited, resumed}
 use Rattle.ecpri_frames.specs.States.{tells, told, Tells, StandsBehind}
 use Rattle.ecpri_frames.proofs.Bytes.{after_after}
 
--- where nothing more comes nothing more is told
+-- where nothing more is received nothing more is told
 pub silent : (phase : Phase) (at : ℕ) → 0 < awaited phase → (resumed phase at []).items ≡ []
 silent First at h = refl
 silent (Second a) at h = refl

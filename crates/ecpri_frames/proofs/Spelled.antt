@@ -21,7 +21,7 @@ padding_short size = omega arith
 pub padding_aligns : (size : ℕ) → (4 + size + padding size) % 4 ≡ 0
 padding_aligns size = omega arith
 
--- the revision stands in the first byte
+-- the revision is in the first byte
 pub revision_of_first : (a : ℕ) (xs ys : List ℕ) → revision (a ∷ xs) ≡ revision (a ∷ ys)
 revision_of_first a xs ys = field_in_byte (a ∷ xs) 0 4 (omega arith) ∙ sym (field_in_byte (a ∷ ys) 0 4 (omega arith))
 
@@ -29,7 +29,7 @@ go_on : (place : ℕ) (bytes : List ℕ) (m : Message) (ms : List Message) → G
 go_on place bytes m [] g = absurd (g.next)
 go_on place bytes m (n ∷ ms) g = g
 
--- behind a whole payload
+-- after a complete payload
 whole : (place at : ℕ) (header : List ℕ) (head : Head) (rest : List ℕ) (next : ℕ → Reading) (more : Bool) → head.more ≡ more →
     length header ≡ 4 → revision header ≡ 1 → head_of header ≡ head → head.size ≤ length rest →
     ((n : ℕ) → n ≤ length rest → (next n).refusal ≡ None → Spells (place + 4 + n) (drop n rest) (next n).messages) →

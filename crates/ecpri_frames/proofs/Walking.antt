@@ -19,7 +19,7 @@ use Rattle.ecpri_frames.specs.Gathering.{is_whole, whole_messages, opened, gathe
 use Rattle.ecpri_frames.proofs.Bytes.{lt_tells}
 use Rattle.ecpri_frames.proofs.Gathered.{Fit, fit_behind, fit_read, gathered_none, gathered_messages, unheld, joined, walked, neq-eqb, shown, nothing_more}
 
--- the message whose header alone has come
+-- the message of which the header alone was received
 abbrev pub held_of : Option (ℕ × Head) → Option Message
 held_of None = None
 held_of (Some p) = Some (opened p.0 p.1)
@@ -141,7 +141,7 @@ few_whole bytes = omega (arith, few_read 0 0 bytes, few_filtered (pdu bytes).mes
 
 -- ---- one answer to all the rest of a frame
 
--- what was left before an answer to all the rest of a frame: the messages that it completes, and those that come behind it
+-- what was left before an answer to all the rest of a frame: the messages that it completes, and those that are after it
 pub record Fed (left : List Message) (held : Option Message) (new : Pdu) (frame : List ℕ) (at used : ℕ) (what : Feed) : Type 0 where
   pub left_is : left ≡ completed (at + used) what (drop at frame) held ++ gathered (held_after (at + used) what (drop at frame) held) (tells new (drop (at + used) frame)).items
 
@@ -155,17 +155,17 @@ fed_whole old new frame at used what held left u so_far t = record {
       (walked old new frame at used what held (rw (take_rest frame at) at t));
 }
 
--- behind the header of a message with no payload
+-- after the header of a message with no payload
 pub empty_given : {left : List Message} {held : Option Message} {new : Pdu} {frame : List ℕ} {at used : ℕ} {what : Feed} → Fed left held new frame at used what → (head : Head) → what ≡ feed.Message head → head.size ≡ 0 →
     left ≡ opened (at + used - 4) head ∷ gathered None (tells new (drop (at + used) frame)).items
 empty_given f head w z = rw (w, eq-eqb head.size 0 z) at f.left_is
 
--- behind another header
+-- after another header
 pub header_held : {left : List Message} {held : Option Message} {new : Pdu} {frame : List ℕ} {at used : ℕ} {what : Feed} → Fed left held new frame at used what → (head : Head) → what ≡ feed.Message head → head.size ≢ 0 →
     left ≡ gathered (Some (opened (at + used - 4) head)) (tells new (drop (at + used) frame)).items
 header_held f head w z = rw (w, neq-eqb head.size 0 z) at f.left_is
 
--- behind the end of a payload whose header came
+-- after the end of a payload whose header was received
 pub payload_given : {left : List Message} {held : Option (ℕ × Head)} {new : Pdu} {frame : List ℕ} {at used : ℕ} {what : Feed} → Fed left (held_of held) new frame at used what →
     (place from to : ℕ) (head : Head) (last : Bool) → what ≡ feed.Body from to last → last ≡ true → held ≡ Some (place, head) →
     left ≡ shown place head (take (at + to - (at + from)) (drop (at + from) frame)) ∷ gathered None (tells new (drop (at + used) frame)).items
@@ -174,12 +174,12 @@ payload_given {frame = frame} {at = at} f place from to head last w l h =
     let n : to - from ≡ at + to - (at + from) = omega arith in
     rw (d, n) at (rw (w, l, h) at f.left_is)
 
--- behind the end of another payload
+-- after the end of another payload
 pub payload_passed : {left : List Message} {held : Option (ℕ × Head)} {new : Pdu} {frame : List ℕ} {at used : ℕ} {what : Feed} → Fed left (held_of held) new frame at used what →
     (from to : ℕ) (last : Bool) → what ≡ feed.Body from to last → held ≡ None → left ≡ gathered (held_of held) (tells new (drop (at + used) frame)).items
 payload_passed f from to last w h = rw h (rw (w, h) at f.left_is)
 
--- an answer that completes no message, and behind which nothing is told
+-- an answer that completes no message, and after which nothing is told
 pub nothing_left : {left : List Message} {held : Option Message} {new : Pdu} {frame : List ℕ} {at used : ℕ} {what : Feed} → Fed left held new frame at used what →
     completed (at + used) what (drop at frame) held ≡ [] → (tells new (drop (at + used) frame)).items ≡ [] → (left ≡ []) × (gathered None (tells new (drop (at + used) frame)).items ≡ [])
 nothing_left f none quiet = (rw (none, quiet) at f.left_is, rw quiet refl)
@@ -203,7 +203,7 @@ over_ends old new frame at used o t =
 pub refusal_ends : (new : Pdu) (used : ℕ) (r : PduRefusal) (rest : List ℕ) → IsRefusal new used r → (tells new rest).items ≡ []
 refusal_ends new used r rest h = ap (λ (t : Telling). t.items) (h.stays rest)
 
--- the answers behind which the walk stops
+-- the answers after which the walk stops
 pub stops : (old new : Pdu) (frame : List ℕ) (at used : ℕ) (what : Feed) (held : Option Message) (left : List Message) → Fed left held new frame at used what →
     Answers old new used (length (take (length frame - at) (drop at frame))) what →
     Tells old new (take used (take (length frame - at) (drop at frame))) (feed_told (used_by new) what (take (length frame - at) (drop at frame))) →
@@ -221,12 +221,12 @@ fed_refusal old new frame at used what so_far t =
     let q = rw (take_rest frame at) at t in
     sym (ap (λ (x : Telling). x.refusal) (q (drop (at + used) frame))) ∙ ap (λ (xs : List ℕ). (tells old xs).refusal) (joined frame at used) ∙ so_far
 
--- a refusal is the fault of all that comes
+-- a refusal is the fault of all that follows
 pub refused_is : (new : Pdu) (used : ℕ) (r : PduRefusal) (rest : List ℕ) (fault_is : Option PduRefusal) → IsRefusal new used r → (tells new rest).refusal ≡ fault_is → Some r ≡ fault_is
 refused_is new used r rest fault_is h e =
     ap (λ w. Some (let x : PduRefusal = record { place = r.place; why = w } in x)) h.why ∙ sym (ap (λ (t : Telling). t.refusal) (h.stays rest)) ∙ e
 
--- the bytes of a payload that is at hand lie in the frame, behind its header
+-- the bytes of a payload that is at hand lie in the frame, after its header
 pub lies : (frame : List ℕ) (place start from to : ℕ) → place + 4 ≤ start → start + to ≤ length frame → place + (4 + length (take (start + to - (start + from)) (drop (start + from) frame))) ≤ length frame
 lies frame place start from to h fits =
     omega (arith, length-take (start + to - (start + from)) (drop (start + from) frame))

@@ -1,4 +1,4 @@
--- The messages of a frame whose payload is whole, and how they come together from the answers of a decoder.
+-- The messages of a frame whose payload is complete, and how they are put together from the answers of a decoder.
 use Rattle.std.specs.Prelude.{ℕ, ◌-◌, ◌==◌, if◌then◌else◌, List, [], ◌∷◌, ◌++◌, length, take, drop, filter, Bool, Option, Some, None}
 use Rattle.ecpri_frames.specs.declared.heads.Head.{Head}
 use Rattle.ecpri_frames.specs.declared.steps.Feed.{Feed}
@@ -13,7 +13,7 @@ is_whole m = length m.payload == m.head.size
 abbrev pub whole_messages : List ℕ → List Message
 whole_messages bytes = filter is_whole (pdu bytes).messages
 
--- a message of which the header alone has come
+-- a message of which the header alone was received
 abbrev pub opened : ℕ → Head → Message
 opened place head = record { place = place; head = head; payload = [] }
 
@@ -41,7 +41,7 @@ completed at (feed.Message head) piece held = if head.size == 0 then opened (at 
 completed at (feed.Body from to last) piece (Some m) = if last then longer m (body_of from to piece) ∷ [] else []
 completed at what piece held = []
 
--- the message whose payload goes on behind it
+-- the message whose payload goes on after it
 abbrev pub held_after : ℕ → Feed → List ℕ → Option Message → Option Message
 held_after at (feed.Message head) piece held = if head.size == 0 then None else Some (opened (at - 4) head)
 held_after at (feed.Body from to last) piece (Some m) = if last then None else Some (longer m (body_of from to piece))

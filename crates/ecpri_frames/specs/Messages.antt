@@ -31,11 +31,11 @@ fault place why = record { messages = []; refusal = Some (record { place = place
 abbrev pub before : ℕ → Head → List ℕ → Reading → Reading
 before place head payload r = record { messages = record { place = place; head = head; payload = payload } ∷ r.messages; refusal = r.refusal }
 
--- how many bytes stand between a payload of this size and the next multiple of 4 from the header's start
+-- how many bytes are between a payload of this size and the next multiple of 4 from the header's start
 abbrev pub padding : ℕ → ℕ
 padding size = (4 - size % 4) % 4
 
--- `rest` is all that stands from the place `at` on, behind the whole header that begins at `place`, and `next n` is what is read n bytes later.
+-- `rest` is all from the place `at` on, after the complete header that begins at `place`, and `next n` is what is read n bytes later.
 abbrev pub behind_head : ℕ → ℕ → Head → List ℕ → (ℕ → Reading) → Reading
 behind_head place at head rest next =
     if nat_lt (length rest) head.size then before place head rest (fault (at + length rest) Truncated)
@@ -44,7 +44,7 @@ behind_head place at head rest next =
     then (if nat_lt (length rest) (head.size + padding head.size) then fault (at + length rest) NoPadding else next (head.size + padding head.size))
     else over)
 
--- `rest` is all that stands from the place `at` on, behind the first byte `a` of the header that begins at `place`
+-- `rest` is all from the place `at` on, after the first byte `a` of the header that begins at `place`
 abbrev pub behind_first : ℕ → ℕ → ℕ → List ℕ → (ℕ → Reading) → Reading
 behind_first place at a (b ∷ c ∷ d ∷ rest) next = behind_head place (at + 3) (head_of (a ∷ b ∷ c ∷ d ∷ [])) rest (λ n. next (suc (suc (suc n))))
 behind_first place at a short next = fault (at + length short) Truncated

@@ -1,4 +1,4 @@
--- What a decoder that stands in the middle of a frame makes of the bytes that come after.
+-- What a decoder that is in the middle of a frame makes of the bytes that follow.
 use Rattle.std.specs.Prelude.{ℕ, ◌+◌, ◌-◌, ◌==◌, ◌&&◌, if◌then◌else◌, List, [], ◌∷◌, ◌++◌, length, take, drop, nat_lt, map, Option}
 use Rattle.ecpri_frames.specs.declared.heads.Head.{Head}
 use Rattle.ecpri_frames.specs.declared.phases.Phase.{Phase}
@@ -41,15 +41,15 @@ telling r = record { items = messages_told r.messages; refusal = r.refusal }
 abbrev pub after : List Item → Telling → Telling
 after items t = record { items = items ++ t.items; refusal = t.refusal }
 
--- the rest of a frame, where n bytes of padding come first
+-- the rest of a frame, where n bytes of padding are first
 abbrev pub in_padding : ℕ → ℕ → List ℕ → Telling
 in_padding at n rest = if nat_lt (length rest) n then telling (fault (at + length rest) NoPadding) else telling (read_from at n rest)
 
--- the same behind a payload
+-- the same after a payload
 abbrev pub behind_payload : ℕ → Head → List ℕ → Telling
 behind_payload at head rest = if head.more then in_padding at (padding head.size) rest else telling over
 
--- the same where `left` bytes of a payload come first, one or more
+-- the same where `left` bytes of a payload are first, one or more
 abbrev pub in_payload : ℕ → Head → ℕ → List ℕ → Telling
 in_payload at head left rest =
     if nat_lt (length rest) left then after (bytes_told rest) (telling (fault (at + length rest) Truncated))

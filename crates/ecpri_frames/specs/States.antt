@@ -1,4 +1,4 @@
--- What a decoder tells of the bytes that come.
+-- What a decoder tells of the bytes that follow.
 use Rattle.std.specs.Prelude.{◌≡◌, ℕ, ◌+◌, ◌<◌, ◌≤◌, List, [], ◌++◌, Bool, true, false, Option, Some, None, Result, Ok, Err}
 use Rattle.ecpri_frames.specs.declared.decoding.Pdu.{Pdu}
 use Rattle.ecpri_frames.specs.declared.phases.Phase.{Phase}
@@ -17,15 +17,15 @@ used_by p = p.place
 abbrev pub phase_of : Pdu → Phase
 phase_of p = p.phase
 
--- what it tells of the bytes that come, up to the end of the frame
+-- what it tells of the bytes that follow, up to the end of the frame
 abbrev pub tells : Pdu → List ℕ → Telling
 tells p rest = resumed p.phase p.place rest
 
--- what is told of a frame, or of what has come of it
+-- what is told of a frame, or of what was received of it
 abbrev pub told : List ℕ → Telling
 told bytes = telling (pdu bytes)
 
--- It stands behind these bytes: whatever comes, the frame tells what it has told of them, and then what the decoder tells.
+-- It is after these bytes: whatever follows, the frame tells what it has told of them, and then what the decoder tells.
 abbrev pub StandsBehind : Pdu → List ℕ → Type 0
 StandsBehind p bytes = (rest : List ℕ) → told (bytes ++ rest) ≡ after (told bytes).items (tells p rest)
 
@@ -40,7 +40,7 @@ abbrev pub is_short : Option PduRefusal → Bool
 is_short None = false
 is_short (Some r) = is_cut r.why
 
--- what a refusal says: of what came before its place nothing more is told, it comes with the first byte that shows it, and it stays
+-- what a refusal says: of what is before its place nothing more is told, it is given with the first byte that shows it, and it stays
 pub record IsRefusal (new : Pdu) (used : ℕ) (r : PduRefusal) : Type 0 where
   pub why : r.why ≡ Revision
   pub first : 0 < used → used_by new ≡ r.place + 1
@@ -54,7 +54,7 @@ Answers old new used len (Body from to last) = (from ≡ 0) × (0 < to) × (to �
 Answers old new used len End = (used ≡ 0) × ((rest : List ℕ) → tells old rest ≡ telling over)
 Answers old new used len (Refused r) = IsRefusal new used r
 
--- Of these bytes old tells these items, and of any that come after what new tells.
+-- Of these bytes old tells these items, and of any that follow what new tells.
 abbrev pub Tells : Pdu → Pdu → List ℕ → List Item → Type 0
 Tells old new bytes items = (rest : List ℕ) → tells old (bytes ++ rest) ≡ after items (tells new rest)
 

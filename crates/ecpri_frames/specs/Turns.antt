@@ -27,17 +27,17 @@ turn_told (On phase) at = []
 turn_told (Told phase head) at = Start (at - 4) head ∷ []
 turn_told Bad at = []
 
--- a byte that tells nothing leads to no end, and behind a header at least its four bytes are used
+-- a byte that tells nothing leads to no end, and after a header at least its four bytes are used
 abbrev pub StaysOutside : Turn → ℕ → Type 0
 StaysOutside (On phase) at = is_outside phase ≡ true
 StaysOutside (Told phase head) at = 4 ≤ at
 StaysOutside Bad at = Unit {0}
 
--- From old at the place `at` these bytes tell these items and lead to new, whatever comes after.
+-- From old at the place `at` these bytes tell these items and lead to new, whatever follows.
 abbrev pub Leads : Phase → ℕ → List ℕ → List Item → Phase → ℕ → Type 0
 Leads old at bytes items new place = (rest : List ℕ) → resumed old at (bytes ++ rest) ≡ after items (resumed new place rest)
 
--- the phase stands behind the payload, or behind the header, of a message
+-- the phase is after the payload, or after the header, of a message
 abbrev pub IsBehindPayload : Head → Phase → Type 0
 IsBehindPayload head phase = (at : ℕ) (rest : List ℕ) → behind_payload at head rest ≡ resumed phase at rest
 

@@ -8,7 +8,7 @@ use crate::refusals::{PduRefusal, PduWhy};
 use crate::steps::{Feed, PduStep};
 use crate::turns::{Turn, turn_at};
 
-/// A decoder of one frame, which comes in pieces of any length. It keeps no payload.
+/// A decoder of one frame, which is received in pieces of any length. It keeps no payload.
 #[derive(Clone, Copy)]
 pub struct Pdu {
     place: usize,
@@ -39,7 +39,7 @@ impl Pdu {
 
     /// Takes the next bytes of the frame, one or more, and answers how many it used and what they
     /// tell. At least one is used unless the PDU is over or refused. The caller feeds the rest of
-    /// the piece, and what comes after, in further calls.
+    /// the piece, and what is after it, in further calls.
     pub fn feed(&mut self, piece: &[u8]) -> PduStep
         requires some { 0 < length piece.now }
         requires fits { used_by self.old + length piece.now ≤ usize.MAX }
@@ -48,7 +48,7 @@ impl Pdu {
         ensures tells { Tells self.old self.new (take result.used piece.now)
             (feed_told (used_by self.new) result.what piece.now) }
         ensures answers { Answers self.old self.new result.used (length piece.now) result.what }
-        // Behind the bytes used before it stands behind these and those that it used,
+        // As it was after the bytes used before, it is after these and those that it used,
         // and the answer is what these add to what the frame tells.
         ensures stands { (bytes : List ℕ) → StandsBehind self.old bytes
             → StandsBehind self.new (bytes ++ take result.used piece.now) }

@@ -52,7 +52,7 @@ pub fn put_head(head: Head) -> [u8; 4]
 }
 
 /// How many padding bytes, 0 to 3, follow a message with a payload of this size where another
-/// message comes behind it (eCPRI 2.0, section 3.1.2).
+/// message is after it (eCPRI 2.0, section 3.1.2).
 pub fn pad_after(size: u16) -> usize
     ensures { result ≡ padding size }
 {

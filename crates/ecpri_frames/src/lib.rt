@@ -2,9 +2,9 @@
 //!
 //! A frame carries one eCPRI protocol data unit (PDU): messages, each a common header of four
 //! bytes and its payload. A message whose C bit is set is followed by 0 to 3 padding bytes, up to
-//! a multiple of 4 from its own start, and by another message. [`Pdu`] reads a frame that comes
-//! in pieces of any length; [`messages`] goes over the whole messages of a frame that is held
-//! whole; [`put_head`] and [`pad_after`] serve those who write one.
+//! a multiple of 4 from its own start, and by another message. [`Pdu`] reads a frame that is
+//! received in pieces of any length; [`messages`] goes over the complete messages of a frame that
+//! is held as a whole; [`put_head`] and [`pad_after`] serve those who write one.
 #![tactic(auto)]
 
 mod decoding;

@@ -1,4 +1,4 @@
-//! Where in a frame a decoder stands.
+//! Where in a frame a decoder is.
 ghost use Rattle.std.specs.Prelude.{◌≡◌, ◌<◌};
 ghost use Rattle.ecpri_frames.specs.Phases.{awaited, begun};
 ghost use Rattle.ecpri_frames.specs.Turns.{IsBehindPayload, IsBehindHead};
@@ -10,13 +10,13 @@ use crate::heads::{Head, pad_after};
 pub(crate) enum Phase {
     /// It is the first byte of a header.
     First,
-    /// It is the second, third or fourth one, behind these.
+    /// It is the second, third or fourth one, after these.
     Second(u8),
     Third(u8, u8),
     Fourth(u8, u8, u8),
-    /// It is a payload byte, of so many that are still to come.
+    /// It is a payload byte, of so many that are still to follow.
     Body(Head, u16),
-    /// It is a padding byte, of so many that are still to come.
+    /// It is a padding byte, of so many that are still to follow.
     Padding(u8),
     /// The PDU is over.
     Over,
@@ -24,7 +24,7 @@ pub(crate) enum Phase {
     Faulty(usize),
 }
 
-/// The phase behind a payload.
+/// The phase after a payload.
 pub(crate) fn behind_payload(head: Head) -> Phase
     ensures leads { IsBehindPayload head result }
     ensures waits { 0 < awaited result }
@@ -41,7 +41,7 @@ pub(crate) fn behind_payload(head: Head) -> Phase
     }
 }
 
-/// The phase behind a header.
+/// The phase after a header.
 pub(crate) fn behind_head(head: Head) -> Phase
     ensures leads { IsBehindHead head result }
     ensures waits { 0 < awaited result }

@@ -13,7 +13,7 @@ pub enum PduWhy {
     /// The frame ends inside a header or a payload, or where a header must begin.
     #[error("the frame ends inside a message, or where one must begin")]
     Truncated,
-    /// The frame ends inside the padding behind a message that another one follows.
+    /// The frame ends inside the padding after a message that another one follows.
     #[error("the frame ends inside padding")]
     NoPadding,
 }

@@ -1,4 +1,4 @@
--- What stands before the events.
+-- What is before the events.
 use Rattle.std.proofs.Common.{◌≡◌, ℕ, Bool, true, false, List, [], ◌∷◌, ◌++◌, inl, Option, Some, refl, sym, ap, subst, ◌∙◌, append-nil}
 use Rattle.air_source.specs.declared.events.Event.{Event}
 use Rattle.explain_air.proofs.Fronts.{text_part}

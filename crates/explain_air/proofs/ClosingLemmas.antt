@@ -1,4 +1,4 @@
--- What is told behind the last event is what the definitions say.
+-- What is told after the last event is what the definitions say.
 use Rattle.std.proofs.Common.{◌≡◌, ℕ, List, [], ◌++◌, refl, sym, ap, ap₂, subst, ◌∙◌, append-nil}
 use Rattle.air_source.specs.declared.events.Event.{Event}
 use Rattle.air_source.specs.declared.events.Side.TheVariants.{Ru, Du}
@@ -87,7 +87,7 @@ pub ending_is : (s : Subject) (events : List Event)
     ≡ reason_lines s events
 ending_is s events = ap (λ (ls : List ExplainLine). (reasons_of s events).whys ++ (margin_lines s.config events ++ ls)) (sums_behind s events)
 
--- the sums behind the reasons
+-- the sums after the reasons
 pub sums_after : (s : Subject) (events : List Event) (es : List EndpointConfig) (o : Records) (cells : List CellRun) (p : NumberedLines) (u d : UnitLines) (n m : Notes)
     → IsEnding s events es o cells p u d n → HasNoted n (reasons_of s events).whys m → AreSums s.config.endpoints (event_lines s.config events ++ (reasons_of s events).whys) m.sums
 sums_after s events es o cells p u d n m is noted = noted.sums s.config.endpoints (event_lines s.config events) is.sums

@@ -17,13 +17,13 @@ module _ (first closed run whys margins sums counts last : List ExplainLine) whe
   closed_group : first ++ (closed ++ (whys ++ (margins ++ (sums ++ (counts ++ last))))) ≡ (first ++ (closed ++ ((whys ++ (margins ++ sums)) ++ counts))) ++ last
   closed_group = simp append_assoc
 
--- where a counter came
+-- where a counter was given
 pub closed_all : (s : Subject) (events : List Event) → lines_of s.config (reasons_of s events) events ≡ counted_lines s events ++ line.End ∷ []
 closed_all s events =
     let r = reasons_of s events in
     closed_group (first_lines s.config) (event_lines s.config events) [] r.whys (margin_lines s.config events) (sum_lines s.config r events) (count_lines events) (line.End ∷ [])
 
--- where none came
+-- where none was given
 pub open_all : (s : Subject) (events : List Event) → has_count events ≡ false
     → lines_of s.config (reasons_of s events) events ≡ (open_lines s events ++ ending s events) ++ line.End ∷ []
 open_all s events none =

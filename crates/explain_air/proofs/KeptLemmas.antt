@@ -192,7 +192,7 @@ module _ (s : Subject) (events : List Event) (k : Kept) (e : HasEnded s events k
   ended_at_du Ru is r u x none noted unit kept = absurd cc
   ended_at_du Du is r u x none noted unit kept = ended_distributed r u x none noted unit kept
 
--- ---- behind the last event
+-- ---- after the last event
 
 pub last_of : (s : Subject) (events : List Event) (k : Kept) (n : Notes) → HasHeard s events k → HasNoted k.runs.notes (run_lines (open_of k.runs)) n → IsLast s events k.ru k.du n k.records k.plan
 last_of s events k n h noted = record {

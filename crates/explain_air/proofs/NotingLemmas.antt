@@ -1,4 +1,4 @@
--- How far lines were taken behind what notes them.
+-- How far lines were taken after what notes them.
 use Rattle.std.proofs.Common.{◌≡◌, List, [], ◌∷◌, ◌++◌, ◌⊎◌, inl, inr, subst, append-nil}
 use Rattle.explain_air.specs.Notes.{HasNoted}
 use Rattle.explain_air.specs.declared.notes.Noting.{Noting}

@@ -53,7 +53,7 @@ IsAfter s faults base events which kept written owed = IsOpen s faults base even
 
 -- ---- what an air does
 
--- whatever it heard before, it heard these events behind that
+-- whatever it heard before, it heard these events after that
 pub record Grew (which : Bool) (kept : Option Kept) (written : Option (List ℕ)) (owed : List ℕ) (events : List Event) (which_now : Bool) (kept_now : Option Kept) (now : Option (List ℕ)) (owed_now : List ℕ) : Type 0 where
   pub after : (s : Subject) (faults : Bool) (base : Option (List ℕ)) (earlier : List Event) → IsAfter s faults base earlier which kept written owed
       → IsAfter s faults base (earlier ++ events) which_now kept_now now owed_now
@@ -66,7 +66,7 @@ pub record Stopped (which : Bool) (kept : Option Kept) (written : Option (List �
 
 -- ---- the end of what is kept
 
--- what was kept of some events is told in the lines that stand before the counters; where nothing is kept, nothing is told
+-- what was kept of some events is told in the lines before the counters; where nothing is kept, nothing is told
 pub record Closes (written : Option (List ℕ)) (owed : List ℕ) (which : Bool) (kept : Option Kept) (now : Option (List ℕ)) (owed_now : List ℕ) (which_now : Bool) : Type 0 where
   pub some : (k : Kept) (s : Subject) (events : List Event) → kept ≡ Some k → HasHeard s events k → Took which written owed (ending s events) which_now now owed_now
   pub none : kept ≡ None → Took which written owed [] which_now now owed_now

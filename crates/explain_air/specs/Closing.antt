@@ -1,4 +1,4 @@
--- What is told behind the last event (this project's profile).
+-- What is told after the last event (this project's profile).
 use Rattle.std.specs.Prelude.{◌≡◌, List, ◌++◌}
 use Rattle.air_source.specs.declared.events.Event.{Event}
 use Rattle.air_source.specs.declared.events.Side.TheVariants.{Ru, Du}
@@ -33,7 +33,7 @@ pub record AreOf (s : Subject) (events : List Event) (endpoints : List EndpointC
   pub planned_are : plan.planned ≡ planned s.config.endpoints s.plan
   pub numbers_are : plan.numbers ≡ s.numbers
 
--- the lines behind those of missing cells
+-- the lines after those of missing cells
 abbrev pub rest_of : Subject → List Event → List ExplainLine
 rest_of s events = silent_lines s.config s.plan s.numbers events ++ unused_lines s.config events
 

@@ -38,7 +38,7 @@ pub record AreNotes (es : List EndpointConfig) (lines : List ExplainLine) (n : N
   pub sums : AreSums es lines n.sums
   pub cells : n.cells ≡ flat_map (cells_in es) lines
 
--- these lines are noted behind those that were
+-- these lines are noted after those that were
 pub record HasNoted (old : Notes) (lines : List ExplainLine) (new : Notes) : Type 0 where
   pub endpoints : new.endpoints.items ≡ old.endpoints.items
   pub sums : (es : List EndpointConfig) (before : List ExplainLine) → AreSums es before old.sums → AreSums es (before ++ lines) new.sums

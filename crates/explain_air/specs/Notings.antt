@@ -3,7 +3,7 @@ use Rattle.std.specs.Prelude.{◌≡◌}
 use Rattle.std.proofs.Common.{refl, ◌∙◌}
 use Rattle.explain_air.specs.declared.notes.Noting.{Noting}
 
--- the same references, the same behind the one to the sink of lines too
+-- the same references, and what the one to the sink of lines refers to is the same too
 pub record IsSameNoting {W : Type 0} (same : W → W → Type 0) (a b : Noting W) : Type 0 where
   pub out : b.out.ghost_name ≡ a.out.ghost_name
   pub notes : b.notes.ghost_name ≡ a.notes.ghost_name

@@ -19,7 +19,7 @@ module _ {K : Type 0} where
   abbrev pub owed_of : LineOut K → List ℕ
   owed_of o = o.owed.now
 
--- the text of these lines went on behind what was owed
+-- the text of these lines went on after what was owed
 pub record Took (before : Bool) (written : Option (List ℕ)) (owed : List ℕ) (lines : List ExplainLine) (after : Bool) (now : Option (List ℕ)) (owed_now : List ℕ) : Type 0 where
   pub which : after ≡ before
   pub carried : Carried written owed (kept_text before lines) now owed_now

@@ -29,14 +29,14 @@ use window_config::Config;
 
 /// An air that writes an explanation to a sink that it borrows: all lines, or those of the text of the faults alone.
 ///
-/// It owes up to 8,192 bytes to the sink. [`begin`](ExplainAir::begin) writes what stands before the events,
-/// [`finish`](ExplainAir::finish) what stands behind them and what is owed.
+/// It owes up to 8,192 bytes to the sink. [`begin`](ExplainAir::begin) writes what is before the events,
+/// [`finish`](ExplainAir::finish) what is after them and what is owed.
 #[derive(Drop)]
 pub struct ExplainAir<'a, K> {
     alloc: Global,
     sink: &'a mut K,
     owed: OwedBytes,
-    // the line that is told next, which is written where it stands
+    // the line that is told next, which is written in place
     line: Line,
     faults: bool,
     // what is kept of the events, until the first counter
@@ -64,7 +64,7 @@ impl<'a, K: Sink> ExplainAir<'a, K> {
         }
     }
 
-    // Owes a line, where it stands in the text.
+    // Owes a line, where it is in the text.
     fn say(&mut self, line: &ExplainLine) -> Result<(), AirFault>
         ensures reference { sink_name self.new ≡ sink_name self.old }
         ensures kept { self.new.kept ≡ self.old.kept }
@@ -81,7 +81,7 @@ impl<'a, K: Sink> ExplainAir<'a, K> {
         out.put(line)
     }
 
-    // Tells the lines that stand before the counters, where they are not told yet.
+    // Tells the lines before the counters, where they are not told yet.
     fn close(&mut self) -> Result<(), AirFault>
         ensures reference { sink_name self.new ≡ sink_name self.old }
         ensures kept { OnOk result (self.new.kept ≡ None) }
@@ -121,7 +121,7 @@ impl<'a, K: Sink> ExplainAir<'a, K> {
         tell_first(config, &mut out)
     }
 
-    /// Writes or owes what stands before the events: the first line, and the lines of the configuration.
+    /// Writes or owes what is before the events: the first line, and the lines of the configuration.
     ///
     /// # Errors
     ///
@@ -141,7 +141,7 @@ impl<'a, K: Sink> ExplainAir<'a, K> {
         self.tell_config(config)
     }
 
-    /// Writes what is owed, what stands behind the last event and the line `end`, and then owes nothing.
+    /// Writes what is owed, what is after the last event and the line `end`, and then owes nothing.
     ///
     /// # Errors
     ///
@@ -249,7 +249,7 @@ impl<'a, K: Sink> Air for ExplainAir<'a, K> {
         }
     }
 
-    /// Hears the value of a counter: what stands before the counters and its line are written or owed.
+    /// Hears the value of a counter: what is before the counters and its line are written or owed.
     fn count(&mut self, side: Side, counter: Counter, value: u64) -> Result<(), AirFault> {
         self.close()?;
         self.say(&ExplainLine::Count {

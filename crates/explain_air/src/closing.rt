@@ -1,4 +1,4 @@
-// What is told behind the last event.
+// What is told after the last event.
 ghost use Rattle.std.specs.Prelude.{◌≡◌, ◌++◌, List, IfErr, OnOk};
 ghost use Rattle.air_source.specs.Causes.{HasAirCause};
 ghost use Rattle.air_source.specs.declared.events.Event.{Event};
@@ -197,7 +197,7 @@ fn tell_ending<W: LineSink>(
     }
 }
 
-/// Sorts the records, and tells what stands between the lines of the events and the counters.
+/// Sorts the records, and tells what is between the lines of the events and the counters.
 pub(crate) fn tell_last<W: LineSink>(
     alloc: Global,
     ru: &UnitLines,

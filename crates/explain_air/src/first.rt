@@ -1,4 +1,4 @@
-// What stands before the events.
+// What is before the events.
 ghost use Rattle.std.specs.Prelude.{◌≡◌, IfErr, OnOk};
 ghost use Rattle.air_source.specs.Causes.{HasAirCause};
 ghost use Rattle.explain_model.specs.declared.values.ExplainLine.TheVariants as line;

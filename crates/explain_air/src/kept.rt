@@ -58,7 +58,7 @@ fn delay_line(at: Ticks, side: Side, id: u8, value: i128) -> ExplainLine
 }
 
 impl Kept {
-    /// Takes the memory of both units. No event came.
+    /// Takes the memory of both units. No event was heard.
     pub fn make(alloc: Global, config: &Config, plan: PlanLines) -> Result<Kept, NoMemory>
         requires { IsConfig config.now }
         ensures { IfOk result (λ k. (s : Subject) → s.config ≡ config.now → plan.planned ≡ planned s.config.endpoints s.plan → plan.numbers ≡ s.numbers → HasHeard s [] k) }
@@ -200,7 +200,7 @@ impl Kept {
         }
     }
 
-    /// Tells what stands between the lines of the events and the counters.
+    /// Tells what is between the lines of the events and the counters.
     pub(crate) fn close<W: LineSink>(self, alloc: Global, out: &mut W) -> Result<(), AirFault>
         ensures heard { OnOk result ((s : Subject) (events : List Event) → HasHeard s events self → W.grew out.old (ending s events) out.new) }
         ensures stop { IfErr result (λ f. (s : Subject) (events : List Event) → HasHeard s events self → StopsSome W.grew (W.stopped f) (ending s events) out.old out.new) }

@@ -14,7 +14,7 @@ use fh_base::{Line, OwedBytes, Sink};
 pub(crate) struct LineOut<'a, K> {
     pub(crate) sink: &'a mut K,
     pub(crate) owed: &'a mut OwedBytes,
-    // the line that is told next, which is written where it stands
+    // the line that is told next, which is written in place
     pub(crate) line: &'a mut Line,
     pub(crate) faults: bool,
 }

@@ -1,4 +1,4 @@
--- The open run and the lines of the closed ones, as items come.
+-- The open run and the lines of the closed ones, as items are given.
 use Rattle.std.proofs.Common.{◌≡◌, ◌+◌, ℕ, Bool, true, false, List, [], ◌∷◌, ◌++◌, length, Option, Some, None, refl, sym, ap, subst, ◌∙◌, append_assoc, append-nil, arith}
 use Rattle.std.proofs.lemmas.List.Concat.{flat_map-append}
 use Rattle.explain_model.specs.declared.values.ExplainLine.{ExplainLine}
@@ -142,7 +142,7 @@ module _ {T : Type 0} (related : T → T → Bool) (run_line : T → ℕ → Exp
       put_off o y out now is told = record { after_all = λ base items h. off base items o y out now is told h }
 
       module _ (stopped : W → ExplainLine → W → Type 0) where
-        -- it stopped in one of some lines, which stand between others that it took before and those that follow
+        -- it stopped in one of some lines, which are between others that it took before and those that follow
         pub stops_between : (base out now : W) (front middle back : List ExplainLine) → grew base front out → StopsInLine grew stopped middle out now
             → StopsInLine grew stopped (front ++ (middle ++ back)) base now
         stops_between base out now front middle back told h = record {

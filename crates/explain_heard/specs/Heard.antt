@@ -90,7 +90,7 @@ heard_of side es (Given h v) = kept.Data h v
 abbrev pub all_heard : Side → List EndpointConfig → List Judgement → List Heard
 all_heard side es judged = map (heard_of side es) judged
 
--- where memory is not wanting now, it was not before, and these were kept behind the others
+-- where memory is not wanting now, it was not before, and these were kept after the others
 pub record Keeps (old : List Heard) (before : Bool) (more new : List Heard) (is : Bool) : Type 0 where
   pub was : is ≡ false → before ≡ false
   pub kept : is ≡ false → new ≡ old ++ more

@@ -1,4 +1,4 @@
--- The lines of the runs of a list, and the run that is open while items come.
+-- The lines of the runs of a list, and the run that is open while items are given.
 use Rattle.std.specs.Prelude.{◌≡◌, ◌+◌, ⊤, ℕ, Bool, true, List, [], ◌∷◌, ◌++◌, length, Option, Some, None}
 use Rattle.std.specs.List.{flat_map}
 use Rattle.explain_model.specs.declared.values.ExplainLine.{ExplainLine}
@@ -61,12 +61,12 @@ pub record AreRun {T W : Type 0} (related : T → T → Bool) (run_line : T → 
 
 -- ---- items that are put
 
--- these items more, whatever came before them
+-- these items more, whatever preceded them
 pub record HasPut {T W : Type 0} (related : T → T → Bool) (run_line : T → ℕ → ExplainLine) (grew : W → List ExplainLine → W → Type 0)
     (more : List T) (before : Option (OpenRun T)) (old : W) (after : Option (OpenRun T)) (new : W) : Type 0 where
   pub after_all : (base : W) (items : List T) → AreRun related run_line grew base items before old → AreRun related run_line grew base (items ++ more) after new
 
--- the sink stopped in a line of all items, whatever came before these and whatever follows
+-- the sink stopped in a line of all items, whatever preceded these and whatever follows
 pub record StopsPutting {T W : Type 0} (related : T → T → Bool) (run_line : T → ℕ → ExplainLine) (grew : W → List ExplainLine → W → Type 0)
     (stopped : W → ExplainLine → W → Type 0) (more : List T) (before : Option (OpenRun T)) (old new : W) : Type 0 where
   pub in_all : (base : W) (items later : List T) → AreRun related run_line grew base items before old

@@ -68,7 +68,7 @@ pub fn message_line(number: u32, m: &MessageHeard) -> Option<ExplainLine>
     }
 }
 
-/// The line of a fragment of data whose message stands at this place of its frame.
+/// The line of a fragment of data whose message is at this place of its frame.
 pub fn fragment_line(number: u32, place: usize, f: &FragmentHeard) -> ExplainLine
     ensures { result ≡ fragment_line number place f.now }
 {

@@ -79,7 +79,7 @@ pub struct WholeHeard {
 /// What a unit judged of a part of a frame.
 #[derive(Clone, Copy)]
 pub enum Heard {
-    /// A whole message came.
+    /// A complete message was received.
     Message(MessageHeard),
     /// A section of a command has a verdict.
     Command {

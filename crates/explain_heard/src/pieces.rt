@@ -1,4 +1,4 @@
-// The bytes of a whole message, where its pieces stand.
+// The bytes of a complete message, where its pieces are.
 ghost use Rattle.std.specs.Prelude.{◌≡◌, length, take, drop, IfSome, slice_index_or, [], ◌∷◌};
 ghost use Rattle.ecpri_fragments.specs.Assemblies.{message_of as whole_of};
 ghost use Rattle.ecpri_fragments.specs.Pieces.{joined};

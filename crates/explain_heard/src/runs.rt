@@ -1,4 +1,4 @@
-// The runs of items that come one by one.
+// The runs of items that are given one by one.
 ghost use Rattle.std.specs.Prelude.{◌≡◌, ◌+◌, ◌-◌, ◌^◌, ◌<◌, true, ℕ, List, [], ◌∷◌, ◌++◌, Some, None, OnOk, IfErr};
 ghost use Rattle.air_source.specs.Causes.{HasAirCause};
 ghost use Rattle.explain_heard.specs.Runs.{AreRun, HasPut, StopsPutting, open_line, run_lines, takes, with_item};
@@ -19,7 +19,7 @@ struct Open<T: RunItem> {
     ghost fits: { T.place last < 2 ^ 16 - 1 },
 }
 
-/// The run that is open while items come. Contracts see it as its first and last item and their number, or None.
+/// The run that is open while items are given. Contracts see it as its first and last item and their number, or None.
 #[derive(Drop)]
 pub struct LineRuns<T: RunItem> {
     open: Option<Open<T>>,

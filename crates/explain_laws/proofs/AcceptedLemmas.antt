@@ -1,4 +1,4 @@
--- An accepted section stands among all that the radio unit decoded, and each of its elements stays claimed.
+-- An accepted section is among all that the radio unit decoded, and each of its elements stays claimed.
 use Rattle.std.proofs.Common.{◌≡◌, ℕ, ◌<◌, true, List, [], ◌∷◌, ◌++◌, refl, sym, ap, ◌∙◌, subst, inl, inr}
 use Rattle.std.specs.Prelude.{Some}
 use Rattle.air_source.specs.Units.{same_side}
@@ -28,7 +28,7 @@ use Rattle.fh_base.specs.Members.{IsIn}
 use Rattle.fh_base.proofs.MemberLemmas.{in_filter}
 use Rattle.replay_laws.proofs.GivenLemmas.{claim_named as named_claim}
 
--- it was accepted over what these left that came before it
+-- it was accepted over what these that precede it left
 pub record Stands (d : Delays) (cs : List ControlSection) (k : ControlSection) : Type 0 where
   pub later : List ControlSection
   pub earlier : List ControlSection

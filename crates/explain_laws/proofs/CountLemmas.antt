@@ -94,7 +94,7 @@ module _ (side : Side) (k : Counter) where
   number_both here (l ∷ xs) ys =
       omega (arith, number_first here l (xs ++ ys), number_first here l xs, number_both (here_after side here l) xs ys)
 
-  -- ---- the lines behind a frame
+  -- ---- the lines after a frame
 
   inner_kept : (here : Bool) (l : ExplainLine) → IsInner l → (is_of_unit side here l ≡ here) × (here_after side here l ≡ here)
   inner_kept here (line.Measure number place size) h = (refl, refl)
@@ -136,7 +136,7 @@ module _ (side : Side) (k : Counter) where
   total_both [] ys = omega arith
   total_both (x ∷ xs) ys = omega (arith, total_both xs ys)
 
-  -- what stands before an entry's lines makes no difference
+  -- what is before an entry's lines makes no difference
   abbrev IsFree : Entry → Type 0
   IsFree (Lines ls) = (here : Bool) → number here ls ≡ number false ls
   IsFree (Of a w) = ⊤
@@ -444,7 +444,7 @@ one_test Ru Du = refl
 one_test Du Ru = refl
 one_test Du Du = refl
 
--- what all arrivals, cells and delays are counted as, behind these arrivals
+-- what all arrivals, cells and delays are counted as, after these arrivals
 abbrev counted_then : Side → Counter → Config → List Arrival → List Event → ℕ
 counted_then side k c heard es =
     times (arrivals_counted side c (arrivals_heard side heard es)) k + (times (cells_counted (cells_heard side es)) k + delay_count side es * once counter.DelayResult k)

@@ -1,4 +1,4 @@
--- How often a test passes, in lists that are put into order and of which each element stands once.
+-- How often a test passes, in lists that are put into order and that have each element once.
 use Rattle.std.proofs.Common.{◌≡◌, ℕ, zero, suc, Bool, true, false, List, [], ◌∷◌, ◌++◌, refl, ap, ap₂, ◌∙◌}
 use Rattle.std.specs.Prelude.{filter, if◌then◌else◌, ◌||◌}
 use Rattle.std.specs.List.{AllByRecursion, flat_map, list_any}

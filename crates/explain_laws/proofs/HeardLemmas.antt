@@ -49,7 +49,7 @@ use Rattle.fh_base.proofs.OntoLemmas.{All-onto}
 use Rattle.unit_laws.proofs.EndLemmas.{far_later}
 use Rattle.fh_base.proofs.MadeLists.{in_all as holds_in}
 
--- ---- nothing comes before the clock begins
+-- ---- nothing is received before the clock begins
 
 abbrev HasBegun : Arrival → Type 0
 HasBegun a = first_clock ≤ℤ a.at

@@ -58,7 +58,7 @@ words _ = []
 
 -- ---- the lines of a unit
 
--- a line is of the unit: by the way of a frame, of a run or of a delay; the lines behind a frame are of the frame's unit
+-- a line is of the unit: by the way of a frame, of a run or of a delay; the lines after a frame are of the frame's unit
 abbrev pub is_of_unit : Side → Bool → ExplainLine → Bool
 is_of_unit side here (line.Frame number at_side at bytes refusal) = same_side at_side side
 is_of_unit side here (line.Cells run mask word) = same_side run.side side

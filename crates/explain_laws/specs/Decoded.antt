@@ -1,6 +1,6 @@
--- What a unit judged of all that came, and so what is kept of it, is what it decoded of it: the sections of data and of commands, the fragments
--- and the whole messages that it does not decode, each with its verdict over all that came before it (this project's profile; the verdicts are
--- those of `unit_model`, over complete lists of arrivals).
+-- What a unit judged of all that was received, and so what is kept of it, is what it decoded of it: the sections of data and of commands,
+-- the fragments and the complete messages that it does not decode, each with its verdict over all that was received before it (this
+-- project's profile; the verdicts are those of `unit_model`, over complete lists of arrivals).
 use Rattle.std.specs.Prelude.{◌≡◌, ℕ, ℤ, List, [], ◌∷◌, ◌++◌, filter, map, if◌then◌else◌, Option, Some, None}
 use Rattle.std.specs.List.{flat_map}
 use Rattle.ecpri_fragments.specs.Generations.{Fragment}
@@ -49,7 +49,7 @@ abbrev pub given_in : Judgement → List GivenSection
 given_in (Given h v) = record { heading = h; verdict = v } ∷ []
 given_in _ = []
 
--- these sections, the newest first, with their verdicts, in the order in which they came
+-- these sections, the newest first, with their verdicts, in the order in which they were received
 unfoldable pub given_sections : Side → Delays → List UserSection → List GivenSection
 given_sections side d [] = []
 given_sections side d (s ∷ earlier) =
@@ -81,7 +81,7 @@ abbrev pub fragment_in : Judgement → List JudgedFragment
 fragment_in (Fragmented e f v) = record { endpoint = e; fragment = f; verdict = v } ∷ []
 fragment_in _ = []
 
--- those among these messages, of which the newest stands first
+-- those among these messages, of which the newest is first
 unfoldable pub judged_fragments : ℤ → List Meeting → List JudgedFragment
 judged_fragments hold [] = []
 judged_fragments hold (Ignored k ∷ earlier) = judged_fragments hold earlier
@@ -144,7 +144,7 @@ StoriesAreJudged =
 
 -- ---- records
 
--- what stands in the stories of a unit, each with the number of its arrival
+-- what is in the stories of a unit, each with the number of its arrival
 pub record Numbered (A : Type 0) : Type 0 where
   pub number : ℕ
   pub it : A
@@ -167,8 +167,8 @@ header_kept side x = header_of side x.number x.it.ep x.it.endpoint x.it.message 
 abbrev pub fragment_kept : Numbered JudgedFragment → NumberedFragment
 fragment_kept x = record { number = x.number; endpoint = x.it.endpoint; fragment = x.it.fragment; verdict = x.it.verdict }
 
--- The records of a unit are of its decoded sections, of its whole messages that it does not decode, and of its fragments, each with the number of the
--- arrival in whose story it stands, in the order in which they came.
+-- The records of a unit are of its decoded sections, of its complete messages that it does not decode, and of its fragments, each with the
+-- number of the arrival in whose story it is, in the order in which they were received.
 pub record UnitIsKept (side : Side) (c : Config) (events : List Event) : Type 0 where
   pub data_is : filter (λ r. same_side r.side side) (data_records c (stories c events)) ≡ map (data_kept side c.delays) (numbered given_in side (stories c events))
   pub headers_are : filter (λ r. same_side r.side side) (header_records (stories c events)) ≡ flat_map (header_kept side) (numbered undecoded_in side (stories c events))

@@ -67,7 +67,7 @@ is_arrival_line (line.Whole w) = true
 is_arrival_line (line.Data s) = true
 is_arrival_line _ = false
 
--- of these lines the first is an arrival's, and behind it stand these of what was judged of it, and then those
+-- of these lines the first is an arrival's, and after it are these of what was judged of it, and then those
 pub record BeginsWith (c : Config) (s : Story) (lines own later : List ExplainLine) : Type 0 where
   pub is : lines ≡ frame_line s ∷ (own ++ later)
   pub each : OneEach s.number (filter (has_line s.side c.endpoints s.arrival.at) s.judged) own

@@ -11,7 +11,7 @@ use Rattle.explain_model.specs.declared.values.ExplainLine.TheVariants as line
 use Rattle.explain_model.specs.Cells.{event_lines}
 use Rattle.explain_model.specs.Margins.{control_class, data_class_of}
 
--- late where the close of the window is past, else early where its opening is to come, else on time
+-- late where the close of the window is past, else early where its opening is to follow, else on time
 abbrev pub class_by : Timing → Class
 class_by t = classified (int_lt t.until (pos 0)) (int_lt t.since (pos 0))
 

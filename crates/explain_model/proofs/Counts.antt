@@ -28,7 +28,7 @@ use Rattle.window_config.specs.declared.config.Config.{Config}
 use Rattle.window_config.specs.declared.endpoints.EndpointConfig.{EndpointConfig}
 use Rattle.fh_base.proofs.Orders.{neither as or_parts}
 
--- ---- the lines behind the last event, by what they look at
+-- ---- the lines after the last event, by what they look at
 
 abbrev reasoned_by : Subject → List Story → List Seen → Reasoned
 reasoned_by s ss cells =
@@ -126,7 +126,7 @@ last_stay s xs (event.Cell a ∷ ys) h = absurd (true≢false (sym h))
 last_stay s xs (event.Arrival side at frame ∷ ys) h = absurd (true≢false (sym h))
 last_stay s xs (event.Delay at side id value ∷ ys) h = absurd (true≢false (sym h))
 
--- ---- counters come last
+-- ---- counters are last
 
 all_behind : (xs : List Event) (e : Event) (ys : List Event) → are_counts (xs ++ e ∷ ys) ≡ true → are_counts ys ≡ true
 all_behind [] e ys h = (and_parts (is_count e) (are_counts ys) h).1
@@ -140,7 +140,7 @@ some_by : (b : Bool) {c : Bool} → c ≡ true → (b || c) ≡ true
 some_by true h = refl
 some_by false h = h
 
--- behind a counter there are counters alone
+-- after a counter there are counters alone
 pub behind_count : (xs : List Event) (e : Event) (ys : List Event) → counts_last (xs ++ e ∷ ys) ≡ true → is_count e ≡ true → are_counts ys ≡ true
 unfolding counts_last
 behind_count [] e ys h is = rw is at h

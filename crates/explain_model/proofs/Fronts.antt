@@ -1,4 +1,4 @@
--- The lines so far stand in front of the whole text.
+-- The lines so far are the front of the complete text.
 use Rattle.std.proofs.Common.{◌≡◌, ℕ, true, false, List, [], ◌∷◌, ◌++◌, refl, sym, ap, ap₂, subst, ◌∙◌, append_assoc, append-nil}
 use Rattle.air_source.specs.declared.events.Event.{Event}
 use Rattle.air_source.specs.declared.events.Event.TheVariants as event
@@ -23,7 +23,7 @@ module _ (s : Subject) (events : List Event) where
       ap (λ (ls : List ExplainLine). first_lines s.config ++ ls) (closed_more s.config events e)
       ∙ sym (append_assoc (first_lines s.config) (closed_lines s.config events) (added s.config events e))
 
-  -- what stands before the first counter
+  -- what is before the first counter
   ended : open_lines s events ++ ending s events ≡ first_lines s.config ++ (event_lines s.config events ++ reason_lines s events)
   ended =
       let c = s.config in
@@ -33,7 +33,7 @@ module _ (s : Subject) (events : List Event) where
       ∙ ap (λ (ls : List ExplainLine). first_lines c ++ ls)
       (sym (append_assoc closed run (reason_lines s events)) ∙ ap (λ (ls : List ExplainLine). ls ++ reason_lines s events) (sym (lines_go_on.all (entries c events))))
 
-  -- a counter behind that
+  -- a counter after that
   module _ (side : Side) (n : Counter) (value : ℕ) where
     abbrev x : Event
     x = event.Count side n value
@@ -61,7 +61,7 @@ module _ (s : Subject) (events : List Event) where
 
 -- ---- stopped
 
--- what no further event changes stands in front of all lines
+-- what no further event changes is the front of all lines
 front_of_all : (c : Config) (xs ys : List Event) → IsFrontOf (closed_lines c xs) (event_lines c (xs ++ ys))
 front_of_all c xs ys =
     let all = xs ++ ys in

@@ -42,7 +42,7 @@ entry_one c events e =
     ∙ entries_both c [] (told c events) (told_of c events e ∷ [])
     ∙ ap (λ rest. entries c events ++ rest) (one_told c (told c events) (told_of c events e))
 
--- ---- the cell behind a run
+-- ---- the cell after a run
 
 side_same : (a b : Side) → same_side a b ≡ true → a ≡ b
 side_same Ru Ru h = refl
@@ -56,7 +56,7 @@ word_same (Shown a) Missing h = absurd cc
 word_same Missing (Shown b) h = absurd cc
 word_same Missing Missing h = refl
 
--- whether a cell is the next one goes by what the cells of the run have in common, and by the PRB behind the last
+-- whether a cell is the next one goes by what the cells of the run have in common, and by the PRB after the last
 alike : (r s : CellRun) → r.run.side ≡ s.run.side → r.run.at.0 ≡ s.run.at.0 → r.run.place.id ≡ s.run.place.id → r.run.place.slot ≡ s.run.place.slot
     → r.run.place.symbol ≡ s.run.place.symbol → r.run.section ≡ s.run.section → r.mask ≡ s.mask → r.word ≡ s.word
     → r.run.prb + r.run.num ≡ s.run.prb + s.run.num → (a : AirCell) (w : CellWord) → extends r a w ≡ extends s a w
@@ -78,7 +78,7 @@ behind_next b c v u h n a w =
     (sym (same_slot_is b.slot c.slot p4.0)) (sym (eqb-true b.symbol c.symbol p5.0)) (sym (eqb-true b.section c.section p6.0))
     (sym (eqb-true b.mask c.mask p6.1)) (sym (word_same v u rest.0)) (omega (arith, next)) a w
 
--- the cell behind a piece of cells is the next one of its run
+-- the cell after a piece of cells is the next one of its run
 next_of : (b : AirCell) (v : CellWord) (rest : List Entry) → AreLinked runs_on (Of b v ∷ rest) → (a : AirCell) (w : CellWord)
     → goes_on runs_on (Of b v ∷ rest) (Of a w) ≡ extends (run_from b v (length (Of b v ∷ rest))) a w
 next_of b v [] h a w = refl

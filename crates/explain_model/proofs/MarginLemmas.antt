@@ -67,7 +67,7 @@ judged_go_on = record {
 
 -- ---- a margin
 
--- the timings of one class, of which one more stands there or not
+-- the timings of one class, of which one more is there or not
 abbrev one_timing : Class → Class → Timing → List Timing
 one_timing class kind t = if same_class class kind then t ∷ [] else []
 

@@ -69,7 +69,7 @@ module _ {A : Type 0} (related : A → A → Bool) where
 
   -- ---- one more element
 
-  -- behind these pieces: in the last of them, where it is related to the last element there
+  -- after these pieces: in the last of them, where it is related to the last element there
   abbrev pub last_by : Bool → List A → A → List (List A)
   last_by true p y = (p ++ y ∷ []) ∷ []
   last_by false p y = p ∷ (y ∷ []) ∷ []

@@ -39,7 +39,7 @@ abbrev is_arrival : Event → Bool
 is_arrival (event.Arrival side at frame) = true
 is_arrival _ = false
 
--- what is told of an arrival behind these events
+-- what is told of an arrival after these events
 abbrev pub story_after : Config → List Event → Side → Ticks → List ℕ → Story
 story_after c events side at frame = story c (suc (arrival_count events)) side (arrivals_heard side [] events) (arrival_with at.0 frame)
 

@@ -1,4 +1,4 @@
--- What is told goes on as events come.
+-- What is told goes on as events follow.
 use Rattle.std.proofs.Common.{◌≡◌, List, [], ◌∷◌, ◌++◌, refl, sym, ap, subst, append_assoc}
 use Rattle.std.proofs.lemmas.List.{append-nil}
 use Rattle.air_source.specs.declared.events.Event.{Event}

@@ -19,7 +19,7 @@ use Rattle.explain_model.specs.Pieces.{closed_pieces, open_piece, pieces}
 use Rattle.explain_model.specs.Sections.{story_lines}
 use Rattle.explain_model.specs.Stories.{Story, Told, Came, Cell, Delay, Count, stories_in, told, told_of}
 
--- these stand in front of those
+-- these are the front of those
 pub record IsFrontOf (front all : List ExplainLine) : Type 0 where
   pub back : List ExplainLine
   pub is : all ≡ front ++ back
@@ -50,7 +50,7 @@ pub data Entry : Type 0 where
   Lines : List ExplainLine → Entry
   Of : AirCell → CellWord → Entry
 
--- the counters stand behind the last event
+-- the counters are after the last event
 abbrev pub entry_of : Config → List Told → Told → Entry
 entry_of c earlier (Came s) = Lines (story_lines c (judged_before s.side earlier) s)
 entry_of c earlier (Cell a) = Of a (word_of earlier a)
@@ -99,7 +99,7 @@ same_symbol a b =
     same_side a.side b.side && (int_eq a.at.0 b.at.0 && ((a.id == b.id) && (same_slot a.slot b.slot
     && ((a.symbol == b.symbol) && ((a.section == b.section) && (a.mask == b.mask))))))
 
--- the second is the cell behind the first in a run
+-- the second is the cell after the first in a run
 abbrev pub runs_on : Entry → Entry → Bool
 runs_on (Of a v) (Of b w) = same_symbol a b && (same_word v w && (a.prb + 1 == b.prb))
 runs_on (Of a v) (Lines ls) = false
@@ -109,7 +109,7 @@ runs_on (Lines ks) (Lines ls) = false
 abbrev pub runs : Config → List Event → List (List Entry)
 runs c events = pieces runs_on (entries c events)
 
--- a cell is the next one of a run: it has all that the cells have in common, and its PRB is the one behind the last
+-- a cell is the next one of a run: it has all that the cells have in common, and its PRB is the one after the last
 abbrev pub is_of_run : CellRun → AirCell → Bool
 is_of_run r a =
     same_side r.run.side a.side && (int_eq r.run.at.0 a.at.0 && ((r.run.place.id == a.id) && (same_slot r.run.place.slot a.slot
@@ -145,7 +145,7 @@ lines_in es = flat_map piece_lines (pieces runs_on es)
 abbrev pub event_lines : Config → List Event → List ExplainLine
 event_lines c events = lines_in (entries c events)
 
--- ---- as events come
+-- ---- as events follow
 
 -- the lines that no further entry changes
 unfoldable pub closed_in : List Entry → List ExplainLine
@@ -161,7 +161,7 @@ closed_lines c events = closed_in (entries c events)
 abbrev pub open_run : Config → List Event → Option CellRun
 open_run c events = open_in (entries c events)
 
--- what a cell makes of the run before it: its lines, where the cell is not the next one of it, and the run that it stands in
+-- what a cell makes of the run before it: its lines, where the cell is not the next one of it, and the run that it is in
 abbrev pub closing_by : Bool → CellRun → List ExplainLine
 closing_by goes r = if goes then [] else run_lines (Some r)
 
@@ -183,7 +183,7 @@ pub record LinesGoOn : Type 0 where
   pub one_entry : (c : Config) (events : List Event) (e : Event) → entries c (events ++ e ∷ []) ≡ entries c events ++ entry_of c (told c events) (told_of c events e) ∷ []
   -- all lines are the closed ones and those of the open run
   pub all : (es : List Entry) → lines_in es ≡ closed_in es ++ run_lines (open_in es)
-  -- an entry that is no cell closes the run, and has its lines behind it
+  -- an entry that is no cell closes the run, and has its lines after it
   pub on_lines : (es : List Entry) (ls : List ExplainLine) → closed_in (es ++ Lines ls ∷ []) ≡ closed_in es ++ (run_lines (open_in es) ++ ls)
   pub no_run : (es : List Entry) (ls : List ExplainLine) → open_in (es ++ Lines ls ∷ []) ≡ None
   -- a cell goes on with the run, or closes it and begins another

@@ -117,7 +117,7 @@ three_cells = missing_at Ru 0 ∷ missing_at Ru 1 ∷ missing_at Ru 2 ∷ []
 pub record LostFragmentIsAsWorked : Type 0 where
   pub why : lines_for unfinished three_cells ≡ line.WhyMissing (run_at Ru 0 3 1) 4095 (reason.Unfinished 0 1 2) ∷ []
   pub sums : missing_sums (missing_cells worked unfinished three_cells) Ru 0 ≡ line.MissingCells Ru 0 word.Unfinished 3 ∷ []
-  -- of two the one that came last
+  -- of two the one that was received last
   pub last : missing_reason (record nothing { begun = beginning_of 0 1 2 ∷ beginning_of 7 3 4 ∷ [] }) (seen_key worked (missing_at Ru 0)) 0 ≡ reason.Unfinished 7 3 4
 
 -- ---- late uplink data, by one tick
@@ -132,7 +132,7 @@ abbrev pub reason_for : Kept → Side → ℕ → Reason
 reason_for all side prb = missing_reason all (seen_key worked (missing_at side prb)) prb
 
 pub record NearestIsAsWorked : Type 0 where
-  -- the least distance, whichever came first; at one distance the first
+  -- the least distance, whichever was received first; at one distance the first
   pub nearest : reason_for (record nothing { given = data_for Ru 1 1 4 Early 9 ∷ data_for Ru 1 1 5 Late 3 ∷ data_for Ru 1 1 6 Early 3 ∷ [] }) Ru 0 ≡ reason.Late 3 5
   -- data for other PRBs say nothing
   pub uncovered : reason_for (record nothing { given = data_for Ru 1 1 4 Late 9 ∷ [] }) Ru 1 ≡ reason.NoData None
@@ -154,7 +154,7 @@ abbrev pub silent_for : List CommandRecord → List Seen → List ExplainLine
 silent_for commands cells = silent_lines_of (silent_symbols commands cells (4 ∷ []) (planned worked.endpoints (worked_line Down 0 2 4095 3 ∷ [])))
 
 pub record SilentIsAsWorked : Type 0 where
-  -- no command came
+  -- no command was received
   pub lost : silent_for [] [] ≡ line.WhySilent (run_at Ru 0 2 3) 4095 4 reason.NoCommand ∷ []
   -- four elements of one PRB and twelve of the next are two runs
   pub part : silent_for [] (part_shown ∷ []) ≡ line.WhySilent (run_at Ru 0 1 3) 15 4 reason.NoCommand ∷ line.WhySilent (run_at Ru 1 1 3) 4095 4 reason.NoCommand ∷ []
@@ -170,7 +170,7 @@ pub record SilentIsAsWorked : Type 0 where
 abbrev pub first_of_message : ℕ → List ℕ
 first_of_message prb = 0x90 ∷ 1 ∷ 0 ∷ 0 ∷ 0 ∷ 0x10 ∷ prb ∷ 1 ∷ []
 
--- a fragment of sequence id 0 that came at so many nanoseconds
+-- a fragment of sequence id 0 that was received at so many nanoseconds
 abbrev pub came : ℕ → ℕ → Bool → ℕ → List ℕ → Verdict → NumberedFragment
 came number at last sub bytes verdict = record {
   number = number;
@@ -183,17 +183,17 @@ abbrev pub held : ℤ
 held = hold_of Ru usual_delays
 
 pub record FragmentsAreAsWorked : Type 0 where
-  -- the second part comes after the generation of the first has ended: that stays unfinished, with one piece
+  -- the second part is received after the generation of the first has ended: that stays unfinished, with one piece
   pub too_late : beginnings_after Ru held [] (came 6 9700000 false 0 (first_of_message 0) fragment.Stored ∷ came 8 9950000 true 1 [] fragment.Stored ∷ []) ≡ beginning_of 0 1 6 ∷ []
   -- in time it makes the message whole
   pub in_time : beginnings_after Ru held [] (came 6 9700000 false 0 (first_of_message 0) fragment.Stored ∷ came 8 9700001 true 1 [] fragment.Whole ∷ []) ≡ []
-  -- another piece comes, and the message still has no end
+  -- another piece is received, and the message still has no end
   pub two_pieces : beginnings_after Ru held [] (came 6 9700000 false 0 (first_of_message 0) fragment.Stored ∷ came 8 9700001 false 1 [] fragment.Stored ∷ []) ≡ beginning_of 0 2 6 ∷ []
-  -- a copy of what stands is no other message; one with another first PRB is
+  -- a copy of what is stored is no other message; one with another first PRB is
   pub a_copy : repeated_after Ru held [] (came 6 9700000 true 0 (first_of_message 0) fragment.Whole ∷ came 8 9700001 true 0 (first_of_message 0) fragment.Repeat ∷ []) ≡ []
   pub another : repeated_after Ru held [] (came 6 9700000 true 0 (first_of_message 0) fragment.Whole ∷ came 8 9700001 true 0 (first_of_message 1) fragment.Repeat ∷ [])
       ≡ record { side = Ru; ep = 0; slot = slot_0; symbol = 0; seq = 0; number = 8 } ∷ []
-  -- it is compared with the one that stands, and not with the one before it
+  -- it is compared with the one that is stored, and not with the one before it
   pub the_standing : repeated_after Ru held []
       (came 6 9700000 true 0 (first_of_message 0) fragment.Whole ∷ came 8 9700001 true 0 (first_of_message 1) fragment.Repeat ∷ came 9 9700002 true 0 (first_of_message 1) fragment.Repeat ∷ [])
       ≡ record { side = Ru; ep = 0; slot = slot_0; symbol = 0; seq = 0; number = 8 } ∷ record { side = Ru; ep = 0; slot = slot_0; symbol = 0; seq = 0; number = 9 } ∷ []

@@ -1,4 +1,4 @@
--- Which lines stand in the text of the faults.
+-- Which lines are in the text of the faults.
 use Rattle.std.specs.Prelude.{Bool, true, false, is_some}
 use Rattle.ecpri_fragments.specs.declared.verdict.Verdict.{Verdict}
 use Rattle.ecpri_fragments.specs.declared.verdict.Verdict.TheVariants as fragment
@@ -28,7 +28,7 @@ is_fragment_fault fragment.Stored = false
 is_fragment_fault fragment.Whole = false
 is_fragment_fault _ = true
 
--- the line stands in the text of the faults: all do but those that tell what went well
+-- the line is in the text of the faults: all are but those that tell what went well
 unfoldable pub is_fault : ExplainLine → Bool
 is_fault (line.Window name range) = false
 is_fault (line.Endpoint e) = false

@@ -1,5 +1,5 @@
--- What is kept of fragments: of first fragments that came under a used sequence id, and of generations that never become whole (eCPRI
--- transport header of O-RAN.WG4.CUS for the fields; the rest is this project's profile).
+-- What is kept of fragments: of first fragments that were received under a used sequence id, and of generations that never become complete
+-- (eCPRI transport header of O-RAN.WG4.CUS for the fields; the rest is this project's profile).
 use Rattle.std.specs.Prelude.{ℕ, ℤ, ◌==◌, Bool, true, false, not, ◌&&◌, if◌then◌else◌, List, [], ◌∷◌, ◌++◌, filter, length, take, Option, Some, None}
 use Rattle.std.specs.List.{flat_map}
 use Rattle.std.specs.Str.{bytes_eq}
@@ -22,7 +22,7 @@ use Rattle.explain_model.specs.Stories.{Story}
 use Rattle.explain_model.specs.declared.headers.BeginningRecord.{BeginningRecord}
 use Rattle.explain_model.specs.declared.headers.RepeatedRecord.{RepeatedRecord}
 
--- ---- the fragments that came to a unit, each with the number of its arrival, its endpoint and what it was
+-- ---- the fragments that were received at a unit, each with the number of its arrival, its endpoint and what it was
 
 pub record NumberedFragment : Type 0 where
   pub number : ℕ
@@ -37,7 +37,7 @@ fragment_in number _ = []
 abbrev pub fragments_of_story : Story → List NumberedFragment
 fragments_of_story s = flat_map (fragment_in s.number) s.judged
 
--- in the order in which they came
+-- in the order in which they were received
 unfoldable pub unit_fragments : Side → List Story → List NumberedFragment
 unit_fragments side stories = flat_map fragments_of_story (filter (λ s. same_side s.side side) stories)
 
@@ -48,13 +48,13 @@ abbrev pub first_named : Side → EndpointConfig → Fragment → Option (Slot �
 first_named side e f =
     if (f.sub == 0) && has_way side (head_of f.bytes) then symbol_named e.numerology f.bytes f.at else None
 
--- ---- one that came under a used sequence id
+-- ---- one that was received under a used sequence id
 
 -- the message's header, and the id, symInc and PRBs of its first section: as many bytes as there are, at most eight
 abbrev pub first_bytes : List ℕ → List ℕ
 first_bytes bytes = take 8 bytes
 
--- it does not begin as the one that stands
+-- it does not begin as the one that is stored
 abbrev pub differs_from : Option (List ℕ) → List ℕ → Bool
 differs_from None bytes = false
 differs_from (Some stood) bytes = not (bytes_eq (first_bytes stood) (first_bytes bytes))
@@ -63,7 +63,8 @@ abbrev pub is_repeat : Verdict → Bool
 is_repeat Repeat = true
 is_repeat _ = false
 
--- where these came before it, the newest first: it is answered Repeat, and another message's first fragment stands in its generation
+-- where these were received before it, the newest first: it is answered Repeat, and another message's first fragment is stored in its
+-- generation
 unfoldable pub is_of_another : ℤ → List Fragment → NumberedFragment → Bool
 is_of_another hold earlier x =
     is_repeat x.verdict && differs_from (piece_at (standing_before hold x.fragment earlier) 0) x.fragment.bytes
@@ -77,7 +78,7 @@ abbrev pub repeated_in : Side → ℤ → List Fragment → NumberedFragment →
 repeated_in side hold earlier x =
     if is_of_another hold earlier x then repeated_with side x (first_named side x.endpoint x.fragment) else []
 
--- in the order in which they came
+-- in the order in which they were received
 unfoldable pub repeated_after : Side → ℤ → List Fragment → List NumberedFragment → List RepeatedRecord
 repeated_after side hold earlier [] = []
 repeated_after side hold earlier (x ∷ later) = repeated_in side hold earlier x ++ repeated_after side hold (x.fragment ∷ earlier) later
@@ -87,13 +88,13 @@ unit_repeated c stories side = repeated_after side (hold_of side c.delays) [] (u
 
 -- ---- a generation that never becomes whole
 
--- it stands in its generation
+-- it is stored in its generation
 abbrev pub has_stood : Verdict → Bool
 has_stood Stored = true
 has_stood Whole = true
 has_stood _ = false
 
--- the generation with what came later, up to what begins another of its sequence id
+-- the generation with what was received later, up to what begins another of its sequence id
 unfoldable pub grown : ℤ → ℕ → ℕ → Generation → List Fragment → Generation
 grown hold ep seq g [] = g
 grown hold ep seq g (x ∷ later) =
@@ -106,7 +107,7 @@ abbrev pub last_begun : List Generation → Fragment → Generation
 last_begun [] f = record { start = f.at; held = [] }
 last_begun (g ∷ gs) f = g
 
--- the generation that a fragment falls in, as it is when it came
+-- the generation that a fragment falls in, as it is when the fragment is received
 abbrev pub generation_at : ℤ → List Fragment → Fragment → Generation
 generation_at hold earlier f = last_begun (with_fragment hold f (generations_of hold f.ep f.seq earlier)) f
 
@@ -114,7 +115,7 @@ abbrev pub fragments_alone : List NumberedFragment → List Fragment
 fragments_alone [] = []
 fragments_alone (x ∷ xs) = x.fragment ∷ fragments_alone xs
 
--- what stands in its generation in the end
+-- what is stored in its generation in the end
 unfoldable pub stands_at_last : ℤ → List Fragment → NumberedFragment → List NumberedFragment → List Fragment
 stands_at_last hold earlier x later =
     standing (grown hold x.fragment.ep x.fragment.seq (generation_at hold earlier x.fragment) (fragments_alone later)).held
@@ -124,7 +125,7 @@ beginning_with side x stood None = []
 beginning_with side x stood (Some (slot, symbol)) =
     record { side = side; ep = x.fragment.ep; slot = slot; symbol = symbol; seq = x.fragment.seq; pieces = length stood; number = x.number } ∷ []
 
--- a fragment that stood, of a generation in which these stand in the end
+-- a fragment that was stored, of a generation in which these are stored in the end
 abbrev pub beginning_by : Side → NumberedFragment → List Fragment → List BeginningRecord
 beginning_by side x stood =
     if has_stood x.verdict && not (is_whole stood) then beginning_with side x stood (first_named side x.endpoint x.fragment) else []
@@ -132,7 +133,7 @@ beginning_by side x stood =
 abbrev pub beginning_in : Side → ℤ → List Fragment → NumberedFragment → List NumberedFragment → List BeginningRecord
 beginning_in side hold earlier x later = beginning_by side x (stands_at_last hold earlier x later)
 
--- in the order in which their first fragments came
+-- in the order in which their first fragments were received
 unfoldable pub beginnings_after : Side → ℤ → List Fragment → List NumberedFragment → List BeginningRecord
 beginnings_after side hold earlier [] = []
 beginnings_after side hold earlier (x ∷ later) = beginning_in side hold earlier x later ++ beginnings_after side hold (x.fragment ∷ earlier) later

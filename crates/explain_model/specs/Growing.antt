@@ -19,7 +19,7 @@ use Rattle.explain_model.specs.Stories.{Story, Told, Came, stories_in, told_of}
 
 -- ---- what was judged
 
--- an arrival's judgements stand before those of its unit, newest first; any other event adds none
+-- an arrival's judgements are before those of its unit, newest first; any other event adds none
 pub record JudgedGoOn : Type 0 where
   pub on_arrival : (side : Side) (ts : List Told) (s : Story) → judged_before side (ts ++ Came s ∷ []) ≡ (if same_side s.side side then onto (judged_before side ts) s.judged else judged_before side ts)
   pub on_lines : (c : Config) (side : Side) (number : ℕ) (before xs : List Judgement) (j : Judgement)

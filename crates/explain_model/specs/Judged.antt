@@ -17,7 +17,7 @@ use Rattle.explain_model.specs.declared.places.Clash.{Clash}
 use Rattle.explain_model.specs.Stories.{Told, Came, Cell, Delay, Count}
 use Rattle.explain_model.specs.Timings.{heading_slot}
 
--- what a unit judged of these events, behind what it judged before
+-- what a unit judged of these events, after what it judged before
 unfoldable pub judged_after : Side → List Judgement → List Told → List Judgement
 judged_after side before [] = before
 judged_after side before (Came s ∷ rest) = judged_after side (if same_side s.side side then onto before s.judged else before) rest
@@ -28,7 +28,7 @@ judged_after side before (Count at_side counter value ∷ rest) = judged_after s
 abbrev pub judged_before : Side → List Told → List Judgement
 judged_before side told = judged_after side [] told
 
--- ---- the message that came last
+-- ---- the message that is last
 
 -- where its header begins in the frame
 unfoldable pub last_place : List Judgement → ℕ

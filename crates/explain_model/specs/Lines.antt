@@ -148,7 +148,7 @@ data_verdict_text given.Early = codes " early"
 data_verdict_text given.Repeat = codes " repeat"
 data_verdict_text given.Taken = codes " taken"
 
--- a word that stands or not
+-- a word that is there or not
 abbrev pub word_if : Bool → List ℕ → List ℕ
 word_if b word = if b then word else []
 

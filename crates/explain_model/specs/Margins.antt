@@ -1,4 +1,4 @@
--- How near to the ends of their windows the sections of an endpoint came (this project's profile).
+-- How near to the ends of their windows the sections of an endpoint were received (this project's profile).
 use Rattle.std.specs.Prelude.{ℕ, ℤ, pos, ◌==◌, max, if◌then◌else◌, Bool, true, false, ◌&&◌, List, [], ◌∷◌, ◌++◌, fold, length, map, filter, Option, Some, None}
 use Rattle.std.specs.Int.{int_gap, int_min}
 use Rattle.std.specs.List.{flat_map}

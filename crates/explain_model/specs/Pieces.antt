@@ -4,7 +4,7 @@ use Rattle.std.specs.List.{AllByRecursion}
 use Rattle.ecpri_fragments.specs.Pieces.{joined}
 
 module _ {A : Type 0} (related : A → A → Bool) where
-  -- x before these pieces: it stands in the first of them, where the first element there is related to it
+  -- x before these pieces: it is in the first of them, where the first element there is related to it
   abbrev pub with_first : A → List (List A) → List (List A)
   with_first x [] = (x ∷ []) ∷ []
   with_first x ([] ∷ ps) = (x ∷ []) ∷ ps
@@ -51,7 +51,7 @@ module _ {A : Type 0} (related : A → A → Bool) where
     pub linked : AllByRecursion AreLinked ps
     pub maximal : AreMaximal ps
 
--- ---- the last piece is open, as long as elements come; the others are closed
+-- ---- the last piece is open, as long as elements follow; the others are closed
 
 abbrev pub closed_pieces : {A : Type 0} → List (List A) → List (List A)
 closed_pieces [] = []

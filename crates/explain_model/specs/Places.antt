@@ -1,4 +1,4 @@
--- The words that say where something stands.
+-- The words that say where something is.
 use Rattle.std.specs.Prelude.{ℕ, List, ◌++◌, codes, Bool, true, false}
 use Rattle.air_source.specs.Units.{way_text}
 use Rattle.explain_model.specs.declared.places.Clash.{Clash}

@@ -49,7 +49,7 @@ from_text from = named_text (codes "from") from
 abbrev pub by_text : ℕ → ℕ → List ℕ
 by_text by from = named_text (codes "by") by ++ from_text from
 
--- what stands after the first word
+-- what is after the first word
 abbrev pub rest_text : Reason → List ℕ
 rest_text (reason.Other section from) = named_text (codes "with") section ++ from_text from
 rest_text (reason.Late by from) = by_text by from

@@ -48,7 +48,7 @@ from_of (reason.NoData None) = 0
 from_of (reason.NoData (Some from)) = from
 from_of reason.NoCommand = 0
 
--- the number behind its first word, where there is one beside the arrival: a section id, a distance or a sequence id
+-- the number after its first word, where there is one beside the arrival: a section id, a distance or a sequence id
 abbrev pub detail_of : Reason → ℕ
 detail_of (reason.Other section from) = section
 detail_of (reason.Late by from) = by

@@ -60,7 +60,7 @@ ep_found (Some found) = found.0
 abbrev pub ep_of : Config → ℕ → ℕ
 ep_of c id = ep_found (find_endpoint c.endpoints id)
 
--- the symbol that a cell stands in
+-- the symbol that a cell is in
 abbrev pub seen_key : Config → Seen → SymbolKey
 seen_key c s = record { side = s.side; ep = ep_of c s.id; slot = s.slot; symbol = s.symbol }
 

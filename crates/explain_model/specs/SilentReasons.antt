@@ -115,7 +115,7 @@ header_of (Some r) = Some (header_by r.why r.number)
 unfoldable pub header_reason : List HeaderRecord → SymbolKey → Option Reason
 header_reason rs k = header_of (find (λ r. same_symbol (header_key r) k) rs)
 
--- the first message of the symbol that came under a used sequence id
+-- the first message of the symbol that was received under a used sequence id
 abbrev pub repeated_of : Option RepeatedRecord → Option Reason
 repeated_of None = None
 repeated_of (Some r) = Some (reason.Repeated r.seq r.number)
@@ -135,7 +135,7 @@ unfinished_of (Some r) = Some (reason.Unfinished r.seq r.pieces r.number)
 unfoldable pub unfinished_reason : List BeginningRecord → SymbolKey → Option Reason
 unfinished_reason rs k = unfinished_of (last_of (filter (λ r. same_symbol (beginning_key r) k) rs))
 
--- what came of a message at all: these rules in their order
+-- what became of a received message: these rules in their order
 unfoldable pub came_reason : Kept → SymbolKey → ℕ → Option Reason
 came_reason all k prb =
     or_else (other_reason all.given k prb)
@@ -156,7 +156,7 @@ abbrev pub or_reason : Option Reason → Reason → Reason
 or_reason None r = r
 or_reason (Some r) other = r
 
--- nothing came: at the distributed unit it tells what became of the command
+-- nothing was received: at the distributed unit it tells what became of the command
 abbrev pub nothing_reason : Kept → Side → SymbolKey → ℕ → Reason
 nothing_reason all Ru k prb = reason.NoData None
 nothing_reason all Du k prb =

@@ -49,7 +49,7 @@ story c number side before a = record {
   judged = judgements side c before a;
 }
 
--- what is told of an event, where these events came before it, in their order
+-- what is told of an event, where these events precede it, in their order
 abbrev pub told_of : Config → List Event → Event → Told
 told_of c earlier (event.Arrival side at frame) =
     Came (story c (suc (arrival_count earlier)) side (arrivals_heard side [] earlier) (arrival_with at.0 frame))
@@ -78,7 +78,7 @@ stories c events = stories_in (told c events)
 
 -- ---- laws
 
--- what is told goes on as events come; one more adds what is told of it
+-- what is told goes on as events occur; one more adds what is told of it
 pub record StoriesGoOn : Type 0 where
   pub told_more : (c : Config) (events more : List Event) → told c (events ++ more) ≡ told c events ++ told_after c events more
   pub told_one : (c : Config) (events : List Event) (e : Event) → told c (events ++ e ∷ []) ≡ told c events ++ told_of c events e ∷ []

@@ -1,4 +1,4 @@
--- The lines of an explanation as events come (this project's profile).
+-- The lines of an explanation as events occur (this project's profile).
 use Rattle.std.specs.Prelude.{◌≡◌, ℕ, Bool, true, false, List, [], ◌∷◌, ◌++◌, Option, if◌then◌else◌}
 use Rattle.std.specs.List.{list_all, list_any}
 use Rattle.air_source.specs.declared.events.Event.{Event}
@@ -31,17 +31,17 @@ added_by o (Of a w) = closing o a w
 abbrev pub added : Config → List Event → Event → List ExplainLine
 added c events e = added_by (open_run c events) (entry_of c (told c events) (told_of c events e))
 
--- ---- the lines behind the last event
+-- ---- the lines after the last event
 
 -- those before the counters
 abbrev pub reason_lines : Subject → List Event → List ExplainLine
 reason_lines s events = (reasons_of s events).whys ++ (margin_lines s.config events ++ sum_lines s.config (reasons_of s events) events)
 
--- what stands between the lines that no further event changes and the counters
+-- what is between the lines that no further event changes and the counters
 abbrev pub ending : Subject → List Event → List ExplainLine
 ending s events = run_lines (open_run s.config events) ++ reason_lines s events
 
--- ---- counters come last
+-- ---- counters are last
 
 abbrev pub is_count : Event → Bool
 is_count (event.Count side counter value) = true
@@ -66,7 +66,7 @@ open_lines s events = first_lines s.config ++ closed_lines s.config events
 abbrev pub counted_lines : Subject → List Event → List ExplainLine
 counted_lines s events = first_lines s.config ++ (event_lines s.config events ++ (reason_lines s events ++ count_lines events))
 
--- these lines stand before the last of all lines
+-- these lines precede the last of all lines
 pub record StandsBefore (lines all : List ExplainLine) : Type 0 where
   pub rest : List ExplainLine
   pub is : all ≡ lines ++ (rest ++ line.End ∷ [])

@@ -57,7 +57,7 @@ unfoldable pub silent_sums : List SilentSymbol → Side → ℕ → List Explain
 silent_sums xs Ru id = flat_map (λ word. silent_sum Ru id word (silent_count xs id word)) silent_words
 silent_sums xs Du id = []
 
--- those of an endpoint behind its number of shown cells
+-- those of an endpoint after its number of shown cells
 abbrev pub sums_of : List MissingCell → List SilentSymbol → Side → EndpointConfig → List ExplainLine
 sums_of missing silent side e = missing_sums missing side e.id ++ silent_sums silent side e.id
 

@@ -18,7 +18,7 @@ use Rattle.explain_model.specs.declared.values.WindowName.TheVariants.{T1aUp, T1
 use Rattle.explain_model.specs.Cells.{event_lines}
 use Rattle.explain_model.specs.Margins.{margin_lines}
 
--- ---- what stands before the events
+-- ---- what is before the events
 
 abbrev pub window_lines : Delays → List ExplainLine
 window_lines d = line.Window T1aUp d.t1a_up ∷ line.Window T1aCpDl (cp_dl_of d.t1a_up d.advance) ∷ line.Window T1aCpUl d.t1a_cp_ul
@@ -31,7 +31,7 @@ endpoint_lines es = map line.Endpoint es
 abbrev pub first_lines : Config → List ExplainLine
 first_lines c = window_lines c.delays ++ endpoint_lines c.endpoints
 
--- ---- what stands after them
+-- ---- what is after them
 
 -- a cell of the unit and of the endpoint with this id, with samples
 abbrev pub is_shown : Side → ℕ → Event → Bool

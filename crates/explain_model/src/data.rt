@@ -10,7 +10,7 @@ use window_config::Class;
 /// A decoded section of data: one of a message that became whole and was not refused.
 #[derive(Clone, Copy, Debug, PartialEq, Eq)]
 pub struct DataRecord {
-    /// The unit that it came to.
+    /// The unit at which it was received.
     pub side: Side,
     /// The endpoint's index in the configuration.
     pub ep: usize,
@@ -26,7 +26,7 @@ pub struct DataRecord {
     pub section: u16,
     /// The number of the arrival that made its message whole.
     pub number: u32,
-    /// How it stands to its window.
+    /// How it relates to its window.
     pub class: Class,
     /// How far it lies outside of its window, in whole nanoseconds; 0 where it is on time.
     pub distance: u64,

@@ -30,7 +30,7 @@ fn is_fragment_fault(verdict: Verdict) -> bool
     !matches!(verdict, Verdict::Stored | Verdict::Whole)
 }
 
-/// Whether a line stands in the text of the faults: all do but those that tell what went well.
+/// Whether a line is in the text of the faults: all are but those that tell what went well.
 #[tactic(auto, unfolding(crate::specs::Faults::is_fault))]
 pub fn is_fault(line: &ExplainLine) -> bool
     ensures { result ≡ is_fault line.now }

@@ -18,7 +18,7 @@ pub enum HeaderWhy {
 /// A whole message of data that is refused, or of the other unit's direction, and whose header names a symbol.
 #[derive(Clone, Copy, Debug, PartialEq, Eq)]
 pub struct HeaderRecord {
-    /// The unit that it came to.
+    /// The unit at which it was received.
     pub side: Side,
     /// The endpoint's index in the configuration.
     pub ep: usize,
@@ -31,10 +31,10 @@ pub struct HeaderRecord {
     pub why: HeaderWhy,
 }
 
-/// A first fragment that came under a sequence id that another message's first fragment has in its generation.
+/// A first fragment that was received under a sequence id that another message's first fragment has in its generation.
 #[derive(Clone, Copy, Debug, PartialEq, Eq)]
 pub struct RepeatedRecord {
-    /// The unit that it came to.
+    /// The unit at which it was received.
     pub side: Side,
     /// The endpoint's index in the configuration.
     pub ep: usize,
@@ -48,10 +48,10 @@ pub struct RepeatedRecord {
     pub number: u32,
 }
 
-/// A generation of fragments that is not whole, of which the first fragment stands.
+/// A generation of fragments that is not complete, of which the first fragment is stored.
 #[derive(Clone, Copy, Debug, PartialEq, Eq)]
 pub struct BeginningRecord {
-    /// The unit that it came to.
+    /// The unit at which it was received.
     pub side: Side,
     /// The endpoint's index in the configuration.
     pub ep: usize,
@@ -61,7 +61,7 @@ pub struct BeginningRecord {
     pub symbol: u8,
     /// Its sequence id.
     pub seq: u8,
-    /// How many fragments stand in it.
+    /// How many fragments are stored in it.
     pub pieces: u8,
     /// The number of the arrival of its first fragment.
     pub number: u32,

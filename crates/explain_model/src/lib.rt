@@ -2,12 +2,12 @@
 //!
 //! There are no functions: a law is stated in `specs/` and proved as a lemma in `proofs/`.
 //!
-//! What is kept of a replay until its end, to say why a cell is missing or silent and which blocks no cell shows: one small record for each decoded
-//! section of data, each section of a command that names elements, each message of data that was refused or had the other unit's direction, each
-//! fragment that came under a used sequence id, each message that stays unfinished, and each run of cells.
+//! What is kept of a replay until its end, to say why a cell is missing or silent and which blocks no cell shows: one small record for
+//! each decoded section of data, each section of a command that names elements, each message of data that was refused or had the other
+//! unit's direction, each fragment that was received under a used sequence id, each message that stays unfinished, and each run of cells.
 //!
-//! Every record names its slot and its endpoint by its index in the configuration, and has the number of the arrival that made it. `specs/Keys.antt` says
-//! for which symbols a record counts.
+//! Every record names its slot and its endpoint by its index in the configuration, and has the number of the arrival that made it.
+//! `specs/Keys.antt` says for which symbols a record counts.
 //!
 //! The lines that tell what became of each frame, message, section and cell (this project's profile).
 //!
@@ -18,7 +18,7 @@
 //!
 //! There are no functions: a law is stated in `specs/` and proved as a lemma in `proofs/`.
 //!
-//! How the lines of an explanation grow as events come, and that they stand in front of the whole text.
+//! How the lines of an explanation grow as events occur, and that they are at the front of the complete text.
 //!
 //! There are no functions: the law is stated in `specs/` and proved as a lemma in `proofs/`.
 #![tactic(auto)]

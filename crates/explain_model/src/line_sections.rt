@@ -127,7 +127,7 @@ fn data_verdict(verdict: DataVerdict) -> &'static [u8]
     }
 }
 
-// Appends a word, where it stands.
+// Appends a word, where the line has it.
 fn word_where(line: &mut Line, stands: bool, word: &[u8])
     requires { length line.old + length word.now ≤ 512 }
     ensures text { line.new ≡ line.old ++ word_if stands word.now }

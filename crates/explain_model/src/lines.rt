@@ -192,7 +192,7 @@ fn margin(line: &mut Line, side: Side, class: MarginClass, endpoint: u16, margin
     line.text(b"\n");
 }
 
-/// Writes a line in place of what stood there. It ends with a line feed.
+/// Writes a line in place of what was there. It ends with a line feed.
 #[tactic(auto, unfolding(crate::specs::Lines::line_text))]
 pub fn put_line(said: &ExplainLine, line: &mut Line)
     ensures { line.new ≡ line_text said.now }

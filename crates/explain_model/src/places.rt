@@ -1,4 +1,4 @@
-// Where things stand of which a line speaks.
+// Where the things are of which a line speaks.
 
 use air_source::Side;
 use ecpri_fragments::SeqField;

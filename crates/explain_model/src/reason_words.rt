@@ -79,7 +79,7 @@ fn by_words(line: &mut Line, by: u64, from: u32)
     from_word(line, from);
 }
 
-// Appends what stands after the first word.
+// Appends what is after the first word.
 fn rest_words(line: &mut Line, reason: &Reason)
     requires { length line.old + 80 ≤ 512 }
     ensures text { line.new ≡ line.old ++ rest_text reason.now }

@@ -4,7 +4,7 @@
 /// from a window in whole nanoseconds.
 #[derive(Clone, Copy, Debug, PartialEq, Eq)]
 pub enum Reason {
-    /// A block of another section id stands there.
+    /// A block of another section id is there.
     Other { section: u16, from: u32 },
     /// Data that cover it were late.
     Late { by: u64, from: u32 },
@@ -14,7 +14,7 @@ pub enum Reason {
     Refused { from: u32 },
     /// A message of its symbol was of the other unit's direction.
     WrongWay { from: u32 },
-    /// Another message of its symbol came under a sequence id that was used.
+    /// Another message of its symbol was received under a sequence id that was used.
     Repeated { seq: u8, from: u32 },
     /// A message of its symbol never became whole.
     Unfinished { seq: u8, pieces: usize, from: u32 },
@@ -32,7 +32,7 @@ pub enum Reason {
     CommandOverlap { from: u32 },
     /// A command that names it found no room in its slot.
     CommandFull { from: u32 },
-    /// Nothing came; at the distributed unit, though an accepted command asked for it.
+    /// Nothing was received; at the distributed unit, though an accepted command asked for it.
     NoData { from: Option<u32> },
     /// No command names it.
     NoCommand,

@@ -34,7 +34,7 @@ pub enum CommandAnswer {
     Fragmented,
     /// The layout refuses it.
     Refused(CRefusal),
-    /// It came to the distributed unit.
+    /// It was received at the distributed unit.
     WrongWay,
 }
 
@@ -129,7 +129,7 @@ pub enum MarginClass {
     Data,
 }
 
-/// How near to their windows' ends sections came, in whole nanoseconds.
+/// How near to their windows' ends sections were received, in whole nanoseconds.
 #[derive(Clone, Copy)]
 pub struct Margin {
     /// How many were on time.
@@ -242,7 +242,7 @@ pub enum ExplainLine {
         run: PrbRun,
         from: u32,
     },
-    /// How near to its windows' ends an endpoint's sections of a class came.
+    /// How near to its windows' ends an endpoint's sections of a class were received.
     Margin {
         side: Side,
         class: MarginClass,

@@ -1,4 +1,4 @@
-// The words that say where something stands.
+// The words that say where something is.
 ghost use Rattle.std.specs.Prelude.{◌≡◌, ◌+◌, ◌≤◌, ◌++◌, length, codes};
 ghost use Rattle.explain_model.specs.Places.{moment_text, symbol_text, prbs_text, mask_text, run_text, bit_text, message_text, timing_text, clash_text};
 ghost use Rattle.air_source.specs.UnitLines.{side_text};
@@ -92,7 +92,7 @@ fn bit(set: bool) -> &'static [u8]
     if set { b"1" } else { b"0" }
 }
 
-/// Appends where a message stands.
+/// Appends where a message is.
 #[tactic(auto, unfolding(crate::specs::Places::message_text))]
 pub fn message(line: &mut Line, m: &MessagePlace)
     requires { length line.old + 108 ≤ 512 }

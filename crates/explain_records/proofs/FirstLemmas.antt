@@ -65,7 +65,7 @@ pub same_beginning : (a b : List ℕ) → same_first (first_of a) (first_of b) �
 same_beginning a b =
     same_from_decides (same_first (first_of a) (first_of b)) (bytes_eq (take 8 a) (take 8 b)) (first_decides a b) (bytes_eq-Decides (take 8 a) (take 8 b))
 
--- ---- a fragment that comes under a used sequence id
+-- ---- a fragment that is received under a used sequence id
 
 module _ (side : Side) (x : NumberedFragment) where
   named_same : (named : Option (Slot × ℕ)) → repeated_of side (told_by side x) named ≡ repeated_with side x named

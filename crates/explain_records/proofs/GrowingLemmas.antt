@@ -112,7 +112,7 @@ are_recorded side hold (x ∷ later) earlier =
     (are_recorded side hold later (x.fragment ∷ earlier))
     ∙ sym (flat_map-append (record_of side) (begun_in side hold earlier x fs) (begun_after side hold (x.fragment ∷ earlier) later))
 
--- ---- those that came under a used sequence id
+-- ---- those that were received under a used sequence id
 
 pub repeated_more : (side : Side) (hold : ℤ) (xs : List NumberedFragment) (earlier : List Fragment) (x : NumberedFragment)
     → repeated_after side hold earlier (xs ++ x ∷ []) ≡ repeated_after side hold earlier xs ++ repeated_in side hold (onto earlier (fragments_alone xs)) x

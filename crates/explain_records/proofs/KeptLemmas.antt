@@ -36,7 +36,7 @@ unfolding data_line
 data_same side d number h v = tell.given side d number [] h v
 
 module _ (side : Side) (d : Delays) (number : ℕ) (k : Kept) where
-  -- these records behind the others
+  -- these records after the others
   abbrev pub with_all : List DataRecord → List CommandRecord → List HeaderRecord → Kept
   with_all given commanded headers =
       record { given = k.given ++ given; commanded = k.commanded ++ commanded; headers = k.headers ++ headers; repeated = k.repeated; begun = k.begun }

@@ -16,7 +16,7 @@ module _ {A : Type 0} where
   only_none p [] h = tt
   only_none p (x ∷ xs) h = (h.0, only_none p xs h.1)
 
-  -- one that does not pass comes behind them
+  -- one that does not pass follows them
   pub only_more : (p : A → Bool) (k : Option ℕ) (xs : List A) (y : A) → IsOnly p k xs → p y ≡ false → IsOnly p k (xs ++ y ∷ [])
   only_more p None [] y h fails = (fails, tt)
   only_more p (Some k) [] y h fails = absurd h

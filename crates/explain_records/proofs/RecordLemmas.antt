@@ -68,7 +68,7 @@ equal_keys a b =
     (equal_then (nat_cmp a.slot.slot b.slot.slot) _ ∙ ap₂ (λ x y. x && y) (equal_numbers a.slot.slot b.slot.slot) (equal_numbers a.symbol b.symbol)))
     ∙ and_chain (int_eq a.slot.frame b.slot.frame) (a.slot.subframe == b.slot.subframe) (a.slot.slot == b.slot.slot) (a.symbol == b.symbol)))
 
--- neither comes before the other
+-- neither precedes the other
 level : (r : Ordering) → (not (is_lt (ordering_reverse r)) && not (is_lt r)) ≡ is_eq r
 level Less = refl
 level Equal = refl

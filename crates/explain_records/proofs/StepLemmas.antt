@@ -78,7 +78,7 @@ with_is hold f (g ∷ gs) = with_by f g gs (is_within hold g.start f.at)
 
 -- ---- the generation that it finds
 
--- where these stand in it, and it began then
+-- where these are stored in it, and it began then
 pub record Finds (hold : ℤ) (f : Fragment) (bs : List Begun) (from : ℤ) (s : List Fragment) (l : LastGeneration) : Type 0 where
   pub start : l.start.0 ≡ from
   pub first : l.first ≡ option_map first_of (piece_at s 0)
@@ -164,12 +164,12 @@ module _ (side : Side) (hold : ℤ) (x : NumberedFragment) (gs : List Generation
   abbrev more : List Begun
   more = grown_list hold f bs
 
-  -- where it stands or not
+  -- where it is stored or not
   pub record Next (stood : Bool) : Type 0 where
     pub kept_is : map (kept_of side) (more ++ begun_if stood x growing (first_named side x.endpoint f)) ≡ (if stood then begun_stood side t l kept else kept)
     pub last_is : KeepsOf (more ++ begun_if stood x growing (first_named side x.endpoint f)) f.ep f.seq (if stood then last_stood t l (length kept) else l) g
 
-  -- ---- it does not stand
+  -- ---- it is not stored
 
   same_one : placed s f ≡ s → (b : Begun) → Becomes hold f gs b → kept_of side (begun_once hold f b) ≡ kept_of side b
   same_one e b (inl h) = stays_kept side hold f gs b h
@@ -191,7 +191,7 @@ module _ (side : Side) (hold : ℤ) (x : NumberedFragment) (gs : List Generation
     });
   }
 
-  -- ---- it stands
+  -- ---- it is stored
 
   module _ (e : placed s f ≡ f ∷ s) (whole : makes_whole x.verdict ≡ is_whole (f ∷ s)) where
     number : l.pieces + 1 ≡ length (f ∷ s)

@@ -1,4 +1,4 @@
--- What is kept of a unit's fragments goes on as they come.
+-- What is kept of a unit's fragments goes on as they are received.
 use Rattle.std.proofs.Common.{◌≡◌, ◌≢◌, ℕ, ℤ, ◌+◌, ◌*◌, ◌<◌, Bool, true, false, List, [], ◌∷◌, ◌++◌, length, map, set, refl, sym, ap, ap₂, ◌∙◌, subst, append-nil, arith}
 use Rattle.std.specs.Prelude.{◌&&◌, ◌==◌, Option, Some, None, slice_get}
 use Rattle.std.proofs.lemmas.Bool.{and_from, eq-eqb}

@@ -1,4 +1,4 @@
--- The records of a unit's fragments go on as the fragments come.
+-- The records of a unit's fragments go on as the fragments are received.
 use Rattle.std.proofs.Common.{◌≡◌, ℕ, suc, ℤ, Bool, true, false, List, [], ◌∷◌, ◌++◌, length, map, set, refl, sym, ap, ap₂, ◌∙◌, subst, arith, ◌<◌}
 use Rattle.std.specs.Prelude.{if◌then◌else◌, ◌&&◌, ◌==◌, nat_lt, Option, Some, None, slice_get, Result, Ok, Err, IfOk, OnOk, OnErr}
 use Rattle.std.specs.List.{flat_map}

@@ -1,4 +1,4 @@
--- The fragments that a unit judges of a frame are those that came, each with its verdict.
+-- The fragments that a unit judges of a frame are those that were received, each with its verdict.
 use Rattle.std.proofs.Common.{◌≡◌, ℕ, ℤ, List, [], ◌∷◌, ◌++◌, refl, sym, ap, ◌∙◌, subst}
 use Rattle.std.specs.Prelude.{Option, Some, None}
 use Rattle.fh_base.specs.Numbering.{shape_of}

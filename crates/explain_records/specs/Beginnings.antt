@@ -1,4 +1,4 @@
--- The first fragments that stood and tell of a symbol, each with what came of its generation (this project's profile).
+-- The stored first fragments that tell of a symbol, each with what became of its generation (this project's profile).
 use Rattle.std.specs.Prelude.{ℕ, ℤ, ◌&&◌, Bool, true, false, if◌then◌else◌, List, [], ◌∷◌, ◌++◌, length, Option, Some, None}
 use Rattle.fh_base.specs.declared.values.Slot.{Slot}
 use Rattle.ecpri_fragments.specs.Generations.{Fragment, Generation, is_of, is_within, joined}
@@ -14,7 +14,7 @@ pub record Growing : Type 0 where
   pub generation : Generation
   pub is_last : Bool
 
--- where this fragment is of its sequence id or not, and comes within its hold or not
+-- where this fragment is of its sequence id or not, and is received within its hold or not
 abbrev pub grown_by : Bool → Bool → Growing → Fragment → Growing
 grown_by own within g f =
     if own
@@ -26,12 +26,12 @@ grown_by own within g f =
 abbrev pub grown_once : ℤ → ℕ → ℕ → Growing → Fragment → Growing
 grown_once hold ep seq g f = grown_by (is_of ep seq f) (is_within hold g.generation.start f.at) g f
 
--- as these came, in their order
+-- as these were received, in their order
 unfoldable pub grown_over : ℤ → ℕ → ℕ → Growing → List Fragment → Growing
 grown_over hold ep seq g [] = g
 grown_over hold ep seq g (f ∷ later) = grown_over hold ep seq (grown_once hold ep seq g f) later
 
--- ---- a first fragment that stood, with the symbol that it names
+-- ---- a stored first fragment, with the symbol that it names
 
 pub record Begun : Type 0 where
   pub first : NumberedFragment
@@ -49,7 +49,7 @@ begun_if stood x g named = if stood then begun_with x g named else []
 abbrev pub begun_by : Side → NumberedFragment → Growing → List Begun
 begun_by side x g = begun_if (has_stood x.verdict) x g (first_named side x.endpoint x.fragment)
 
--- its generation when it came, where these came before it, the newest first
+-- its generation when it was received, where these were received before it, the newest first
 abbrev pub growing_at : ℤ → List Fragment → Fragment → Growing
 growing_at hold earlier f = record { generation = generation_at hold earlier f; is_last = true }
 
@@ -57,7 +57,7 @@ abbrev pub begun_in : Side → ℤ → List Fragment → NumberedFragment → Li
 begun_in side hold earlier x later =
     begun_by side x (grown_over hold x.fragment.ep x.fragment.seq (growing_at hold earlier x.fragment) later)
 
--- in the order in which they came
+-- in the order in which they were received
 unfoldable pub begun_after : Side → ℤ → List Fragment → List NumberedFragment → List Begun
 begun_after side hold earlier [] = []
 begun_after side hold earlier (x ∷ later) =

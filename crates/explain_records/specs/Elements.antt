@@ -1,4 +1,4 @@
--- What the code's structs stand for in the definitions.
+-- What the code's structs represent in the definitions.
 use Rattle.explain_model.specs.Commanded.{Elements}
 use Rattle.explain_model.specs.SilentReasons.{Kept}
 use Rattle.explain_records.specs.declared.commands.Asked.{Asked}

@@ -1,4 +1,4 @@
--- The nearest of records that come one after the other.
+-- The nearest of records that are given one after the other.
 use Rattle.std.specs.Prelude.{ℕ, nat_le, if◌then◌else◌, List, filter, Option, Some, None}
 use Rattle.explain_model.specs.Commanded.{nearest}
 use Rattle.explain_model.specs.SilentReasons.{misses_prb}

@@ -30,19 +30,19 @@ order_cmp =
     (then_cmp (on (λ k. k.frame) int_cmp)
     (then_cmp (on (λ k. k.subframe) nat_cmp) (then_cmp (on (λ k. k.slot) nat_cmp) (on (λ k. k.symbol) nat_cmp)))))
 
--- the key of the first comes before that of the other
+-- the key of the first precedes that of the other
 abbrev pub comes_first : {R : Type 0} → (R → SymbolKey) → R → R → Bool
 comes_first key_of a b = is_lt (order_cmp (order_of (key_of a)) (order_of (key_of b)))
 
--- none has a key that comes before that of an earlier one
+-- none has a key that precedes that of an earlier one
 abbrev pub AreInOrder : {R : Type 0} → (R → SymbolKey) → List R → Type 0
 AreInOrder key_of records = IsSortedBy (comes_first key_of) records
 
--- the key of a record comes before one
+-- the key of a record precedes one
 abbrev pub is_below : {R : Type 0} → (R → SymbolKey) → OrderKey → R → Bool
 is_below key_of wanted r = is_lt (order_cmp (order_of (key_of r)) wanted)
 
--- the key of a record comes no later than one
+-- the key of a record is no later than one
 abbrev pub is_within : {R : Type 0} → (R → SymbolKey) → OrderKey → R → Bool
 is_within key_of wanted r = is_le (order_cmp (order_of (key_of r)) wanted)
 
@@ -51,7 +51,7 @@ pub record IsFirstFrom {R : Type 0} (key_of : R → SymbolKey) (wanted : OrderKe
   pub most : n ≤ length records
   pub parted : IsPartitionPoint (λ r. is_below key_of wanted r ≡ true) (λ r. is_below key_of wanted r ≡ false) records n
 
--- so many records have keys that come no later than one, and no record from there on does
+-- so many records have keys that are no later than one, and no record from there on has such a key
 pub record IsEndOf {R : Type 0} (key_of : R → SymbolKey) (wanted : OrderKey) (records : List R) (n : ℕ) : Type 0 where
   pub most : n ≤ length records
   pub parted : IsPartitionPoint (λ r. is_within key_of wanted r ≡ true) (λ r. is_within key_of wanted r ≡ false) records n

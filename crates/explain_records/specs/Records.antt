@@ -41,7 +41,7 @@ pub record HaveKept (c : Config) (ss : List Story) (r : HeardRecords) : Type 0 w
   pub ru_is : AreRecordsOf Ru (hold_of Ru c.delays) (unit_fragments Ru ss) r.ru
   pub du_is : AreRecordsOf Du (hold_of Du c.delays) (unit_fragments Du ss) r.du
 
--- and these stories tell of all fragments that came to their units
+-- and these stories tell of all fragments that were received at their units
 pub record HaveHeard (c : Config) (ss : List Story) (r : HeardRecords) : Type 0 where
   pub kept : HaveKept c ss r
   pub fragments_are : (side : Side) → backwards (unit_fragments side ss) ≡ fragments (met side c (unit_arrivals side ss))
@@ -53,7 +53,7 @@ abbrev pub entered : List Fragment → Judgement → List Fragment
 entered fs (Fragmented e f v) = f ∷ fs
 entered fs j = fs
 
--- the verdict on a fragment is that of its unit, where these came before
+-- the verdict on a fragment is that of its unit, where these were received before
 abbrev pub IsVerdict : ℤ → List Fragment → Judgement → Type 0
 IsVerdict hold fs (Fragmented e f v) = v ≡ verdict_on hold f fs
 IsVerdict hold fs j = Unit {0}
@@ -66,7 +66,7 @@ AreVerdicts hold fs (j ∷ js) = IsVerdict hold fs j × AreVerdicts hold (entere
 abbrev pub with_judged : Story → List Judgement → Story
 with_judged s js = record { number = s.number; side = s.side; arrival = s.arrival; refusal = s.refusal; judged = js }
 
--- kept are the first of a story's judgements, and these are still to come
+-- kept are the first of a story's judgements, and these are still to follow
 pub record SoFar (c : Config) (es : List EndpointConfig) (ss : List Story) (s : Story) (left : List Heard) (r : HeardRecords) : Type 0 where
   pub done : List Judgement
   pub rest : List Judgement

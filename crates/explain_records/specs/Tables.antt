@@ -13,7 +13,7 @@ use Rattle.explain_records.specs.Turns.{first_of}
 abbrev pub is_current : ℕ → ℕ → Begun → Bool
 is_current ep seq b = is_of ep seq b.first.fragment && b.growing.is_last
 
--- where these are all beginnings: what stands in it, and the place of its beginning, if its first fragment stands and tells of a symbol
+-- where these are all beginnings: what is stored in it, and its beginning's place, if its first fragment is stored and tells of a symbol
 pub record KeepsOf (bs : List Begun) (ep seq : ℕ) (l : LastGeneration) (g : Generation) : Type 0 where
   pub start : l.start.0 ≡ g.start
   pub first : l.first ≡ option_map first_of (piece_at (standing g.held) 0)
@@ -21,7 +21,7 @@ pub record KeepsOf (bs : List Begun) (ep seq : ℕ) (l : LastGeneration) (g : Ge
   pub place : IsOnly (is_current ep seq) l.place bs
   pub none : l.first ≡ None → l.place ≡ None
 
--- of these generations, the last of which stands first
+-- of these generations, the last of which is first
 abbrev pub IsKeptOf : List Begun → ℕ → ℕ → Option LastGeneration → List Generation → Type 0
 IsKeptOf bs ep seq None [] = Unit {0}
 IsKeptOf bs ep seq None (g ∷ gs) = ⊥

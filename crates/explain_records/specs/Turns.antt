@@ -73,13 +73,13 @@ abbrev pub found : ℤ → Ticks → Option LastGeneration → LastGeneration
 found hold at None = fresh at
 found hold at (Some l) = if is_within hold l.start.0 at.0 then l else fresh at
 
--- ---- one that stands
+-- ---- one that is stored
 
 abbrev pub makes_whole : Verdict → Bool
 makes_whole Whole = true
 makes_whole _ = false
 
--- the beginning of a first fragment, with how many fragments stand with it
+-- the beginning of a first fragment, with how many fragments are stored with it
 abbrev pub beginning_of : Side → FragmentTold → ℕ → Option (Slot × ℕ) → List Beginning
 beginning_of side t pieces None = []
 beginning_of side t pieces (Some (slot, symbol)) =
@@ -107,7 +107,7 @@ last_stood t l n =
     then record { start = l.start; first = Some t.start; place = place_of t.named n; pieces = l.pieces + 1 }
     else record { start = l.start; first = l.first; place = l.place; pieces = l.pieces + 1 }
 
--- ---- and one that comes under a used sequence id
+-- ---- and one that is received under a used sequence id
 
 abbrev pub repeated_of : Side → FragmentTold → Option (Slot × ℕ) → List RepeatedRecord
 repeated_of side t None = []

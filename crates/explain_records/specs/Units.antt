@@ -1,4 +1,4 @@
--- The records of a unit's fragments, as they come (this project's profile).
+-- The records of a unit's fragments, as they are received (this project's profile).
 use Rattle.std.specs.Prelude.{◌≡◌, ℕ, ℤ, ◌+◌, ◌*◌, ◌<◌, List, ◌++◌, length, set, slice_get, Option, Some}
 use Rattle.ecpri_fragments.specs.Verdicts.{verdict_on}
 use Rattle.air_source.specs.declared.events.Side.{Side}
@@ -12,13 +12,13 @@ use Rattle.explain_records.specs.declared.told.FragmentTold.{FragmentTold}
 use Rattle.explain_records.specs.Recorded.{Recorded, backwards}
 use Rattle.explain_records.specs.Turns.{begun_next, found, last_next, repeats}
 
--- it keeps what these fragments leave, which came in this order
+-- it keeps what these fragments leave, which were received in this order
 pub record AreRecordsOf (side : Side) (hold : ℤ) (xs : List NumberedFragment) (r : FragmentRecords) : Type 0 where
   pub side_is : r.side ≡ side
   pub hold_is : r.hold.0 ≡ hold
   pub recorded : Recorded side hold xs r.last.items r.begun.items r.repeated.items
 
--- a fragment that comes after these: it has this number, this was heard of it, and its verdict is that of its unit
+-- a fragment that is received after these: it has this number, this was heard of it, and its verdict is that of its unit
 pub record Comes (hold : ℤ) (xs : List NumberedFragment) (number : ℕ) (h : FragmentHeard) (x : NumberedFragment) : Type 0 where
   pub number_is : x.number ≡ number
   pub is_heard : fragment_heard x.endpoint x.fragment x.verdict ≡ heard.Fragment h

@@ -10,10 +10,10 @@ use ecpri_fragments::Verdict;
 use explain_model::{BeginningRecord, RepeatedRecord};
 use fh_base::NoMemory;
 
-/// A first fragment that stood and tells of a symbol.
+/// A stored first fragment that tells of a symbol.
 #[derive(Clone, Copy)]
 pub(crate) struct Beginning {
-    /// Its record, with how many fragments stand in its generation now.
+    /// Its record, with how many fragments are stored in its generation now.
     pub(crate) kept: BeginningRecord,
     /// Whether its message is whole.
     pub(crate) is_whole: bool,
@@ -28,7 +28,7 @@ fn makes_whole(verdict: Verdict) -> bool
     }
 }
 
-/// Writes how many fragments stand with a beginning, and whether its message is whole.
+/// Writes how many fragments are stored with a beginning, and whether its message is complete.
 fn count(all: &mut Vec<Beginning>, place: Option<usize>, pieces: u8, is_whole: bool)
     ensures { all.new.items ≡ changed (counted pieces is_whole) place all.old.items }
 {
@@ -75,7 +75,7 @@ fn begin(
     }
 }
 
-/// Keeps a fragment that stands in a generation. After `NoMemory` nothing changed.
+/// Keeps a fragment that is stored in a generation. After `NoMemory` nothing changed.
 fn stand(
     all: &mut Vec<Beginning>,
     side: Side,
@@ -109,7 +109,7 @@ fn stand(
     }
 }
 
-/// What is kept of a fragment that was answered Repeat, where another message's first fragment stands.
+/// What is kept of a fragment that was answered Repeat, where another message's first fragment is stored.
 fn repeated(side: Side, told: &FragmentTold, first: Option<FirstBytes>) -> Option<RepeatedRecord>
     ensures { option_to_list result ≡ repeated_by side told.now first }
 {

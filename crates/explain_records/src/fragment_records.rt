@@ -24,7 +24,7 @@ const IDS: usize = 256;
 /// The time, in ticks, up to which a unit is given frames, and as long before 0.
 const MOST_TIME: i64 = 9_007_199_254_740_992;
 
-/// The fragments that came to a unit, as far as reasons need them.
+/// The fragments that were received at a unit, as far as reasons need them.
 #[derive(Drop)]
 pub struct FragmentRecords {
     side: Side,
@@ -87,7 +87,7 @@ impl FragmentRecords {
     ghost use Rattle.explain_records.specs.Units.{AreRecordsOf, Comes, Moves, Rests};
     ghost use Rattle.explain_records.specs.Turns.{told_of};
 
-    /// Takes the memory for a unit's endpoints and sequence ids; later growth takes it from `alloc`. No fragment came.
+    /// Takes the memory for a unit's endpoints and sequence ids; later growth takes it from `alloc`. No fragment was received.
     pub fn make(alloc: Global, side: Side, config: &Config) -> Result<FragmentRecords, NoMemory>
         requires { IsConfig config.now }
         ensures { IfOk result (λ r. AreRecordsOf side (hold_of side config.now.delays) [] r) }
@@ -120,8 +120,8 @@ impl FragmentRecords {
         Ok(())
     }
 
-    /// Keeps a fragment that came, in the arrival with this number. `NoMemory` is answered also for a fragment of an endpoint that the
-    /// unit has not, or at a time that a unit is not given; nothing changed then.
+    /// Keeps a fragment that was received, in the arrival with this number. `NoMemory` is answered also for a fragment of an endpoint that
+    /// the unit has not, or at a time that a unit is not given; nothing changed then.
     pub fn take(&mut self, number: u32, heard: &FragmentHeard) -> Result<(), NoMemory>
         ensures ok { OnOk result ((side : SpecSide) (hold : ℤ) (xs : List NumberedFragment) (x : NumberedFragment) → Comes hold xs number heard.now x
             → AreRecordsOf side hold xs self.old → AreRecordsOf side hold (xs ++ x ∷ []) self.new) }
@@ -134,14 +134,14 @@ impl FragmentRecords {
         }
     }
 
-    /// The messages that came under a used sequence id, in the order in which they came.
+    /// The messages that were received under a used sequence id, in the order in which they were received.
     pub fn repeated(&self) -> &[RepeatedRecord]
         ensures { (side : SpecSide) (hold : ℤ) (xs : List NumberedFragment) → AreRecordsOf side hold xs self.now → result.now ≡ repeated_after side hold [] xs }
     {
         self.repeated.as_slice()
     }
 
-    /// The messages that never became whole, in the order in which their first fragments came.
+    /// The messages that never became complete, in the order in which their first fragments were received.
     pub fn unfinished(&self, alloc: Global) -> Result<Vec<BeginningRecord>, NoMemory>
         ensures { IfOk result (λ v. (side : SpecSide) (hold : ℤ) (xs : List NumberedFragment) → AreRecordsOf side hold xs self.now → v.items ≡ beginnings_after side hold [] xs) }
     {

@@ -11,11 +11,11 @@ use fh_base::Ticks;
 pub(crate) struct LastGeneration {
     /// When it began.
     pub(crate) start: Ticks,
-    /// How its fragment of subsequence 0 begins, where that stands.
+    /// How its fragment of subsequence 0 begins, where that is stored.
     pub(crate) first: Option<FirstBytes>,
     /// The place of its beginning, where that fragment tells of a symbol.
     pub(crate) place: Option<usize>,
-    /// How many fragments stand in it.
+    /// How many fragments are stored in it.
     pub(crate) pieces: u8,
 }
 
@@ -38,7 +38,7 @@ fn fresh(at: Ticks) -> LastGeneration
     }
 }
 
-/// The generation that a fragment falls in, as it is when it comes.
+/// The generation that a fragment falls in, as it is when the fragment is received.
 pub(crate) fn found(hold: Ticks, at: Ticks, last: Option<LastGeneration>) -> LastGeneration
     ensures { result ≡ found hold.0 at last }
 {

@@ -96,7 +96,7 @@ fn nearer(first: Option<DataRecord>, next: DataRecord) -> DataRecord
     }
 }
 
-/// The block of another section id that stands at a PRB of a symbol, if one does.
+/// The block of another section id that is at a PRB of a symbol, if there is one.
 #[tactic(auto, unfolding(explain_model::specs::SilentReasons::other_reason))]
 pub(crate) fn other_reason(given: &[DataRecord], key: SymbolKey, prb: u16) -> Option<Reason>
     ensures { result ≡ other_reason given.now key prb }

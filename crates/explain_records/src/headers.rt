@@ -42,7 +42,7 @@ pub(crate) fn header_reason(headers: &[HeaderRecord], key: SymbolKey) -> Option<
     None
 }
 
-/// The first message of a symbol that came under a used sequence id, if there is one.
+/// The first message of a symbol that was received under a used sequence id, if there is one.
 pub(crate) fn repeated_reason(repeated: &[RepeatedRecord], key: SymbolKey) -> Option<Reason>
     ensures { result ≡ repeated_reason repeated.now key }
 {

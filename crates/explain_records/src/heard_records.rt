@@ -24,7 +24,7 @@ use fh_base::NoMemory;
 use std::alloc::Global;
 use window_config::{Config, Delays};
 
-/// The records of what both units heard, in the order in which it came.
+/// The records of what both units heard, in the order in which it was received.
 #[derive(Drop)]
 pub struct HeardRecords {
     delays: Delays,
@@ -34,7 +34,7 @@ pub struct HeardRecords {
     ghost limits: { IsWithinLimits delays },
 }
 
-/// Keeps messages that came under a used sequence id, behind the others.
+/// Keeps messages that were received under a used sequence id, after the others.
 fn keep_repeated(kept: &mut KeptRecords, all: &[RepeatedRecord]) -> Result<(), NoMemory>
     ensures { OnOk result (kept.new ≡ record kept.old { repeated = kept.old.repeated ++ all.now }) }
 {
@@ -44,7 +44,7 @@ fn keep_repeated(kept: &mut KeptRecords, all: &[RepeatedRecord]) -> Result<(), N
     Ok(())
 }
 
-/// Keeps messages that never became whole, behind the others.
+/// Keeps messages that never became complete, after the others.
 fn keep_begun(kept: &mut KeptRecords, all: &[BeginningRecord]) -> Result<(), NoMemory>
     ensures { OnOk result (kept.new ≡ record kept.old { begun = kept.old.begun ++ all.now }) }
 {
@@ -102,8 +102,8 @@ impl HeardRecords {
         keep_fragment(&mut self.ru, &mut self.du, side, number, heard)
     }
 
-    /// Keeps what a unit heard of an arrival with this number, in its order. What is heard was judged of the frame by what came to that
-    /// unit before it. After `NoMemory` a front part of it is kept.
+    /// Keeps what a unit heard of an arrival with this number, in its order. What is heard was judged of the frame by what was received at
+    /// that unit before it. After `NoMemory` a front part of it is kept.
     pub fn keep(&mut self, side: Side, number: u32, heard: &[Heard]) -> Result<(), NoMemory>
         requires { All IsSoundHeard heard.now }
         ensures { OnOk result ((c : SpecConfig) (ss : List Story) (s : Story) → s.side ≡ side → s.number ≡ number
@@ -116,8 +116,8 @@ impl HeardRecords {
         Ok(())
     }
 
-    /// Sorts the records by their symbols. Those that came under a used sequence id, and those that never became whole, are the radio
-    /// unit's and then the distributed unit's. `NoMemory` is answered for want of memory alone.
+    /// Sorts the records by their symbols. Those that were received under a used sequence id, and those that never became complete, are the
+    /// radio unit's and then the distributed unit's. `NoMemory` is answered for want of memory alone.
     pub fn order(self, alloc: Global) -> Result<OrderedKept, NoMemory>
         ensures { IfOk result (λ ordered. (c : SpecConfig) (ss : List Story) → HaveHeard c ss self → SameBySymbol (kept_of c ss) ordered) }
     {

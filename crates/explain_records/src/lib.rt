@@ -6,8 +6,8 @@
 //! [`SymbolRecords`] takes records in the order in which they are made. [`SymbolRecords::order`] sorts them once by their keys, and
 //! [`OrderedRecords::of_symbol`] then lends the records of one key as a slice, in the order in which they were appended.
 //!
-//! The fragments of data that came to a unit, as far as reasons need them: which messages came under a used sequence id, and which
-//! never became whole.
+//! The fragments of data that were received at a unit, as far as reasons need them: which messages were received under a used sequence id,
+//! and which never became complete.
 //!
 //! All that waits in memory of what both units heard, until the reasons of a replay are told.
 #![tactic(auto)]

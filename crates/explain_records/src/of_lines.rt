@@ -13,7 +13,7 @@ use explain_model::{
 use unit_model::{CommandVerdict, DataVerdict};
 use window_config::Class;
 
-/// How a section of data stands to its window.
+/// How a section of data relates to its window.
 fn data_class_of(verdict: DataVerdict) -> Class
     ensures { result ≡ data_class_of verdict }
 {
@@ -24,7 +24,7 @@ fn data_class_of(verdict: DataVerdict) -> Class
     }
 }
 
-/// How long after its window's closing the last arrival came, in whole nanoseconds.
+/// How long after its window's closing the last arrival was, in whole nanoseconds.
 fn late_by(timing: Timing) -> u64
     ensures { result ≡ int_gap timing.until (pos 0) }
 {
@@ -35,7 +35,7 @@ fn late_by(timing: Timing) -> u64
     }
 }
 
-/// How long before its window's opening the first arrival came, in whole nanoseconds.
+/// How long before its window's opening the first arrival was, in whole nanoseconds.
 fn early_by(timing: Timing) -> u64
     ensures { result ≡ int_gap timing.since (pos 0) }
 {
@@ -73,7 +73,7 @@ fn command_distance(verdict: CommandVerdict, timing: Timing) -> u64
     }
 }
 
-/// What is kept of a section of data that came to a unit, for the endpoint with an index.
+/// What is kept of a section of data that was received at a unit, for the endpoint with an index.
 pub fn data_record(side: Side, ep: usize, line: &DataLine) -> DataRecord
     ensures { result ≡ data_of_line side ep line.now }
 {
@@ -125,8 +125,8 @@ fn why_of(answer: &WholeAnswer) -> HeaderWhy
     }
 }
 
-/// What is kept of a whole message of data that came to a unit and was not decoded, for the endpoint with an index. None where its
-/// header names no symbol.
+/// What is kept of a complete message of data that was received at a unit and was not decoded, for the endpoint with an index. None where
+/// its header names no symbol.
 pub fn header_record(side: Side, ep: usize, line: &WholeLine) -> Option<HeaderRecord>
     ensures { result ≡ header_of_line side ep line.now }
 {

@@ -40,14 +40,14 @@ impl OrderedKept {
         self.given.as_slice()
     }
 
-    /// The sections of data of a symbol, in the order in which they came.
+    /// The sections of data of a symbol, in the order in which they were received.
     pub fn given_at(&self, key: SymbolKey) -> &[DataRecord]
         ensures { result.now ≡ filter (λ r. same_symbol (data_key r) key) self.now.given }
     {
         self.given.of_symbol(key)
     }
 
-    /// The sections of commands of a slot, in the order in which they came.
+    /// The sections of commands of a slot, in the order in which they were received.
     pub fn commanded_in(&self, key: SlotKey) -> &[CommandRecord]
         ensures { result.now ≡ filter (λ r. same_slot_key (command_key r) key) self.now.commanded }
     {

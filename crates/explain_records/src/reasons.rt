@@ -38,7 +38,7 @@ fn uplink_elements(key: SymbolKey, prb: u16) -> Asked
     }
 }
 
-/// What is known of a message that came for a PRB of a symbol, by the first rule that holds.
+/// What is known of a message that was received for a PRB of a symbol, by the first rule that holds.
 #[tactic(auto, unfolding(explain_model::specs::SilentReasons::came_reason))]
 fn came_reason(at: &AtSymbol<'_>, key: SymbolKey, prb: u16) -> Option<Reason>
     ensures { result ≡ came_reason (at_symbol at.now) key prb }
@@ -58,7 +58,7 @@ fn came_reason(at: &AtSymbol<'_>, key: SymbolKey, prb: u16) -> Option<Reason>
     unfinished_reason(at.begun, key)
 }
 
-/// Why nothing came for a PRB of a symbol: at the distributed unit by what became of the command.
+/// Why nothing was received for a PRB of a symbol: at the distributed unit by what became of the command.
 fn nothing_reason(at: &AtSymbol<'_>, key: SymbolKey, prb: u16) -> Reason
     ensures { result ≡ nothing_reason (at_symbol at.now) key.side key prb }
 {

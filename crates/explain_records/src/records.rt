@@ -116,14 +116,14 @@ impl<R: Keyed + Drop> OrderedRecords<R> {
     }
 }
 
-/// Whether the key of a record comes before one.
+/// Whether the key of a record precedes one.
 fn is_below<R: Keyed + Drop>(item: &R, wanted: OrderKey) -> bool
     ensures { result ≡ is_below R.key_of wanted item.now }
 {
     order_of(item.symbol_key()) < wanted
 }
 
-/// Whether the key of a record comes no later than one.
+/// Whether the key of a record is no later than one.
 fn is_within<R: Keyed + Drop>(item: &R, wanted: OrderKey) -> bool
     ensures { result ≡ is_within R.key_of wanted item.now }
 {

@@ -56,7 +56,7 @@ fn from_of(reason: &Reason) -> u32
     }
 }
 
-/// The number that stands beside the arrival: a section id, a distance or a sequence id.
+/// The number beside the arrival: a section id, a distance or a sequence id.
 fn detail_of(reason: &Reason) -> u64
     ensures { result ≡ detail_of reason.now }
 {

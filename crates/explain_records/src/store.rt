@@ -68,7 +68,7 @@ impl KeptRecords {
         Ok(())
     }
 
-    /// Keeps a message that came under a used sequence id. After `NoMemory` nothing changed.
+    /// Keeps a message that was received under a used sequence id. After `NoMemory` nothing changed.
     pub fn repeated(&mut self, r: RepeatedRecord) -> Result<(), NoMemory>
         ensures ok { OnOk result (self.new ≡ record self.old { repeated = self.old.repeated ++ r ∷ [] }) }
         ensures err { OnErr result (self.new ≡ self.old) }

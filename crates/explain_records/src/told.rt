@@ -1,4 +1,4 @@
-// What is told of a fragment that came.
+// What is told of a fragment that was received.
 ghost use Rattle.std.specs.Prelude.{◌≡◌, ◌==◌};
 ghost use Rattle.explain_records.specs.Turns.{named_by, same_first, told_of};
 ghost use Rattle.unit_model.specs.Decoding.{has_way};
@@ -19,7 +19,7 @@ pub(crate) struct FirstBytes {
     pub(crate) count: u8,
 }
 
-/// A fragment of data that came to a unit.
+/// A fragment of data that was received at a unit.
 #[derive(Clone, Copy)]
 pub(crate) struct FragmentTold {
     /// The number of its arrival.
@@ -47,7 +47,7 @@ pub(crate) fn same_first(a: &FirstBytes, b: &FirstBytes) -> bool
     a.bytes == b.bytes && a.count == b.count
 }
 
-/// Whether a header has the direction of what comes to a unit.
+/// Whether a header has the direction of what is received at a unit.
 fn has_way(side: Side, head: &UHead) -> bool
     ensures { result ≡ has_way side head.now }
 {

@@ -14,7 +14,7 @@ use Rattle.fh_base.specs.declared.values.Slot.{Slot}
 use Rattle.unit_model.specs.Claims.{same_slot}
 use Rattle.unit_model.proofs.ClaimLemmas.{same_slot_is}
 
--- what gives a block to a symbol stands in its chain
+-- what gives a block to a symbol is in its chain
 gives_chain : (g : Given) (id : ℕ) (slot : Slot) (symbol prb : ℕ) → gives_prb g id slot symbol prb ≡ true → given_chain g ≡ chain_of slot symbol
 gives_chain g id slot symbol prb h =
     let p1 = and_parts (g.id == id) _ h in
@@ -22,7 +22,7 @@ gives_chain g id slot symbol prb h =
     let p3 = and_parts (g.symbol == symbol) _ p2.1 in
     ap (λ (s : Slot). chain_of s g.symbol) (same_slot_is g.slot slot p2.0) ∙ ap (λ (y : ℕ). chain_of slot y) (eqb-true g.symbol symbol p3.0)
 
--- so what stands in another chain gives none
+-- so what is in another chain gives none
 other_gives : (g : Given) (id : ℕ) (slot : Slot) (symbol prb : ℕ) → (given_chain g == chain_of slot symbol) ≡ false → gives_prb g id slot symbol prb ≡ false
 other_gives g id slot symbol prb apart = by (gives_prb g id slot symbol prb) refl
   where
@@ -62,7 +62,7 @@ skip_one none gs id slot symbol prb n g is before false at =
     (other_gives g id slot symbol prb (ap (λ (x : ℕ). x == chain_of slot symbol) (sym (chain_is gs n g is)) ∙ at))
     ∙ before
 
--- what stands after the last one of the chain gives nothing
+-- what is after the last one of the chain gives nothing
 skip : (none : ℕ) (gs : List Given) (id : ℕ) (slot : Slot) (symbol prb n : ℕ) → n ≤ length gs
     → giver_or none (take n gs) id slot symbol prb ≡ giver_or none (take (last_in (chains_of gs) (chain_of slot symbol) n) gs) id slot symbol prb
 unfolding last_in
@@ -75,7 +75,7 @@ skip none gs id slot symbol prb (suc n) within = from (skip none gs id slot symb
     from before (inl (g, inside, is, at)) = skip_one none gs id slot symbol prb n g is before (chain_at (chains_of gs) n == chain_of slot symbol) refl
     from before (inr (past, is)) = absurd (omega (arith, past))
 
--- Of the first `at` what gives the block, or else this number, is what gives it of all; and the last of these stands in the chain.
+-- Of the first `at` what gives the block, or else this number, is what gives it of all; and the last of these is in the chain.
 pub record SearchesAt (gs : List Given) (id : ℕ) (slot : Slot) (symbol prb giver at : ℕ) : Type 0 where
   pub within : at ≤ length gs
   pub found : giver_or giver (take at gs) id slot symbol prb ≡ giver_of gs id slot symbol prb

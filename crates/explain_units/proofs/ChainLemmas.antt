@@ -9,7 +9,7 @@ pub step_by : (cs : List ℕ) (chain n : ℕ) → last_in cs chain (suc n) ≡ (
 unfolding last_in
 step_by cs chain n = refl
 
--- what comes after the first n changes nothing in them
+-- what is after the first n changes nothing in them
 pub last_in_front : (cs : List ℕ) (c chain n : ℕ) → n ≤ length cs → last_in (cs ++ c ∷ []) chain n ≡ last_in cs chain n
 unfolding last_in
 last_in_front cs c chain zero within = refl

@@ -17,7 +17,7 @@ use Rattle.unit_model.specs.declared.cells.Cell.{Cell}
 use Rattle.unit_model.specs.declared.cells.Claim.{Claim}
 use Rattle.unit_model.proofs.ClaimLemmas.{same_slot_is}
 
--- what claims a cell stands in the chain of its slot
+-- what claims a cell is in the chain of its slot
 names_chain : (a : Allocation) (cell : Cell) (re : ℕ) → names a cell re ≡ true → allocation_chain a ≡ slot_chain cell.slot
 names_chain a cell re h =
     let p1 = and_parts (covers a cell) _ h in
@@ -33,7 +33,7 @@ other_names a cell re apart = by (names a cell re) refl
     by true is = absurd (true≢false (sym (eq-eqb (allocation_chain a) (slot_chain cell.slot) (names_chain a cell re is)) ∙ apart))
     by false is = refl
 
--- the last of some comes first where the newest does
+-- the last of some is first where the newest is
 onto_last : (earlier xs : List Allocation) (x : Allocation) → onto earlier (xs ++ x ∷ []) ≡ x ∷ onto earlier xs
 unfolding onto
 onto_last earlier [] x = refl
@@ -72,7 +72,7 @@ same_claimed accepted cell re k within apart = from (slice_get_cases accepted k)
         (other_names a cell re (ap (λ (x : ℕ). x == slot_chain cell.slot) (sym (chain_is accepted k a is)) ∙ apart))
     from (inr (past, is)) = absurd (omega (arith, past))
 
--- The claim by the first `at` is that by all; and the last of these stands in the chain.
+-- The claim by the first `at` is that by all; and the last of these is in the chain.
 pub record ClaimsAt (accepted : List Allocation) (cell : Cell) (re at : ℕ) : Type 0 where
   pub within : at ≤ length accepted
   pub found : claimed accepted cell re at ≡ claim_at (onto [] accepted) cell re

@@ -1,4 +1,4 @@
--- Which arrival gave a PRB its block, by the sections of data on time in the order in which they came.
+-- Which arrival gave a PRB its block, by the sections of data on time in the order in which they were received.
 use Rattle.std.specs.Prelude.{unsigned_abs, ℕ, ◌+◌, ◌*◌, ◌%◌, ◌==◌, Bool, ◌&&◌, if◌then◌else◌, List, [], ◌∷◌, pos}
 use Rattle.std.specs.Int.{int_rem_euclid}
 use Rattle.explain_units.specs.declared.blocks.Given.{Given}
@@ -25,7 +25,7 @@ fresh_count gs g = passing g.first g.count (λ prb. giver_of gs g.id g.slot g.sy
 
 -- ---- chains
 
--- the one of 32,768 chains in which what is given for a symbol stands
+-- the one of 32,768 chains in which what is given for a symbol is kept
 abbrev pub chain_of : Slot → ℕ → ℕ
 chain_of slot symbol = ((unsigned_abs (int_rem_euclid slot.frame (pos 16)) * 16 + slot.subframe % 16) * 8 + slot.slot % 8) * 16 + symbol % 16
 

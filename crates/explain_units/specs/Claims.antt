@@ -17,7 +17,7 @@ first_id claims = cell_id claims
 
 -- ---- chains
 
--- the one of 2,048 chains in which the sections of a slot stand
+-- the one of 2,048 chains in which the sections of a slot are kept
 abbrev pub slot_chain : Slot → ℕ
 slot_chain slot = (unsigned_abs (int_rem_euclid slot.frame (pos 16)) * 16 + slot.subframe % 16) * 8 + slot.slot % 8
 

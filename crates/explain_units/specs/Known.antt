@@ -1,4 +1,4 @@
--- What lines say of earlier judgements of a unit, as they come.
+-- What lines say of earlier judgements of a unit, as they are given.
 use Rattle.std.specs.Prelude.{◌≡◌, ℕ, List, [], ◌∷◌, ◌++◌, map, Option, Some, None}
 use Rattle.air_source.specs.declared.events.Side.{Side}
 use Rattle.explain_units.specs.Blocks.{fresh_count}

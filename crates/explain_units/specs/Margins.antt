@@ -1,4 +1,4 @@
--- The margins of a unit's endpoints, as sections come.
+-- The margins of a unit's endpoints, as sections are received.
 use Rattle.std.specs.Prelude.{List, map, ℕ, ◌==◌, Bool, not, ◌||◌, if◌then◌else◌, pos}
 use Rattle.explain_units.specs.declared.kept_margins.EndpointMargins.{EndpointMargins}
 use Rattle.explain_model.specs.declared.places.Timing.{Timing}

@@ -25,7 +25,7 @@ pub struct Given {
 /// How many chains there are.
 const CHAINS: usize = 32_768;
 
-// The chain in which what is given for a symbol stands.
+// The chain in which what is given for a symbol is kept.
 fn chain_of(slot: &Slot, symbol: u8) -> usize
     ensures value { result ≡ chain_of slot.now symbol }
     ensures within { result < 32768 }
@@ -46,7 +46,7 @@ fn gives_prb(given: &Given, id: u16, slot: &Slot, symbol: u8, prb: u16) -> bool
         && is_from(given.first, given.count, prb)
 }
 
-// The arrival that gave the PRB its block where an earlier one comes to stand before what was found.
+// The arrival that gave the PRB its block where an earlier one is put before what was found.
 fn earlier_giver(given: &Given, id: u16, slot: &Slot, symbol: u8, prb: u16, giver: u32) -> u32
     ensures { result ≡ (if gives_prb given.now id slot.now symbol prb then given.now.number else giver) }
 {
@@ -75,7 +75,7 @@ fn giver_in(all: &Chains<Given>, id: u16, slot: &Slot, symbol: u8, prb: u16) -> 
 }
 
 /// The sections of data that were on time, as far as they say which PRBs have blocks. Contracts see them as the list of them, in the
-/// order in which they came.
+/// order in which they were received.
 #[derive(Drop)]
 pub struct Blocks {
     given: Chains<Given>,

@@ -1,4 +1,4 @@
-// Things of which many stand in chains.
+// Things of which many are in chains.
 ghost use Rattle.std.specs.Prelude.{◌≡◌, ℕ, ◌<◌, ◌≤◌, ◌++◌, [], ◌∷◌, length, IfOk, OnOk, OnErr, slice_get, Some, vec_len};
 ghost use Rattle.explain_units.specs.Chains.{chain_at, last_in};
 
@@ -15,7 +15,7 @@ pub(crate) struct Link<T: Drop> {
     item: T,
 }
 
-/// Things in the order in which they came, each in one of so many chains.
+/// Things in the order in which they were added, each in one of so many chains.
 #[derive(Drop)]
 pub(crate) struct Chains<T: Drop> {
     links: Vec<Link<T>>,
@@ -52,7 +52,7 @@ impl<T: Drop> Chains<T> {
         })
     }
 
-    /// One more comes, in this chain. After `NoMemory` all is as before.
+    /// One more is added, in this chain. After `NoMemory` all is as before.
     #[tactic(auto, using(crate::proofs::LinkLemmas::pushed))]
     pub(crate) fn push(&mut self, chain: usize, item: T) -> Result<(), NoMemory>
         requires { chain < self.old.count }

@@ -17,7 +17,7 @@ use unit_model::{Allocation, is_from, same_slot};
 /// How many chains there are.
 const CHAINS: usize = 2_048;
 
-// The chain in which the sections of a slot stand.
+// The chain in which the sections of a slot are kept.
 fn slot_chain(slot: &Slot) -> usize
     ensures value { result ≡ slot_chain slot.now }
     ensures within { result < 2048 }

@@ -78,7 +78,7 @@ impl Model for Ear {
 impl Ear {
     ghost use Rattle.explain_units.specs.Ears.{HearsFor};
 
-    /// Takes the memory of a unit. No frame came.
+    /// Takes the memory of a unit. No frame was received.
     pub(crate) fn make(alloc: Global, side: Side, config: &Config) -> Result<Ear, NoMemory>
         requires { IsConfig config.now }
         ensures { IfOk result (λ e. HearsFor side config.now [] e) }
@@ -92,8 +92,8 @@ impl Ear {
         })
     }
 
-    /// Judges a frame that arrives at a time, and gives its refusal, if it has one. `NoMemory` where a frame came later than that, where
-    /// it is no time that a unit may be given, and where memory is or was refused.
+    /// Judges a frame that arrives at a time, and gives its refusal, if it has one. `NoMemory` where a frame was received later than that,
+    /// where it is no time that a unit may be given, and where memory is or was refused.
     pub(crate) fn arrive(&mut self, at: Ticks, frame: &[u8]) -> Result<Option<PduRefusal>, NoMemory>
         ensures after { OnOk result ((side : SpecSide) (c : SpecConfig) (arrivals : List Arrival) → HearsFor side c arrivals self.old
             → HearsFor side c (arrival_at at.0 frame.now ∷ arrivals) self.new) }

@@ -1,4 +1,4 @@
-// How near to the ends of their windows the sections of each endpoint came.
+// How near to the ends of their windows the sections of each endpoint were received.
 ghost use Rattle.std.specs.Prelude.{◌≡◌, map, IfOk, IfSome, OnOk, pos};
 ghost use Rattle.std.specs.Int.{int_gap};
 ghost use Rattle.explain_units.specs.Margins.{added, is_of_some, no_margins, with_one};

@@ -37,7 +37,7 @@ impl UnitLines {
     ghost use Rattle.explain_heard.specs.Stops.{StopsSome};
     ghost use Rattle.explain_units.specs.Units.{IsUnitAfter, frame_lines, judged_next};
 
-    /// Takes the memory of a unit. Nothing came.
+    /// Takes the memory of a unit. Nothing was received.
     ///
     /// # Errors
     ///
@@ -56,8 +56,8 @@ impl UnitLines {
     ///
     /// # Errors
     ///
-    /// [`AirFault::NoMemory`] before any line where a frame came later than that or where it is no time that a unit may be given, and
-    /// where memory runs out; what the sink answers else. The sink took the first of the lines.
+    /// [`AirFault::NoMemory`] before any line where a frame was received later than that or where it is no time that a unit may be given,
+    /// and where memory runs out; what the sink answers else. The sink took the first of the lines.
     pub fn hear<W: LineSink>(
         &mut self,
         number: u32,

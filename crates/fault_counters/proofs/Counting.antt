@@ -55,7 +55,7 @@ set_once counts i v n below old = elim (cases_eq i v) [
       rw t (get_or-set_other counts i v (min (get_or counts i 0 + 1) (2 ^ 64 - 1)) 0 other ∙ old ∙ omega arith)
 ]
 
--- a counter that stands at a number, or at the greatest u64 where that is larger, counts one more addition
+-- a counter that is at a number, or at the greatest u64 where that is larger, counts one more addition
 pub bumped_from : (counts : List ℕ) (c d : Counter) (n : ℕ) → length counts ≡ 33 → count_of counts d ≡ capped n → count_of (bumped counts c) d ≡ capped (n + once c d)
 bumped_from counts c d n size old = set_once counts (index_of c) (index_of d) n (omega (arith, size, index_below c)) old
 

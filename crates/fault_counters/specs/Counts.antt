@@ -19,7 +19,7 @@ once c d = if index_of c == index_of d then 1 else 0
 abbrev pub bumped : List ℕ → Counter → List ℕ
 bumped counts c = slice_set counts (index_of c) (capped (count_of counts c + 1))
 
--- how often a counter stands in a list of additions
+-- how often a counter is in a list of additions
 abbrev pub times : List Counter → Counter → ℕ
 times [] d = 0
 times (c ∷ earlier) d = times earlier d + once c d

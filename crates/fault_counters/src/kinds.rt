@@ -44,7 +44,7 @@ pub enum Counter {
     FStored,
     /// Fragments that made their message whole.
     FWhole,
-    /// Fragments that stand already, or of a message that is whole.
+    /// Fragments that are stored already, or of a message that is complete.
     FRepeat,
     /// Fragments beyond the last one of their message, or a last one before others.
     FStray,
@@ -68,14 +68,14 @@ pub enum Counter {
     DelayShort,
     /// Delay measurement messages that fit no exchange.
     DelayUnknown,
-    /// Delay measurement messages that came again.
+    /// Delay measurement messages that were received again.
     DelayRepeat,
     /// Delays that were measured.
     DelayResult,
 }
 
 impl Counter {
-    /// All counters in their order, each once: every counter stands at its own index.
+    /// All counters in their order, each once: every counter is at its own index.
     pub fn all() -> [Counter; 33]
         ensures order { result ≡ all_counters }
         ensures each { (c : Counter) → slice_get result (index_of c) ≡ Some c }

@@ -18,13 +18,13 @@ pub carried_front : (written : Option (List ℕ)) (owed text : List ℕ) (now : 
 carried_front written owed text now owed_now h =
     subst (λ (t : List ℕ). WritesFront written now t) h.splits (front_first written now h.pushed owed_now (front_whole written now h.pushed h.writes))
 
--- a front of what is owed, behind what was written, is one of what was owed and the text
+-- a front of what is owed, after what was written, is one of what was owed and the text
 pub front_pushed : (written : Option (List ℕ)) (owed text : List ℕ) (middle : Option (List ℕ)) (owed_now : List ℕ) (now : Option (List ℕ))
     → Carried written owed text middle owed_now → WritesFront middle now owed_now → WritesFront written now (owed ++ text)
 front_pushed written owed text middle owed_now now h front =
     subst (λ (t : List ℕ). WritesFront written now t) h.splits (front_second written middle now h.pushed owed_now h.writes front)
 
--- a front of what is owed and more, behind what was written, is one of the text and more
+-- a front of what is owed and more, after what was written, is one of the text and more
 pub front_behind : (written : Option (List ℕ)) (owed text : List ℕ) (middle : Option (List ℕ)) (owed_now more : List ℕ) (now : Option (List ℕ))
     → Carried written owed text middle owed_now → WritesFront middle now (owed_now ++ more) → WritesFront written now (owed ++ (text ++ more))
 front_behind written owed text middle owed_now more now h front =
@@ -36,7 +36,7 @@ front_behind written owed text middle owed_now more now h front =
     behind_splits written owed text middle owed_now more h =
         sym (append_assoc h.pushed owed_now more) ∙ ap (λ x. x ++ more) h.splits ∙ append_assoc owed text more
 
--- all of what is owed and more, behind what was written, is the text and more
+-- all of what is owed and more, after what was written, is the text and more
 pub all_behind : (written : Option (List ℕ)) (owed text : List ℕ) (middle : Option (List ℕ)) (owed_now more : List ℕ) (now : Option (List ℕ))
     → Carried written owed text middle owed_now → now ≡ append_known middle (owed_now ++ more) → now ≡ append_known written (owed ++ (text ++ more))
 all_behind written owed text middle owed_now more now h whole =

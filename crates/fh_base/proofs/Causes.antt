@@ -16,12 +16,12 @@ pub counts_later : (failed : Bool) (before now : ℕ) → Counts failed before n
 counts_later true before now counts = counts.0
 counts_later false before now counts = omega (arith, counts)
 
--- a count that stood until the middle is counted from before
+-- a count that did not change until the middle is counted from before
 pub counts_since : (failed : Bool) (before middle now : ℕ) → middle ≡ before → Counts failed middle now → Counts failed before now
 counts_since true before middle now still counts = (omega (arith, still, counts.0), omega (arith, still, counts.1))
 counts_since false before middle now still counts = omega (arith, still, counts)
 
--- a cause since the counts stood still is one since before
+-- where the counts did not change until the middle, a cause since the middle is one since before
 pub sink_cause_since : {T : Type 0} (before middle now refused_before refused_middle refused_now : ℕ) (result : Result T SinkFault) → middle ≡ before → refused_middle ≡ refused_before
     → HasSinkCause middle now refused_middle refused_now result → HasSinkCause before now refused_before refused_now result
 sink_cause_since before middle now refused_before refused_middle refused_now result still refused_still cause = record {

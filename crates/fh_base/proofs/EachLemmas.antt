@@ -43,7 +43,7 @@ each_more n f =
     let place : 0 + n ≡ n = omega arith in
     each_split 0 n 1 f ∙ ap (λ xs. each 0 n f ++ xs) (append-nil (f (0 + n)) ∙ ap f place)
 
--- as far as a loop has come that appends
+-- as far as a loop has gone that appends
 pub none_yet : {A : Type 0} (xs : List A) (f : ℕ → List A) → xs ≡ xs ++ each 0 0 f
 none_yet xs f = sym (ap (λ ys. xs ++ ys) (each_zero 0 f) ∙ append-nil xs)
 

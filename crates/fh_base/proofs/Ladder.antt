@@ -59,7 +59,7 @@ signed_parts (negsuc n) = refl
 pub signed_digits : (front : List ℕ) (size : ℕ) (z : ℤ) → size ≡ unsigned_abs z → (front ++ (if lt_z z (pos 0) then 45 ∷ [] else [])) ++ decimal size ≡ front ++ signed_decimal z
 signed_digits front size z is = rw is (append_assoc front _ _ ∙ ap (λ t. front ++ t) (signed_parts z))
 
--- what stands before a place, and so many of the bytes written from there
+-- what is before a place, and so many of the bytes written from there
 pub taken_part : (front bytes new : List ℕ) (at size count : ℕ) → length front ≡ at → count ≤ size → take (at + size) new ≡ front ++ bytes → take (at + count) new ≡ front ++ take count bytes
 taken_part front bytes new at size count long most is =
     sym (take-take (at + count) (at + size) new (omega arith))

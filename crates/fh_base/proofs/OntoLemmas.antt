@@ -1,4 +1,4 @@
--- Lists that come in order, of which the newest is first.
+-- Lists whose items are added in order, and of which the newest is first.
 use Rattle.std.proofs.Common.{◌≡◌, ℕ, ◌+◌, List, [], ◌∷◌, ◌++◌, take, length, get_or, ◌<◌, refl, ap, ◌∙◌}
 use Rattle.std.proofs.lemmas.List.{take_more}
 use Rattle.fh_base.specs.Lists.{onto}

@@ -269,7 +269,7 @@ pub next_in_subframe : (n : Numerology) (a : Slot) (frame : ℤ) → frame ≡ a
     → slot_number n (record { frame = frame; subframe = a.subframe; slot = a.slot + 1 }) ≡ slot_number n a +ℤ pos 1
 next_in_subframe n a frame e = rw e (omega (arith, ints))
 
--- the first slot of a subframe comes after the last of the one before it
+-- the first slot of a subframe is after the last of the one before it
 pub next_subframe : (n : Numerology) (a : Slot) (frame : ℤ) (subframe : ℕ) → a.slot < slots_of n → slots_of n ≤ a.slot + 1
     → frame *ℤ pos 10 +ℤ pos subframe ≡ a.frame *ℤ pos 10 +ℤ pos a.subframe +ℤ pos 1
     → slot_number n (record { frame = frame; subframe = subframe; slot = 0 }) ≡ slot_number n a +ℤ pos 1

@@ -34,7 +34,7 @@ pub carried_one_more : {X : Type 0} (f : X → List ℕ) (xs : List X) (i : ℕ)
 carried_one_more f xs i x d w v u o p q below is before now =
     subst (λ (t : List ℕ). Carried w o t u q) (texts_more f xs i x d below is) (carried_more w v u o p q (flat_map f (take i xs)) (f x) before now)
 
--- a front of one item's text was told behind those before it
+-- a front of one item's text was told after those before it
 pub cut_at : {X : Type 0} (f : X → List ℕ) (xs : List X) (i : ℕ) (x d : X) (w v u : Option (List ℕ)) (o p : List ℕ) → i < length xs → x ≡ get_or xs i d
     → Carried w o (flat_map f (take i xs)) v p → WritesFront v u (p ++ f x) → WritesFront w u (o ++ flat_map f xs)
 cut_at f xs i x d w v u o p below is before front =

@@ -6,7 +6,7 @@ use lib.Ieee.Fits.{and_l, and_r}
 use Rattle.fh_base.specs.declared.small_numbers.TheConstants.{ROWS}
 use Rattle.fh_base.proofs.Ladder.{decimal_one, decimal_two, decimal_three}
 
--- what stands in a row, by whether the number is below 10 and below 100
+-- what is in a row, by whether the number is below 10 and below 100
 abbrev row_by : Bool → Bool → ℕ → ℕ → ℕ → ℕ → ℕ → Bool
 row_by true few n a b c d = eqb d 49 && eqb a (48 + n % 10)
 row_by false true n a b c d = eqb d 50 && (eqb a (48 + n / 10 % 10) && eqb b (48 + n % 10))

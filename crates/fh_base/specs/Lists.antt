@@ -27,12 +27,12 @@ abbrev pub or_else : {A : Type 0} → Option A → Option A → Option A
 or_else None y = y
 or_else (Some x) y = Some x
 
--- a list of which the newest comes first, after these came in their order
+-- a list of which the newest is first, after these were added in their order
 unfoldable pub onto : {A : Type 0} → List A → List A → List A
 onto earlier [] = earlier
 onto earlier (x ∷ xs) = onto (x ∷ earlier) xs
 
--- x, which came before these, stands behind those that are below it
+-- x, which was before these, is put after those that are below it
 unfoldable pub put_in : {A : Type 0} → (A → A → Bool) → A → List A → List A
 put_in below x [] = x ∷ []
 put_in below x (y ∷ ys) = if below y x then y ∷ put_in below x ys else x ∷ y ∷ ys

@@ -1,4 +1,4 @@
--- The words of a line: decimal numbers behind a space, and lower-case hexadecimal digits, as many as the place wants.
+-- The words of a line: decimal numbers after a space, and lower-case hexadecimal digits, as many as the place wants.
 use Rattle.std.specs.Prelude.{ℕ, ℤ, ◌/◌, ◌%◌, List, [], ◌∷◌, ◌++◌, codes, decimal}
 use Rattle.std.specs.Char.{digit_char}
 use Rattle.std.specs.Fmt.{signed_decimal}

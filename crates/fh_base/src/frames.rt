@@ -9,7 +9,7 @@ pub const FRAME: i64 = 15_360_000_000;
 /// A unit's clock begins one frame before 0.
 pub const FIRST_CLOCK: Ticks = Ticks(-FRAME);
 
-/// Half of the time in which each frameId comes once, which is 1.28 s.
+/// Half of the time in which each frameId occurs once, which is 1.28 s.
 pub const HALF_CYCLE: i64 = 1_966_080_000_000;
 
 /// The absolute frame that a frameId means at a time: the one frame with these low 8 bits whose start lies from 1.28 s

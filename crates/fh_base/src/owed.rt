@@ -58,7 +58,7 @@ impl OwedBytes {
         self.len = 0;
     }
 
-    // Owes a text that fits behind what is owed.
+    // Owes a text that fits after what is owed.
     #[inline]
     fn append(&mut self, text: &[u8])
         requires { length self.old + length text.now ≤ ROOM }
@@ -99,7 +99,7 @@ impl OwedBytes {
         Ok(())
     }
 
-    // A text that does not fit behind what is owed, but fits alone, is owed once that was written.
+    // A text that does not fit after what is owed, but fits alone, is owed once that was written.
     fn owe_alone<K: Sink>(&mut self, text: &[u8], sink: &mut K) -> Result<(), SinkFault>
         requires { length text.now ≤ ROOM }
         ensures carried { OnOk result (Carried (K.written sink.old) self.old text.now (K.written sink.new) self.new) }
@@ -114,7 +114,7 @@ impl OwedBytes {
         Ok(())
     }
 
-    // A text that is longer than the room is written directly behind what is owed.
+    // A text that is longer than the room is written directly after what is owed.
     fn pass<K: Sink>(&mut self, text: &[u8], sink: &mut K) -> Result<(), SinkFault>
         ensures carried { OnOk result (Carried (K.written sink.old) self.old text.now (K.written sink.new) self.new) }
         ensures owed { OnOk result (self.new ≡ []) }
@@ -129,7 +129,7 @@ impl OwedBytes {
         Ok(())
     }
 
-    /// Owes a text of any length behind what is owed.
+    /// Owes a text of any length after what is owed.
     ///
     /// Where both fit the room nothing is written. Else what is owed is written, and the text is owed
     /// alone; one that is longer than the room is written too.

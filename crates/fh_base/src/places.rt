@@ -1,4 +1,4 @@
-// Numbers that are written at a place among bytes. Each call answers where its text ends; what stands after that may be anything.
+// Numbers that are written at a place among bytes. Each call answers where its text ends; what is after that may be anything.
 ghost use Rattle.std.specs.Prelude.{◌≡◌, ◌+◌, ◌<◌, ◌≤◌, take, length, [], ◌∷◌, ◌++◌, decimal, unsigned_abs, if◌then◌else◌};
 ghost use Rattle.std.specs.Fmt.{signed_decimal};
 ghost use Rattle.fh_base.specs.Words.{spaced_text, spaced_pair_text};
@@ -10,7 +10,7 @@ use itoa::Buffer;
 /// How many bytes a line has room for.
 pub(crate) const ROOM: usize = 512;
 
-/// Writes a byte, which counts or is written over by what comes next.
+/// Writes a byte, which counts or is written over by what is written next.
 #[inline(always)]
 fn put_if(into: &mut [u8; ROOM], at: usize, byte: u8, counts: bool) -> usize
     requires { at < 512 }
@@ -43,7 +43,7 @@ pub(crate) fn put_text(into: &mut [u8; ROOM], at: usize, text: &[u8]) -> usize
     at + text.len()
 }
 
-/// Writes a number below 1,000 in decimal. What stands after its last digit is written over by what comes next.
+/// Writes a number below 1,000 in decimal. What is after its last digit is written over by what is written next.
 #[inline(always)]
 fn put_three(into: &mut [u8; ROOM], at: usize, n: u32) -> usize
     requires small { n < 1000 }

@@ -6,7 +6,7 @@ use Rattle.std.specs.List.{list_any}
 use Rattle.std.proofs.lemmas.Option.{slice_get_cases}
 use Rattle.std.proofs.lemmas.List.Folds.{list_any_at, list_any_more}
 
--- what is found at an index is what stands there
+-- what is found at an index is what is there
 test_at : {A : Type 0} (p : A → Bool) (xs : List A) (k : ℕ) (b : Bool) → k < length xs → b ≡ option_map_or p (slice_get xs k) false → (x : A) × (b ≡ p (get_or xs k x))
 test_at {A} p xs k b lt is = either (slice_get_cases xs k).1
   where

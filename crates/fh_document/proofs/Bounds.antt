@@ -1,4 +1,4 @@
--- What a value is known to be where no reason came.
+-- What a value is known to be where no reason was given.
 use Rattle.std.proofs.Common.{◌≡◌, ℕ, ◌≤◌, List, Bool, true, false, Option, Some, None, refl, arith}
 use Rattle.std.specs.Prelude.{ℤ, pos, ◌≤ℤ◌, Result, Ok, Err, IfOk, IfSome, if◌then◌else◌, int_lt}
 use Rattle.std.proofs.lemmas.Int.{ints}

@@ -53,7 +53,7 @@ inject_is r i h =
     ∙ then_ok (time_at 0 LAST_TIME (inject_words i) 2) i.at _ (time_ok i.at h.time)
     ∙ then_some (frame_of (frame_word i.frame)) why.Number i.frame _ (frame_is i.frame h.bytes h.short)
 
--- where no measurement stands, a frame may be injected
+-- where no measurement is listed, a frame may be injected
 may_inject : (a b c d : Bool) → (if a then 4 else (if b then 3 else (if c then 2 else (if d then 1 else 0)))) ≤ 4
 may_inject true b c d = omega arith
 may_inject false true c d = omega arith
@@ -61,7 +61,7 @@ may_inject false false true d = omega arith
 may_inject false false false true = omega arith
 may_inject false false false false = omega arith
 
--- the frames that stand, and one more
+-- the frames that are listed, and one more
 line_adds : (r : Said) (so_far : List Injection) (n : ℕ) (i : Injection) → n ≢ 1 → IsFrame i → r.measures ≡ []
     → line_of (with_frames r so_far) n (inject_text i) ≡ Ok (with_frames r (so_far ++ i ∷ []))
 line_adds r so_far n i later h none =

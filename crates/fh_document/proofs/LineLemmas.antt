@@ -19,7 +19,7 @@ other n h = grind (arith, nat_tests)
 in_time : (rank latest : ℕ) → latest ≤ rank → nat_lt rank latest ≡ false
 in_time rank latest h = grind (arith, nat_tests)
 
--- a line of words behind line 1, of a kind that may stand there
+-- a line of words after line 1, of a kind that may be there
 pub line_is : (r : Said) (n : ℕ) (k : Kind) (ws : List (List ℕ)) → n ≢ 1 → list_all is_word ws ≡ true → is_skipped ws ≡ false → keyword_of r.version ws ≡ Some k
     → reached r ≤ rank_of k → line_of r n (spaced ws) ≡ keyword_line r n k ws
 unfolding line_of

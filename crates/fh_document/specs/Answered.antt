@@ -8,7 +8,7 @@ use Rattle.fh_document.specs.declared.refusals.LineFault.TheVariants as fault
 use Rattle.fh_document.specs.declared.refusals.DocFault.{DocFault}
 use Rattle.fh_document.specs.declared.refusals.DocFault.TheVariants as doc
 
--- what was read became the wanted one, or the wanted reason came
+-- what was read became the wanted one, or the wanted reason was given
 abbrev pub Refuses : Result Reading DocWhy → Result (Unit {0}) DocWhy → Reading → Type 0
 Refuses wanted (Ok u) new = wanted ≡ Ok new
 Refuses wanted (Err why) new = wanted ≡ Err why

@@ -1,4 +1,4 @@
--- Configuration lines: what each makes of the settings, and the settings where none stands.
+-- Configuration lines: what each makes of the settings, and the settings where there is none.
 use Rattle.std.specs.Prelude.{◌≡◌, ℕ, ℤ, pos, ◌+◌, List, length, Bool, true, false, ◌&&◌, ◌==◌, if◌then◌else◌, Option, Some, None, Result, Ok, Err, codes, int_lt, refl}
 use Rattle.std.specs.Str.{bytes_eq}
 use Rattle.std.proofs.lemmas.Bool.{eqb-true}

@@ -40,7 +40,7 @@ plan_text n e = kind_words n e ++ slot_text n ++ codes " 0 14 0 106 fff" ++ spac
 abbrev pub plans_text : ℕ → List ℕ
 plans_text n = each (plan_text n) 4
 
--- one frame of data in ten, which comes twice
+-- one frame of data in ten, which is received twice
 abbrev pub deliver_text : ℕ → ℕ → List ℕ
 deliver_text seed j = codes "deliver dl u" ++ spaced_text (1 + 10 * j + seed % 10) ++ codes " 50000 60000\n"
 

@@ -1,4 +1,4 @@
--- Lines as a program writes them: words with one space between two, and a line feed behind each line.
+-- Lines as a program writes them: words with one space between two, and a line feed after each line.
 use Rattle.std.specs.Prelude.{ℕ, List, [], ◌∷◌, ◌++◌, Bool, ◌&&◌, nat_lt, nat_le, length}
 use Rattle.std.specs.List.{list_all}
 

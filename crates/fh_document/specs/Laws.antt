@@ -52,7 +52,7 @@ pub record IsFrame (i : Injection) : Type 0 where
 abbrev pub InjectionsAreRead : Type 0
 InjectionsAreRead = (is : List Injection) → All IsFrame is → document_of (injections_text is) ≡ Ok (document_with is)
 
--- a line of a plan behind line 1, where no line of a later kind stands: it plans what was written
+-- a line of a plan after line 1, where there is no line of a later kind: it plans what was written
 abbrev pub PlansAreRead : Type 0
 PlansAreRead = (r : Said) (n : ℕ) (line : PlanLine) → n ≢ 1 → reached r ≤ 2 → IsPlanLine line → line.id < 2 ^ 16 → line.num_prb < 2 ^ 8
     → line_of r n (spaced (plan_words line)) ≡ planned r n line

@@ -49,7 +49,7 @@ setting_line r s ws =
     if is_seen r s then Err why.Twice
     else set_of r.version r.settings s ws >>= (λ settings. Ok (configured r s settings))
 
--- the latest kind of the lines that stand
+-- the latest kind of the lines that were read
 abbrev pub reached : Reading → ℕ
 reached r =
     if nat_lt 0 (length r.measures) then 5
@@ -59,7 +59,7 @@ reached r =
     else (if nat_lt 0 (length r.endpoints) then 1
     else 0))))
 
--- a line of a later kind stands already
+-- a line of a later kind was read already
 abbrev pub comes_late : Reading → Keyword → Bool
 comes_late r k = nat_lt (rank_of k) (reached r)
 

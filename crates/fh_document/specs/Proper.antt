@@ -63,7 +63,7 @@ pub record IsDelivery (d : Delivery) : Type 0 where
   pub few : length d.copies ≤ 8
   pub times : All (IsFrom (least_of d.class) MOST_TRANSIT) d.copies
 
--- none is of the frame of one behind it
+-- none is of the frame of one after it
 abbrev pub AreApart : List Delivery → Type 0
 AreApart [] = Unit {0}
 AreApart (d ∷ ds) = (has_like d ds ≡ false) × AreApart ds

@@ -1,4 +1,4 @@
--- What laws above this crate call what stands here while a text is read.
+-- What laws above this crate call what is here while a text is read.
 use Rattle.std.specs.Prelude.{List}
 use Rattle.fh_document.specs.declared.document.Injection.{Injection}
 use Rattle.fh_document.specs.declared.document.Reading.{Reading}

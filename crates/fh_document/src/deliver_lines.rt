@@ -45,7 +45,7 @@ fn has_deliver_count(words: &Words<'_>) -> bool
     words.len() >= 4 && words.len() <= 12
 }
 
-/// The times that the words behind the first four spell. None where one of them spells none from `low` on.
+/// The times that the words after the first four spell. None where one of them spells none from `low` on.
 fn times_of(words: &Words<'_>, low: u64) -> Option<Copies>
     requires { length words.now ≤ 12 }
     ensures { result ≡ times_of low (drop 4 words.now) }

@@ -29,7 +29,7 @@ pub struct ListFull;
 /// How long each copy of a frame is on its way, in nanoseconds: at most eight times. Contracts see them as a list.
 #[derive(Drop)]
 pub struct Copies {
-    /// The times; what stands after the last of them is none.
+    /// The times; what is after the last of them is none.
     times: [u32; 8],
     /// How many times there are.
     count: u8,

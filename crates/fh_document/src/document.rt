@@ -102,7 +102,7 @@ pub(crate) enum Version {
 pub(crate) struct Reading {
     pub(crate) version: Version,
     pub(crate) settings: Settings,
-    /// Which configuration keywords stand already, by their numbers.
+    /// Which configuration keywords are listed already, by their numbers.
     pub(crate) seen: [bool; 18],
     pub(crate) endpoints: EndpointList,
     pub(crate) plan: List<PlanLine>,

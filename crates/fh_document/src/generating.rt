@@ -138,7 +138,7 @@ fn put_deliveries(text: &mut Bytes, seed: u32, slots: u32) -> Result<(), NoMemor
 }
 
 /// Writes the document of a seed and a number of slots from 1 to 400: four endpoints of 30 kHz with 106 PRBs in block floating
-/// point, each with a line of the plan for each slot, and of each slot one frame of data that comes twice.
+/// point, each with a line of the plan for each slot, and of each slot one frame of data that is received twice.
 pub fn write(alloc: Global, seed: u32, slots: u32) -> Result<Bytes, NoMemory>
     requires some { 1 ≤ slots }
     requires most { slots ≤ 400 }

@@ -45,7 +45,7 @@ fn values_of(digits: &[u8; DIGITS]) -> [u8; DIGITS]
     values
 }
 
-/// Puts a row of the bytes that values join to behind the rows before it.
+/// Puts a row, of the bytes that values join to, after the rows before it.
 #[inline(always)]
 fn put_row(row: usize, values: &[u8; DIGITS], bytes: &mut [u8; BYTES])
     requires row { ROW * row < BYTES }

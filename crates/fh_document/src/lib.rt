@@ -5,7 +5,7 @@
 //! bytes of an injected frame take memory. [`write`] writes a document from a seed and a number of slots. By laws of the grammar,
 //! stated in `specs/` and proved as lemmas in `proofs/`, what a program wrote is read back.
 //!
-//! Beside the grammar stand the lines of a report ([`cell_line`], [`delay_line`], [`count_line`]) and the samples that a [`Tone`]
+//! Beside the grammar are the lines of a report ([`cell_line`], [`delay_line`], [`count_line`]) and the samples that a [`Tone`]
 //! gives, of `air_source`.
 //!
 //! What the text of a document gives beside its limits: which spacings its endpoints have, and how great the numbers of its lines are.

@@ -257,7 +257,7 @@ fn finished(reading: Reading) -> Document
 /// Reads a document, in the grammar of `fronthaul 1`, `fronthaul 2` or `fronthaul 3`, as its first line says.
 ///
 /// The answer is what the lines say, or the first line that is refused with its first reason, or want of memory. A document that
-/// is read is within its limits: the configuration is, no id stands twice, and each number is within its range.
+/// is read is within its limits: the configuration is, no id is listed twice, and each number is within its range.
 pub fn read(alloc: Global, bytes: &[u8]) -> Result<Document, DocFault>
     ensures answers { Answers (document_of bytes.now) result }
     ensures proper { IfOk result (λ d. IsDocument d) }

@@ -19,7 +19,7 @@ pub enum DocWhy {
     /// The line is of an earlier kind than one before it.
     #[error("Order")]
     Order,
-    /// The configuration keyword, the endpoint's id, the frame of a deliver line, or the measurement's id stands in an earlier line.
+    /// The configuration keyword, the endpoint's id, the frame of a deliver line, or the measurement's id is in an earlier line.
     #[error("Twice")]
     Twice,
     /// The number of words is wrong.

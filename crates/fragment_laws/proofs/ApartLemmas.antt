@@ -1,4 +1,4 @@
--- A generation holds what came of one message.
+-- A generation holds what was received of one message.
 use Rattle.std.proofs.Common.{◌≡◌, ℕ, ℤ, ◌+ℤ◌, ◌≤ℤ◌, ◌<ℤ◌, ◌%◌, ◌≤◌, inl, inr, List, [], ◌∷◌, refl, ap, ap₂, sym, ◌∙◌, subst, arith, false, ◌==◌, int_le}
 use Rattle.std.proofs.lemmas.Int.{ints}
 use Rattle.std.proofs.lemmas.Bool.{cases_order, cases_Bool, eq-eqb, eqb-true, and_parts, and_from}
@@ -47,7 +47,7 @@ module _ (hold fast slow : ℤ) (first : ℕ → ℕ → ℤ) (num : Numbers) (a
   same_id : (b : Fragment) → IsIn b xs → number_of num b ≡ number_of num a → b.seq ≡ a.seq
   same_id b m e = h.ids b (inr m) ∙ ap (λ n. n % 256) e ∙ sym (h.ids a (inl refl))
 
-  -- no fragment of its message came before
+  -- no fragment of its message was received before
   pub record IsNew : Type 0 where
     pub none : of_message num a.ep (number_of num a) xs ≡ []
     pub soon : a.at ≤ℤ (first a.ep (number_of num a) +ℤ slow)

@@ -66,7 +66,7 @@ given zero (suc (suc k)) bj bk = absurd (omega arith)
 given (suc zero) (suc (suc k)) bj bk = absurd (omega arith)
 given (suc (suc j)) k bj bk = absurd (omega arith)
 
--- each came no later than this
+-- each was received no later than this
 abbrev AreBefore : ℤ → List Fragment → Type 0
 AreBefore t xs = (b : Fragment) → IsIn b xs → b.at ≤ℤ t
 

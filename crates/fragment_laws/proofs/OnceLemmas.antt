@@ -1,4 +1,4 @@
--- Each message becomes whole exactly once: what its generation holds is what came of it, and of that one fragment is Whole.
+-- Each message becomes complete exactly once: what its generation holds is what was received of it, and of that one fragment is Whole.
 use Rattle.std.proofs.Common.{◌≡◌, ℕ, zero, suc, ℤ, ◌+ℤ◌, ◌≤ℤ◌, ◌+◌, ◌*◌, ◌<◌, ◌≤◌, min, inl, inr, List, [], ◌∷◌, ◌++◌, refl, ap, ap₂, sym, ◌∙◌, subst, arith, true, Bool, ◌==◌, ◌&&◌}
 use Rattle.std.proofs.lemmas.Int.{ints}
 use Rattle.std.proofs.lemmas.Bool.{cases_Bool, eq-eqb, eqb-true, and_parts, and_from}
@@ -98,7 +98,7 @@ module _ (b : Bounds) (flow : ℕ → Flow) (v : (ep : ℕ) → IsSound b (flow 
   apart : AreApart b.hold b.fast b.slow (λ ep j. sent_at (flow ep) j 0) num all
   apart = delivered_apart b flow v all d
 
-  -- what came of a message are copies of it
+  -- what was received of a message are copies of it
   copy_of : (ep j : ℕ) (xs : List Fragment) → ((a : Fragment) → IsIn a xs → IsIn a all) → (a : Fragment) → IsIn a (of_message num ep j xs) → IsCopyOf b (flow ep) j a
   copy_of ep j xs within a m =
       let w = of_message-in num ep j xs a m in

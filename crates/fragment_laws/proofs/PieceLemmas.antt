@@ -1,4 +1,4 @@
--- Copies of the fragments of one message, in the order in which they came: what each of them is, and that one is Whole.
+-- Copies of the fragments of one message, in the order in which they were received: what each of them is, and that one is Whole.
 use Rattle.std.proofs.Common.{◌≡◌, ℕ, zero, suc, ◌≤ℤ◌, ◌+◌, ◌<◌, ◌≤◌, ◌⊎◌, inl, inr, List, [], ◌∷◌, ◌++◌, length, refl, ap, ap₂, sym, ◌∙◌, subst, arith, Option, Some, None, true, false, Bool, cond, if◌then◌else◌, ◌==◌, ◌&&◌, ◌||◌, nat_lt}
 use Rattle.std.specs.Option.{unwrap_or}
 use Rattle.std.proofs.lemmas.Int.{ints}
@@ -26,7 +26,7 @@ ArePieces n text s = (a : Fragment) → IsIn a s → IsPiece n text a
 pub pieces_more : (n : ℕ) (text : ℕ → List ℕ) (a : Fragment) (s : List Fragment) → IsPiece n text a → ArePieces n text s → ArePieces n text (a ∷ s)
 pieces_more n text a s p ps b m = elim m [ inl here ↦ subst (IsPiece n text) (sym here) p | inr there ↦ ps b there ]
 
--- what stands with one fragment more
+-- what is stored with one fragment more
 pub stands-own : (a : Fragment) (s : List Fragment) (k : ℕ) → a.sub ≡ k → stands (a ∷ s) k ≡ true
 stands-own a s k e = let b = eq-eqb a.sub k e in rw b refl
 
@@ -62,12 +62,12 @@ pub all_stand-from : (n : ℕ) (s : List Fragment) → ((k : ℕ) → k < n → 
 all_stand-from zero s each = refl
 all_stand-from (suc n) s each = and_from _ _ (each n (omega arith)) (all_stand-from n s (λ k b. each k (omega arith)))
 
--- where the fragment with E = 1 stands it is the last one
+-- where the fragment with E = 1 is stored it is the last one
 data Ends (n : ℕ) (s : List Fragment) : Option ℕ → Type 0 where
   at_end : (e : ℕ) → e + 1 ≡ n → Ends n s (Some e)
   no_end : ((m : ℕ) → m + 1 ≡ n → stands s m ≡ false) → Ends n s None
 
--- both are empty, or the first of both came at one time
+-- both are empty, or the first of both were received at one time
 pub data Like : List Fragment → List Fragment → Type 0 where
   empty : Like [] []
   both : (b : Fragment) (s : List Fragment) (c : Fragment) (h : List Fragment) → first_of (b ∷ s) ≡ first_of (c ∷ h) → Like (b ∷ s) (c ∷ h)
@@ -110,7 +110,7 @@ module _ (n : ℕ) (text : ℕ → List ℕ) where
       go (Some _) ne (at_end e q) = at_end e q
       go None ne (no_end none) = no_end (λ m e. stands-other a s m (λ f. ne (omega (arith, e, f))) ∙ none m e)
 
-  -- it is whole where all its pieces stand
+  -- it is complete where all its pieces are stored
   pub is_whole-all : (m : ℕ) (s : List Fragment) → ArePieces n text s → n ≡ suc m → is_whole s ≡ all_stand s n
   is_whole-all m s ps some = go (end_of s) (ends s ps)
     where
@@ -118,7 +118,7 @@ module _ (n : ℕ) (text : ℕ → List ℕ) where
       go (Some _) (at_end e q) = ap (all_stand s) q
       go None (no_end none) = let e = none m (omega (arith, some)) in rw some (rw e refl)
 
-  -- the pieces that stand are those of the message
+  -- the pieces that are stored are those of the message
   piece_at-is : (k : ℕ) (s : List Fragment) → ArePieces n text s → stands s k ≡ true → piece_at s k ≡ Some (text k)
   piece_at-is k [] ps there = absurd (cc)
   piece_at-is k (a ∷ s) ps there = elim (cases_eq a.sub k) [
@@ -166,7 +166,7 @@ module _ (n : ℕ) (text : ℕ → List ℕ) where
     | inr ne ↦ ap (λ (x : Bool). x && has_greater s a.sub) (p.last ∙ ne_eqb _ _ ne)
   ])
 
-  -- the sizes of the pieces that stand
+  -- the sizes of the pieces that are stored
   abbrev size_at : List Fragment → ℕ → ℕ
   size_at s k = if stands s k then length (text k) else 0
 
@@ -200,7 +200,7 @@ module _ (n : ℕ) (text : ℕ → List ℕ) where
   sizes-most s zero = omega arith
   sizes-most s (suc k) = let r = sizes-most s k in let e = at_most (stands s k) (length (text k)) in omega (arith, r, e)
 
-  -- what stands of the fragments of the message that came
+  -- what is stored of the fragments of the message that were received
   pub record IsStanding (held st : List Fragment) : Type 0 where
     pub within : (b : Fragment) → IsIn b st → IsIn b held
     pub same : (k : ℕ) → stands st k ≡ stands held k
@@ -224,7 +224,7 @@ module _ (n : ℕ) (text : ℕ → List ℕ) where
         let most = sizes-most (a ∷ s) n in
         le-ltb _ _ (omega (arith, more, most, sum, short))
 
-    -- a fragment is refused where one of its subsequence came before, and for no other cause
+    -- a fragment is refused where one of its subsequence was received before, and for no other cause
     pub refused_is : (a : Fragment) (held st : List Fragment) → IsPiece n text a → ArePieces n text held → IsStanding held st → refused st a ≡ cond (stands held a.sub) (Some Repeat) None
     refused_is a held st p ps s =
         let of : ArePieces n text st = λ b w. ps b (s.within b w) in
@@ -277,7 +277,7 @@ module _ (n : ℕ) (text : ℕ → List ℕ) where
               rw new (ap₂ (λ (o : Option Verdict) (x : Bool). answer o x) (r ∙ ap (λ (x : Bool). cond x (Some Repeat) None) new) w)
         ]
 
--- what each of them is when it comes
+-- what each of them is when it is received
 abbrev pub answers_in : List Fragment → List Answered
 answers_in [] = []
 answers_in (a ∷ held) = answered (standing held) a ∷ answers_in held
@@ -312,7 +312,7 @@ find k (a ∷ s) there = elim (cases_eq a.sub k) [
   | inr ne ↦ (let r = find k s (sym (stands-other a s k ne) ∙ there) in (r.0, inr r.1, r.2))
 ]
 
--- none came later than the newest
+-- none was received later than the newest
 newest : (a : Fragment) (s : List Fragment) → IsFalling (a ∷ s) → (b : Fragment) → IsIn b (a ∷ s) → b.at ≤ℤ a.at
 newest a s h b m = elim m [ inl here ↦ (let e = ap (λ (x : Fragment). x.at) here in omega (arith, ints)) | inr there ↦ h.0 b there ]
 

@@ -44,7 +44,7 @@ pub record IsSound (b : Bounds) (f : Flow) : Type 0 where
   pub some : (j : ℕ) → j < f.count → 0 < f.pieces j
   pub short : (j : ℕ) → j < f.count → size_to (f.text j) (f.pieces j) ≤ MESSAGE_BYTES
 
--- of n messages from number `from` on, the first of this id whose fragments may still come at this time
+-- of n messages from number `from` on, the first of this id whose fragments may still be received at this time
 unfoldable pub search_from : Bounds → Flow → ℕ → ℤ → ℕ → ℕ → ℕ
 search_from b f id at from zero = 0
 search_from b f id at from (suc n) =
@@ -63,7 +63,7 @@ pub record IsCopyOf (b : Bounds) (f : Flow) (j : ℕ) (a : Fragment) : Type 0 wh
   pub from : (sent_at f j a.sub +ℤ b.fast) ≤ℤ a.at
   pub to : a.at ≤ℤ (sent_at f j a.sub +ℤ b.slow)
 
--- what came: each fragment is a copy of one that was sent, and of each that was sent a copy came
+-- what was received: each fragment is a copy of one that was sent, and of each that was sent a copy was received
 pub record IsDelivered (b : Bounds) (flow : ℕ → Flow) (all : List Fragment) : Type 0 where
   pub falling : IsFalling all
   pub came : (a : Fragment) → IsIn a all → (j : ℕ) × IsCopyOf b (flow a.ep) j a

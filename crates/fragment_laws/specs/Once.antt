@@ -8,7 +8,7 @@ use Rattle.fragment_laws.specs.Apart.{Numbers, number_of, of_message}
 use Rattle.fragment_laws.specs.Flow.{Flow, Bounds, sent_at, IsSound, numbers_of, IsDelivered}
 use Rattle.fh_base.specs.Members.{IsIn}
 
--- a fragment that came, what it was then, and the message that it makes with what stood
+-- a fragment that was received, what it was then, and the message that it makes with what was stored
 pub record Answered : Type 0 where
   pub fragment : Fragment
   pub was : Verdict
@@ -17,7 +17,7 @@ pub record Answered : Type 0 where
 abbrev pub answered : List Fragment → Fragment → Answered
 answered s a = record { fragment = a; was = verdict s a; shows = message (a ∷ s) }
 
--- the arrivals that are of one message, the newest first, each with what it was when it came
+-- the arrivals that are of one message, the newest first, each with what it was when it was received
 abbrev pub answers : ℤ → Numbers → ℕ → ℕ → List Fragment → List Answered
 answers hold num ep j [] = []
 answers hold num ep j (a ∷ earlier) =
@@ -28,8 +28,8 @@ abbrev pub texts : (ℕ → List ℕ) → ℕ → List (List ℕ)
 texts text zero = []
 texts text (suc n) = texts text n ++ text n ∷ []
 
--- Of the answers to what came of a message one is Whole: those before it are Stored or Repeat, those after it Repeat. It shows
--- all pieces of the message; its first is the first of all that came, its last came then; both are within the bounds.
+-- Of the answers to what was received of a message one is Whole: those before it are Stored or Repeat, those after it Repeat. It shows
+-- all pieces of the message; its first is the first of all that were received, its last was received then; both are within the bounds.
 pub record IsOnceWhole (b : Bounds) (f : Flow) (j : ℕ) (came : List Fragment) (all : List Answered) : Type 0 where
   pub after : List Answered
   pub whole : Answered
@@ -50,7 +50,7 @@ abbrev pub EachIsWholeOnce : Type 0
 EachIsWholeOnce = (b : Bounds) (flow : ℕ → Flow) → ((ep : ℕ) → IsSound b (flow ep)) → (all : List Fragment) → IsDelivered b flow all → (ep j : ℕ) → j < (flow ep).count
     → IsOnceWhole b (flow ep) j (of_message (numbers_of b flow) ep j all) (answers b.hold (numbers_of b flow) ep j all)
 
--- what a copy is where these of its message came, which has n fragments
+-- what a copy is where these of its message were received, which has n fragments
 abbrev pub told : ℕ → Fragment → List Fragment → Verdict
 told n a held = if stands held a.sub then Repeat else if all_stand (a ∷ held) n then Whole else Stored
 

@@ -105,7 +105,7 @@ unfolding AreSmall
 section_small kind s f num =
     (f.id, (omega arith, (bit_small s.sym_inc, (f.start_prb, (num, (f.mask, (f.num_symbol, (omega arith, (beam_small kind s f, offset_small kind s f)))))))))
 
--- what the bytes of a section say behind beamId
+-- what the bytes of a section say after beamId
 record SaysOffset (kind : ℕ) (s : CSection) (bytes : List ℕ) : Type 0 where
   is : offset_of kind bytes ≡ cond (eqb kind 3) s.freq_offset (pos 0)
   reserved : kind ≡ 3 → field bytes 88 8 ≡ 0

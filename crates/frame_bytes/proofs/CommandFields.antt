@@ -37,7 +37,7 @@ comp_in (Idle t s c) = 0
 comp_in (Normal u) = u
 comp_in (Offset t s c u) = u
 
--- what stands behind sectionType
+-- what is after sectionType
 body_at : (b : CBody) (bytes : List ℕ) → body_of (kind_of b) bytes ≡ b → (kind_of b ≡ 0 → field bytes 88 8 ≡ 0) → (kind_of b ≡ 1 → field bytes 56 8 ≡ 0) → AreAt bytes 48 (body_fields b)
 unfolding AreAt time_in structure_in cp_in comp_in
 body_at (Idle t s c) bytes e idle normal = (ap time_in e, (ap structure_in e, (ap cp_in e, (idle refl, tt))))

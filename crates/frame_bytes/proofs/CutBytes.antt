@@ -52,7 +52,7 @@ take_same n xs = elim (cases_lt n (length xs)) [
   | inr ge ↦ take_all n xs ge ∙ sym (ap (λ k. take k xs) (omega arith) ∙ take-length xs)
 ]
 
--- the bytes that a span holds of those behind `before`, as a slice of them
+-- the bytes that a span holds of those after `before`, as a slice of them
 slice_is : (from to place start end : ℕ) (bytes : List ℕ) → start ≡ max place from → end ≡ min (place + length bytes) to → start < end
     → take (end - place - (start - place)) (drop (start - place) bytes) ≡ cut (from - place) (to - place) bytes
 slice_is from to place start end bytes start_is end_is some =

@@ -11,7 +11,7 @@ use Rattle.bfp_codec.specs.Layout.{AreBytes, be_bytes}
 use Rattle.bfp_codec.proofs.Spelled.{bytes_are, field_be_bytes, length-be_bytes, be_bytes_small}
 use Rattle.frame_bytes.specs.Spelled.{Field, width_of, spelled_behind, in_bytes}
 
--- the fields stand one after the other from bit i on
+-- the fields are one after the other from bit i on
 unfoldable pub AreAt : List ℕ → ℕ → List Field → Type 0
 AreAt bytes i [] = Unit {0}
 AreAt bytes i ((w, x) ∷ fields) = (field bytes i w ≡ x) × AreAt bytes (i + w) fields
@@ -37,7 +37,7 @@ fields_are n bytes fields len small whole h =
     let is = spelled_is bytes 0 fields h in
     bytes_are n (spelled_behind 0 fields) bytes len small (ap (field bytes 0) (sym whole ∙ sym (zero-add (width_of fields))) ∙ is) ∙ ap (λ k. be_bytes k (spelled_behind 0 fields)) (sym count)
 
--- the same number behind more fields
+-- the same number after more fields
 digits_split : (a b w x y : ℕ) → x < 2 ^ w → y < 2 ^ w → a * 2 ^ w + x ≡ b * 2 ^ w + y → (a ≡ b) × (x ≡ y)
 digits_split a b w x y hx hy e =
     (sym (shr_high a w x hx) ∙ ap (λ n. n / 2 ^ w) e ∙ shr_high b w y hy, sym (mod_low a w x hx) ∙ ap (λ n. n % 2 ^ w) e ∙ mod_low b w y hy)
@@ -58,7 +58,7 @@ spelled_small i n ((w, x) ∷ fields) h (small, a) =
     let next : n * 2 ^ w + x < 2 ^ (i + w) = omega (arith, power, mul-add-lt n (2 ^ w) x (2 ^ i) h small) in
     rw (sym (add_assoc i w (width_of fields))) (spelled_small (i + w) (n * 2 ^ w + x) fields next a)
 
--- the fields stand in the bytes that they spell
+-- the fields are in the bytes that they spell
 pub at_fields : (n : ℕ) (fields : List Field) → width_of fields ≡ 8 * n → AreSmall fields → AreAt (in_bytes fields) 0 fields
 at_fields n fields whole a =
     let count : width_of fields / 8 ≡ n = omega arith in

@@ -36,7 +36,7 @@ prbs_begin span method block prb (suc n) place before room at none stood =
     stands_none span (before ++ packed_prbs method block prb (suc n)) room
     (let h = none (omega arith) in omega (arith, length-append before (packed_prbs method block prb (suc n)), length_prbs method block prb (suc n)))
 
--- and those behind the last
+-- and those after the last
 pub prbs_end : (span : Span) (method : Method) (block : ℕ → List Iq) (prb end count place : ℕ) (before room : List ℕ) → span.from ≤ span.to → length before ≡ place → end ≤ count
     → (end < count → span.to ≤ place + end * length_of method) → Stands span (before ++ packed_prbs method block prb end) room → Stands span (before ++ packed_prbs method block prb count) room
 prbs_end span method block prb end count place before room order at most done stood = elim (cases_lt end count) [

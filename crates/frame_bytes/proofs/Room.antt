@@ -1,11 +1,11 @@
--- What stands in a room when bytes were written over its first ones, one after the other.
+-- What is in a room when bytes were written over its first ones, one after the other.
 use Rattle.std.proofs.Common.{◌≡◌, ℕ, ◌+◌, ◌≤◌, List, [], ◌++◌, length, take, drop, refl, sym, ap, ◌∙◌, arith, append_assoc, length-append}
 use Rattle.std.proofs.lemmas.List.{drop-drop, drop-take, drop_at, length-take-le}
 use Rattle.std.proofs.lemmas.Slice.{take-put_mid, drop-put_mid}
 use borrow.Rule.Slice.PartMut.{put_mid}
 use Rattle.std.proofs.Math.Seq.{take-append_seam, drop-append_seam, take-append-add, drop-append-add}
 
--- bytes written behind `front`
+-- bytes written after `front`
 next_written : (front rest bytes room new : List ℕ) (n : ℕ) → room ≡ front ++ rest → n ≡ length front
     → new ≡ (take n room ++ bytes) ++ drop (n + length bytes) room → new ≡ (front ++ bytes) ++ drop (length bytes) rest
 next_written front rest bytes room new n room_is n_is new_is =
@@ -30,7 +30,7 @@ three_written room a b c x y z m n x_is m_is y_is n_is z_is =
 pub front_back : (all room z : List ℕ) (n : ℕ) → n ≡ length all → z ≡ all ++ drop n room → (take n z ≡ all) × (drop n z ≡ drop n room)
 front_back all room z n n_is z_is = (rw (z_is, n_is) (take-append_seam all (drop (length all) room)), rw (z_is, n_is) (drop-append_seam all (drop (length all) room)))
 
--- the first bytes of a room are a frame, and those behind it are as they were
+-- the first bytes of a room are a frame, and those after it are as they were
 pub record HoldsFrame (all room new : List ℕ) (n : ℕ) : Type 0 where
   pub front : take n new ≡ all
   pub back : drop n new ≡ drop n room

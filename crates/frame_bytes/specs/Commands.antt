@@ -14,7 +14,7 @@ use Rattle.frame_bytes.specs.Transport.{frame_of}
 use Rattle.bfp_codec.specs.Field.{flag}
 
 -- timeOffset, frameStructure, cpLength and 8 reserved bits in type 0; udCompHdr and 8 reserved bits in type 1; in type 3
--- udCompHdr stands in the place of the reserved bits
+-- udCompHdr is in the place of the reserved bits
 abbrev pub body_fields : CBody → List Field
 body_fields (Idle time structure cp) = (16, time) ∷ (8, structure) ∷ (16, cp) ∷ (8, 0) ∷ []
 body_fields (Normal comp) = (8, comp) ∷ (8, 0) ∷ []

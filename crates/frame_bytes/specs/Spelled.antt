@@ -11,7 +11,7 @@ abbrev pub width_of : List Field → ℕ
 width_of [] = 0
 width_of ((w, x) ∷ fields) = w + width_of fields
 
--- the number that these spell behind the number n
+-- the number that these spell after the number n
 abbrev pub spelled_behind : ℕ → List Field → ℕ
 spelled_behind n [] = n
 spelled_behind n ((w, x) ∷ fields) = spelled_behind (n * 2 ^ w + x) fields

@@ -13,7 +13,7 @@ pub(crate) fn write_at(into: &mut [u8], at: usize, bytes: &[u8])
     into[at..at + bytes.len()].copy_from_slice(bytes);
 }
 
-/// Writes what the span holds of bytes that stand at a place of a message.
+/// Writes what the span holds of bytes that are at a place of a message.
 pub(crate) fn write_cut(span: Span, place: usize, bytes: &[u8], into: &mut [u8])
     requires order { span.from ≤ span.to }
     requires room { span.to - span.from ≤ length into.old }

@@ -24,7 +24,7 @@ use uplane_sections::{USection, put_head, put_section};
 pub struct Span {
     /// The first byte.
     pub from: usize,
-    /// The byte behind the last.
+    /// The byte after the last.
     pub to: usize,
 }
 
@@ -76,8 +76,8 @@ fn touched(span: Span, place: usize, size: usize, count: usize) -> (usize, usize
     (first, end)
 }
 
-/// Writes what the span holds of a packed block that stands at a place of a message. A block that lies in the span is packed
-/// where it is to stand.
+/// Writes what the span holds of a packed block that is at a place of a message. A block that lies in the span is packed
+/// where it is to be.
 fn write_block(method: Method, block: &[Iq; 12], span: Span, place: usize, into: &mut [u8])
     requires width { HasWidth method }
     requires order { span.from ≤ span.to }
@@ -95,7 +95,7 @@ fn write_block(method: Method, block: &[Iq; 12], span: Span, place: usize, into:
     }
 }
 
-/// Writes what the span holds of the packed PRBs of a section that stand at a place of the message.
+/// Writes what the span holds of the packed PRBs of a section that are at a place of the message.
 fn write_prbs<F: Fn(usize, u16) -> [Iq; 12]>(
     carrier: &Carrier,
     number: usize,
@@ -125,7 +125,7 @@ fn write_prbs<F: Fn(usize, u16) -> [Iq; 12]>(
     }
 }
 
-/// Writes what the span holds of a section that stands at a place of the message, and answers where
+/// Writes what the span holds of a section that is at a place of the message, and answers where
 /// the section ends.
 fn write_section<F: Fn(usize, u16) -> [Iq; 12]>(
     carrier: &Carrier,

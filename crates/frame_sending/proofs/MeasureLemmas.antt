@@ -37,7 +37,7 @@ none_at_all (u ∷ ts) h =
     let self : times u (u ∷ ts) ≡ 1 + times u ts = ap (λ (b : Bool). (if b then 1 else 0) + times u ts) (own u) in
     absurd (omega (arith, none, self))
 
--- lists in which each frame stands as often have one length
+-- lists that hold each frame as often have one length
 as_long : (xs ys : List Turn) → ((t : Turn) → times t xs ≡ times t ys) → length xs ≡ length ys
 as_long [] ys h = sym (none_at_all ys (λ t. sym (h t)))
 as_long (x ∷ xs) ys h =

@@ -1,4 +1,4 @@
--- Frames come late enough: none comes before it was sent, and those of delay measurement come later.
+-- Frames are received late enough: none before it was sent, and those of delay measurement later.
 use Rattle.std.proofs.Common.{ℕ, ℤ, pos, ◌+ℤ◌, ◌*ℤ◌, ◌≤ℤ◌, List, [], ◌∷◌, All, inl, inr, arith}
 use Rattle.std.specs.Prelude.{map}
 use Rattle.std.proofs.lemmas.Int.{ints}

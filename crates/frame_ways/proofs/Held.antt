@@ -47,7 +47,7 @@ insert_step n a e es at earlier rest =
     go Equal = ap (λ xs. e.1 ∷ xs) rest
     go Greater = ap (λ xs. e.1 ∷ xs) rest
 
--- the arrival stands among the others as `put_in` says
+-- the arrival is among the others as `put_in` says
 pub arrivals-insert_entry : (n : ℕ) (a : Arrival) (es : List (Turn × Arrival)) → AreHeld n es
     → arrivals (insert_entry turn_cmp es (turn_at n a) a) ≡ put_in a (arrivals es)
 arrivals-insert_entry n a [] h = refl

@@ -45,7 +45,7 @@ one_behind : (d : Document) (side : Side) (n : SentCounts) (f : Leaving) → cop
 unfolding delayed_behind
 one_behind d side n f = append-nil (copies_in (delayed d side (counted f.class n) f))
 
--- its copies come behind those of the frames before it
+-- its copies are after those of the frames before it
 pub copies_more : (v : OnWay) (f : Leaving) (t : ℤ)
     → landing_at (copies_on (having_sent v f)) t ≡ landing_at (copies_on v) t ++ landing_at (copies_in (delayed v.document v.side (counted f.class (counts_on v)) f)) t
 copies_more v f t =

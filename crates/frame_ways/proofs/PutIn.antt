@@ -19,7 +19,7 @@ All-put_in P a (b ∷ bs) here rest = all_at P a b bs (is_after b a) here rest (
 
 -- ---- a list in order
 
--- before one that is after it, an arrival is not after any that stands behind
+-- before one that is after it, an arrival is not after any that follows
 none_behind : (a b : Arrival) (bs : List Arrival) → is_after b a ≡ true → IsInOrder (b ∷ bs) → All (λ x. is_after a x ≡ false) (b ∷ bs)
 none_behind a b bs h order =
     All-cons (λ x. is_after a x ≡ false) b bs (not_after a b h)
@@ -81,7 +81,7 @@ last_at p a b bs false h of order last rest = ap (kept (p b) b) rest ∙ kept_mo
     kept_more true = refl
     kept_more false = refl
 
--- to those of a kind, one that is after none of them comes last
+-- to those of a kind, one that is after none of them is last
 pub filter-put_in_last : (p : Arrival → Bool) (a : Arrival) (xs : List Arrival) → p a ≡ true → IsInOrder xs → All (IsLastOf p a) xs
     → filter p (put_in a xs) ≡ filter p xs ++ a ∷ []
 filter-put_in_last p a [] of order last = rw of refl

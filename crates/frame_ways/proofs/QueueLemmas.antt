@@ -1,4 +1,4 @@
--- How a queue's landings of a time stand to those of the list, and what each call means for them.
+-- How a queue's landings of a time relate to those of the list, and what each call means for them.
 use Rattle.std.proofs.Common.{◌≡◌, ℕ, suc, ◌+◌, ◌<◌, ◌≤◌, ℤ, ◌≤ℤ◌, ◌<ℤ◌, ◌↔◌, Bool, true, false, not, ◌&&◌, cond, List, [], ◌∷◌, ◌++◌, length, get_or, take, take-suc, length-take-le, refl, ap, ap₂, sym, ◌∙◌, subst, arith, Option, Some, None, IfSome, int_lt}
 use Rattle.std.specs.List.{All, AllByRecursion, filter, slice_get}
 use Rattle.std.specs.List.Sorted.{IsPermutation, IsSortedByKey, IsStableByKey, ties}

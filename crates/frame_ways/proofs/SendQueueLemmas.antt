@@ -39,7 +39,7 @@ not_both a b x y h = grind (arith, ints, nat_tests)
 not_after : (a b c : ℤ) (x y z : ℕ) → after b y a x ≡ true → after b y c z ≡ false → after a x c z ≡ false
 not_after a b c x y z h k = not_both a c x z (after_chain a b c x y z h k)
 
--- ---- one frame more, where it stands
+-- ---- one frame more, in its place
 
 -- what holds of it and of all that wait holds of all
 all_queued_one : (P : LinkFrame → Type 0) (f : LinkFrame) (q : List LinkFrame) → P f → AllByRecursion P q → AllByRecursion P (queued f q)
@@ -50,17 +50,17 @@ all_queued_one P f (g ∷ gs) here h = go (leaves_after g f) (all_queued_one P f
     go true rest = (here, h)
     go false rest = (h.0, rest)
 
--- before frames that all leave after it, it stands first
+-- before frames that all leave after it, it is first
 queued_first : (f : LinkFrame) (q : List LinkFrame) → AllByRecursion (λ g. leaves_after g f ≡ true) q → queued f q ≡ f ∷ q
 queued_first f [] h = refl
 queued_first f (g ∷ gs) h = let e = h.0 in rw e refl
 
--- behind frames that do not leave after it, it stands among the others
+-- after frames that do not leave after it, it is among the others
 queued_behind : (f : LinkFrame) (xs ys : List LinkFrame) → AllByRecursion (λ g. leaves_after g f ≡ false) xs → queued f (xs ++ ys) ≡ xs ++ queued f ys
 queued_behind f [] ys h = refl
 queued_behind f (x ∷ xs) ys h = let e = h.0 in rw e (ap (λ (zs : List LinkFrame). x ∷ zs) (queued_behind f xs ys h.1))
 
--- where a frame stands before one that leaves after it, all that stand behind leave after it
+-- where a frame is before one that leaves after it, all that follow leave after it
 later_behind : (f g : LinkFrame) (gs : List LinkFrame) → leaves_after g f ≡ true → AllByRecursion (λ h. leaves_after g h ≡ false) gs → AllByRecursion (λ h. leaves_after h f ≡ true) gs
 later_behind f g gs first rest =
     all_map (λ h. leaves_after g h ≡ false) (λ h. leaves_after h f ≡ true) (λ h e. after_chain f.at.0 g.at.0 h.at.0 f.ep g.ep h.ep first e) gs rest
@@ -92,7 +92,7 @@ waiting_other t f (g ∷ gs) other = go (leaves_after g f) (waiting_other t f gs
     go true rest = rw other refl
     go false rest = ap (kept (leaves_at t g) g) rest
 
--- among those of its own tick it stands as it does among all
+-- among those of its own tick it is placed as it is among all
 waiting_one : (t : ℤ) (f : LinkFrame) (q : List LinkFrame) → leaves_at t f ≡ true → AreQueuedInTurn q → waiting_at t (queued f q) ≡ queued f (waiting_at t q)
 waiting_one t f [] own order = rw own refl
 waiting_one t f (g ∷ gs) own order = go (leaves_after g f) refl (waiting_one t f gs own order.1)
@@ -159,7 +159,7 @@ less_is : (a b : ℕ) → a < b → nat_lt a b ≡ true
 less_is a b h = grind (arith, nat_tests)
 
 module _ (frames : List LinkFrame) (f : LinkFrame) (t : ℤ) (own : leaves_at t f ≡ true) where
-  -- those of the endpoints behind it
+  -- those of the endpoints after it
   all_after : (from n : ℕ) → f.ep < from → AllByRecursion (λ g. leaves_after g f ≡ true) (each from n (frames_leaving frames t))
   unfolding each
   all_after from zero less = tt
@@ -173,7 +173,7 @@ module _ (frames : List LinkFrame) (f : LinkFrame) (t : ℤ) (own : leaves_at t 
   all_same from zero less = refl
   all_same from (suc n) less = ap₂ ◌++◌ (same_of_other frames f t from (λ e. omega (arith, e, less))) (all_same (from + 1) n (omega arith))
 
-  -- it stands behind those of its endpoint, before those of the next
+  -- it is after those of its endpoint, before those of the next
   each_queued : (from n : ℕ) → from ≤ f.ep → f.ep < from + n → queued f (each from n (frames_leaving frames t)) ≡ each from n (frames_leaving (frames ++ f ∷ []) t)
   unfolding each
   each_queued from zero low high = absurd (omega arith)
@@ -298,7 +298,7 @@ none_waits t (f ∷ fs) from =
     next_is_not : (a b : ℤ) → (a +ℤ pos 1) ≤ℤ b → b ≡ a → ⊥
     next_is_not a b h e = omega (arith, ints)
 
--- what stands behind one that it does not leave before
+-- what is after one that it does not leave before
 no_earlier : (a b : ℤ) (x y : ℕ) → after a x b y ≡ false → a ≤ℤ b
 no_earlier a b x y h = grind (arith, ints, nat_tests)
 

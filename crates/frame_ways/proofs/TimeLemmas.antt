@@ -118,7 +118,7 @@ wait_later d side (l ∷ q) now to none from =
       wait_later d side q now to (λ t low high. sym (left_above d side t l.at l.index (l ∷ q) q refl (later_than t to l.at.0 high above)) ∙ none t low high) from.1,
     )
 
--- where nothing lands up to one, the way stands at the next as it stood
+-- where nothing lands up to one, the way is at the next as it was
 pub stands_until : (v : OnWay) (now to : ℤ) (w : Way) → StandsFor v now w → now ≤ℤ (to +ℤ pos 1) → IsCalmTo (landings_on v) now to → StandsFor v (to +ℤ pos 1) w
 stands_until v now to w h order calm =
     let d = v.document in

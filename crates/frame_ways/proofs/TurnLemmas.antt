@@ -62,7 +62,7 @@ insert_step n f e es earlier rest =
     go Equal Greater = behind
     go Greater p = behind
 
--- the frame stands among the others as `queued` says
+-- the frame is among the others as `queued` says
 pub frames_put : (n : ℕ) (f : LinkFrame) (es : List Entry) → AreAmong n es → frames (insert_entry turn_cmp es (turn_of n f) f.frame) ≡ queued f (frames es)
 frames_put n f [] h = refl
 frames_put n f (e ∷ es) h = insert_step n f e es h.0 (frames_put n f es h.1)

@@ -5,7 +5,7 @@ use Rattle.frame_ways.specs.declared.places.Turn.{Turn}
 use Rattle.frame_ways.specs.declared.in_flight.Network.TheInside.{Inside}
 use Rattle.frame_ways.specs.Places.{place_of}
 
--- each turn is that of its arrival, and the call that put it came before
+-- each turn is that of its arrival, and the call that put it was before
 abbrev pub AreHeld : ℕ → List (Turn × Arrival) → Type 0
 AreHeld n [] = Unit {0}
 AreHeld n (e ∷ es) = (e.0.place ≡ place_of e.1) × (e.0.serial < n) × AreHeld n es

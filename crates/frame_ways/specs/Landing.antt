@@ -1,5 +1,5 @@
 -- What lands at a unit of the frames that are sent to it, and of those that a document injects there: the copies of what is sent to it, in
--- the order in which it is sent and then by copy, and behind them the injected frames in the order of the document (this project's
+-- the order in which it is sent and then by copy, and after them the injected frames in the order of the document (this project's
 -- profile). Times are ticks, and a list of what lands may have them in any order.
 use Rattle.std.specs.Prelude.{ℕ, ℤ, pos, ◌+ℤ◌, ◌*ℤ◌, Bool, List, ◌++◌, filter, map}
 use Rattle.std.specs.List.{flat_map}

@@ -9,6 +9,6 @@ use Rattle.frame_ways.specs.contracts.outbox.Outbox.{the_row}
 abbrev pub with_pool : Handed → Pool → Handed
 with_pool o pool = record { frames = o.frames; pool = pool }
 
--- its pool is what is left behind the reference, and its frames stay
+-- its pool is what is left after the reference, and its frames stay
 abbrev pub LendsPool : MutBor Handed → MutBor Pool → Fml
 LendsPool o pool = Lends the_row pool_row o pool (with_pool o.now)

@@ -8,7 +8,7 @@ use Rattle.fh_base.specs.declared.values.Ticks.{Ticks}
 use Rattle.frame_ways.specs.declared.arrivals.Arrival.{Arrival}
 use Rattle.frame_ways.specs.declared.arrivals.ArrivalKey.{ArrivalKey}
 
--- whether a frame comes to the distributed unit
+-- whether a frame is received at the distributed unit
 abbrev pub is_to_du : Side → Bool
 is_to_du Ru = false
 is_to_du Du = true
@@ -25,11 +25,11 @@ arrival_cmp = then_cmp (on (λ a. a.at.0) int_cmp)
     (then_cmp (on (λ a. is_to_du a.side) bool_cmp)
     (on (λ a. a.key) key_cmp))
 
--- whether the first comes after the second
+-- whether the first is after the second
 abbrev pub is_after : Arrival → Arrival → Bool
 is_after a b = is_lt (arrival_cmp b a)
 
--- the list with one more arrival, behind all that are not after it
+-- the list with one more arrival, after all that are not after it
 abbrev pub put_in : Arrival → List Arrival → List Arrival
 put_in a [] = a ∷ []
 put_in a (b ∷ bs) = if is_after b a then a ∷ b ∷ bs else b ∷ put_in a bs
@@ -44,7 +44,7 @@ abbrev pub first_time : List Arrival → Option Ticks
 first_time [] = None
 first_time (a ∷ rest) = Some a.at
 
--- none is after one that stands behind it
+-- none is after one that follows it
 abbrev pub IsInOrder : List Arrival → Type 0
 IsInOrder [] = Unit {0}
 IsInOrder (a ∷ rest) = All (λ b. is_after a b ≡ false) rest × IsInOrder rest

@@ -21,7 +21,7 @@ enumerated times = enumerated_from 0 times
 abbrev pub at_time : ℤ → List Landing → List Landing
 at_time t ls = filter (λ l. int_eq l.at.0 t) ls
 
--- each time is at most that of each landing behind it
+-- each time is at most that of each landing after it
 abbrev pub AreRising : List Landing → Type 0
 AreRising [] = ⊤
 AreRising (l ∷ ls) = AllByRecursion (λ m. l.at.0 ≤ℤ m.at.0) ls × AreRising ls

@@ -27,7 +27,7 @@ abbrev pub first_place : ℕ → List Row → Option ℕ
 first_place n [] = None
 first_place n (r ∷ rs) = if r.number == n then Some r.place else first_place n rs
 
--- each number is at most that of each row behind it
+-- each number is at most that of each row after it
 abbrev pub AreRising : List Row → Type 0
 AreRising [] = ⊤
 AreRising (r ∷ rs) = AllByRecursion (λ s. r.number ≤ s.number) rs × AreRising rs

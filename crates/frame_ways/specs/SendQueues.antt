@@ -13,7 +13,7 @@ use Rattle.uplink_model.specs.Sent.{leaves_at, leaving_at}
 abbrev pub leaves_after : LinkFrame → LinkFrame → Bool
 leaves_after f g = int_lt g.at.0 f.at.0 || (int_eq g.at.0 f.at.0 && nat_lt g.ep f.ep)
 
--- with one frame more, behind all that do not leave after it
+-- with one frame more, after all that do not leave after it
 abbrev pub queued : LinkFrame → List LinkFrame → List LinkFrame
 queued f [] = f ∷ []
 queued f (g ∷ gs) = if leaves_after g f then f ∷ g ∷ gs else g ∷ queued f gs
@@ -23,7 +23,7 @@ abbrev pub all_queued : List LinkFrame → List LinkFrame → List LinkFrame
 all_queued [] q = q
 all_queued (f ∷ fs) q = all_queued fs (queued f q)
 
--- none stands behind one that leaves after it
+-- none follows one that leaves after it
 abbrev pub AreQueuedInTurn : List LinkFrame → Type 0
 AreQueuedInTurn [] = ⊤
 AreQueuedInTurn (f ∷ fs) = AllByRecursion (λ g. leaves_after f g ≡ false) fs × AreQueuedInTurn fs
@@ -40,7 +40,7 @@ Took tick None before now = (now ≡ before) × (first_time before ≢ Some tick
 
 -- ---- by ticks
 
--- those that leave at a tick, as they stand
+-- those that leave at a tick, as they are
 abbrev pub waiting_at : ℤ → List LinkFrame → List LinkFrame
 waiting_at t q = filter (leaves_at t) q
 

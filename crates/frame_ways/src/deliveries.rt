@@ -45,7 +45,7 @@ fn once_after(time: Option<&i64>) -> ArrayVec<i64, 8>
 pub struct FrameDeliveries<'a> {
     document: &'a Document,
     side: Side,
-    /// The lines that speak of frames to the unit. None where all lines stand in the order of their frames.
+    /// The lines that speak of frames to the unit. None where all lines are in the order of their frames.
     rows: Option<Vec<Row>>,
 }
 
@@ -69,7 +69,7 @@ impl<'a> FrameDeliveries<'a> {
     ghost use Rattle.fh_document.specs.Proper.{AreTransits, IsDelivery, IsFrom};
     ghost use Rattle.frame_ways.specs.Copies.{copies_of, deliveries_to, line_of};
 
-    /// Sorts those of a document's deliver lines that speak of frames to a unit, unless all stand in order. `NoMemory` where the memory
+    /// Sorts those of a document's deliver lines that speak of frames to a unit, unless all are in order. `NoMemory` where the memory
     /// for that cannot be had.
     pub fn make(
         alloc: Global,
@@ -95,7 +95,7 @@ impl<'a> FrameDeliveries<'a> {
 
     /// The times on the way, in nanoseconds, of the copies of the `k`-th frame, counted from 1, of a class that is sent to the unit:
     /// those of the first deliver line that speaks of it, in their order, and none where that line has none, since the frame is
-    /// then lost. Where no line speaks of it, it comes once, in the time that the `transit` line of its way, or of delay
+    /// then lost. Where no line speaks of it, it is received once, after the time that the `transit` line of its way, or of delay
     /// measurement, says, and not at all where that line says `lost`.
     pub fn copies(&self, class: TrafficClass, k: u32) -> ArrayVec<i64, 8>
         ensures times { result.items ≡ copies_of self.now.document self.now.side class k }

@@ -40,10 +40,10 @@ impl Network {
         }
     }
 
-    /// Sends an arrival on its way. It stands behind all that are not after it, so of two that are
+    /// Sends an arrival on its way. It follows all that are not after it, so of two that are
     /// equal in time, unit and key, the one that was put first is given first.
     ///
-    /// After `NoMemory` the network is as before. This comes where memory was refused, and also
+    /// After `NoMemory` the network is as before. This occurs where memory was refused, and also
     /// where 2^64 - 1 arrivals were put before, so that they could no longer be told apart.
     pub fn put(&mut self, arrival: Arrival) -> Result<(), NoMemory>
         ensures ok { OnOk result (self.new ≡ put_in arrival self.old) }

@@ -1,4 +1,4 @@
-// Deliver lines that stand in the order of the numbers of their frames.
+// Deliver lines that are in the order of the numbers of their frames.
 ghost use Rattle.std.specs.Prelude.{◌≡◌, ◌<◌, ◌≤◌, true, length};
 ghost use Rattle.std.specs.List.{slice_index_or};
 ghost use Rattle.std.specs.List.Sorted.{IsNonDecreasingBy, IsPartitionPoint};

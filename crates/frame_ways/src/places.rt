@@ -6,7 +6,7 @@ use crate::arrivals::{Arrival, ArrivalKey};
 use air_source::Side;
 use fh_base::Ticks;
 
-/// Where an arrival stands.
+/// Where an arrival is.
 #[derive(Clone, Copy, Debug, PartialEq, Eq, PartialOrd, Ord)]
 pub struct Place {
     pub at: Ticks,
@@ -14,7 +14,7 @@ pub struct Place {
     pub key: ArrivalKey,
 }
 
-/// Where an arrival stands, and which call put it there.
+/// Where an arrival is, and which call put it there.
 #[derive(Clone, Copy, Debug, PartialEq, Eq, PartialOrd, Ord)]
 pub struct Turn {
     pub place: Place,

@@ -51,7 +51,7 @@ fn sort_by_number(rows: &mut Vec<Row>) -> Result<(), NoMemory>
     Ok(())
 }
 
-/// The lines that speak of frames to a unit, in the order of the numbers of these. None, which takes no memory, where all lines stand
+/// The lines that speak of frames to a unit, in the order of the numbers of these. None, which takes no memory, where all lines are
 /// in this order in the document.
 pub(crate) fn rows_of(
     alloc: Global,

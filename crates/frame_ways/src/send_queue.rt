@@ -44,7 +44,7 @@ impl SendQueue {
         }
     }
 
-    /// Takes in one frame. It stands behind all that do not leave after it.
+    /// Takes in one frame. It follows all that do not leave after it.
     fn put(&mut self, frame: LinkFrame) -> Result<(), NoMemory>
         ensures ok { OnOk result (self.new ≡ queued frame self.old) }
         ensures err { OnErr result (self.new ≡ self.old) }

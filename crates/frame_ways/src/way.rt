@@ -18,7 +18,7 @@ use std::alloc::Global;
 
 /// One direction of the fronthaul: what is on its way to a unit.
 ///
-/// Its contracts say of each list of frames that were sent, for which it stands, for which it stands after a call (`StandsFor` of
+/// Its contracts say of each list of sent frames that it stands for, which list it stands for after a call (`StandsFor` of
 /// `specs/Ways.antt`): what lands of them, and of what the document injects, is `landings_on`.
 #[derive(Drop)]
 pub struct Way<'a> {
@@ -73,7 +73,7 @@ impl<'a> Way<'a> {
     }
 
     /// Sends a frame at a time in ticks: its copies are in flight then, as the document's `deliver` and `transit` lines say of the next
-    /// frame of its class. Their memory comes from the pool.
+    /// frame of its class. Their memory is from the pool.
     ///
     /// # Errors
     ///

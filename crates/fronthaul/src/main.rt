@@ -1,4 +1,4 @@
-//! The program: it hands its words and the standard streams to the top call, and ends with the status that comes of it.
+//! The program: it hands its words and the standard streams to the top call, and ends with the status that results from it.
 #![tactic(auto)]
 
 use fh_base::{StdSink, StdSource};

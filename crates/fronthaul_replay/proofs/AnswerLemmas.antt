@@ -91,7 +91,7 @@ none_left d tick k due came given =
 
 -- ---- the radio unit
 
--- it stands at the start of the next tick
+-- it is at the start of the next tick
 pub radio_then : (d : Document) (tick : ℤ) (h : History) (ru : Ru) → IsDueAt d tick → IsRadioLanded d tick h
     → StandsFor d.config ru (given_too h (owed_until d.config h h.clock)) → AtRadioTurn d (tick +ℤ pos 1) ru
 radio_then d tick h ru due landed stands =

@@ -1,4 +1,4 @@
--- From one tick to the next moment: what callers need of the distributed unit and of what comes to it.
+-- From one tick to the next moment: what callers need of the distributed unit and of what is received at it.
 use Rattle.std.proofs.Common.{◌≡◌, ℤ, pos, ◌+ℤ◌, ◌-ℤ◌, ◌≤ℤ◌, ◌<ℤ◌, Bool, List, [], ◌∷◌, ◌++◌, length, refl, sym, ap, ◌∙◌, subst, arith}
 use Rattle.std.specs.Prelude.{All, cond, map}
 use Rattle.std.proofs.lemmas.Int.{ints}
@@ -66,7 +66,7 @@ use Rattle.fh_base.proofs.Orders.{at_most, more_differ, not_eq, weak}
 
 -- ---- the start
 
--- an intake that stands for nothing stands at the first tick
+-- an intake that stands for nothing is at the first tick
 pub intake_begins : (d : Document) (u : Intake) → IntakeStandsFor d.config (planned_for d) u nothing_yet → AtIntakeTurn d first_clock u
 intake_begins d u stands = record {
   history = nothing_yet;
@@ -219,7 +219,7 @@ module _ {G : Type 0} (pre : G → RePlace → Type 0) (post : G → RePlace →
   pub still_at_intake : IsUnitMoment AtDu d.config (traffic_of d) now tick
   still_at_intake = unit_waits d now tick s.intake.history s.replayable s.intake.turn (still_between.calm AtDu) s.none_due
 
-  -- so the intake stands at the tick
+  -- so the intake is at the tick
   pub intake_idle : IsNextMoment d.config (traffic_of d) now tick → AtIntakeTurn d tick u
   intake_idle next = record {
     history = s.intake.history;
@@ -259,7 +259,7 @@ module _ {G : Type 0} (pre : G → RePlace → Type 0) (post : G → RePlace →
         };
       }
 
-  -- and what is to come to the radio unit
+  -- and what is still to be received at the radio unit
   pub down_idle : WaitsDown d tick p w
   down_idle = waits_at d now tick p w s.replayable s.down begun_now s.order s.ended s.sends s.calm still_between
 

@@ -111,7 +111,7 @@ cells_stay side other told more apart all =
 
 -- ---- the radio unit is in step
 
--- also with events of the distributed unit behind those with which it was
+-- also with events of the distributed unit after those with which it was
 pub step_stays : (d : Document) (told more : List Event) (u : Ru) → AreEventsOf AtDu more → IsRadioInStep d told u → IsRadioInStep d (told ++ more) u
 step_stays d told more u all step = record {
   history = step.history;

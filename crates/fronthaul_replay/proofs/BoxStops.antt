@@ -55,7 +55,7 @@ cells_about before now c rest more is =
 due_own : (d : Document) (tick : ℤ) (h : History) → AreOf AtRu (due_of d.config h tick)
 due_own d tick h = due_of_side AtRu d.config.delays d.config.endpoints (ru_known d.config h.arrivals) h.reported tick
 
--- what has arrived and was reported before a tick, with some cells of the tick behind it
+-- what has arrived and was reported before a tick, with some cells of the tick after it
 arrived_before : (d : Document) (tick : ℤ) (h : History) (cs : List AirCell) → IsRadioTurn d tick h → h.arrivals ≡ arrivals_heard AtRu [] (events_before d tick ++ map Cell cs)
 arrived_before d tick h cs turn =
     let earlier = events_before d tick in
@@ -93,7 +93,7 @@ stops_due grew stopped d tick h u a b doc turn ended s =
 
 -- ---- while frames land
 
--- what was heard behind the cells of the tick
+-- what was heard after the cells of the tick
 frames_step : (d : Document) (tick : ℤ) (x : Doings) (h : History) (xs : List Arrival) (u : Ru) → IsRadioTurn d tick h → (told rest : List Event) → told_of_frames AtRu (compensation_of d AtRu) tick x xs ≡ told ++ rest
     → HasTaken (RadioMayTake u d.config [] tick) AtRu (at_clock (heard h (due_of d.config h tick)) tick) told
     → IsRadioInStep d ((events_before d tick ++ map Cell (due_of d.config h tick)) ++ told) u

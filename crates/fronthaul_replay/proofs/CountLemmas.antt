@@ -268,7 +268,7 @@ pub intake_counts : (d : Document) (i : Intake) (counts : List ℕ) (done : IsIn
     → told_for AtDu d counts ≡ count_events AtDu d.config (traffic_of d)
 intake_counts d i counts done stand = counts_are AtDu d counts done.history.arrivals done.history.reported stand done.arrivals done.reported
 
--- ---- the events of both units' counters behind all others
+-- ---- the events of both units' counters after all others
 
 abbrev passed : Document → List Event
 passed d = events_before d (end_of_time +ℤ pos 1)

@@ -81,7 +81,7 @@ module _ {A : Type 0} (written : A → Option (List ℕ)) (faults refusals : A �
   summary_cut NoMemory none start cut =
       begins (cut_front SummaryGrew (SummaryStopped WantsMemory) written summed.summary_begun old new (events_of d) (summed.writes_out WantsMemory written faults refusals owed sums old none start) cut)
 
-  -- and not all of it, since the last line was still to come
+  -- and not all of it, since the last line was still to follow
   pub summary_cut_part : (f : TextFault) → owed old ≡ [] → sums old ≡ sum_start → CutBy f SummaryGrew SummaryStopped (events_of d) old new → WritesPart (written old) (written new) (summary_of d)
   unfolding summary_of
   summary_cut_part WriteFault none start cut =

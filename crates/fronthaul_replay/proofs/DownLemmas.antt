@@ -1,4 +1,4 @@
--- What is to come to the radio unit, from one tick to the next moment, and over it.
+-- What is still to be received at the radio unit, from one tick to the next moment, and over it.
 use Rattle.std.proofs.Common.{◌≡◌, ℤ, pos, ◌+ℤ◌, ◌-ℤ◌, ◌≤ℤ◌, ◌<ℤ◌, List, [], ◌∷◌, ◌++◌, All, refl, ap, ap₂, ◌∙◌, subst}
 use Rattle.std.specs.Prelude.{map}
 use Rattle.std.specs.Int.Signed.{≤ℤ_refl}
@@ -65,7 +65,7 @@ sent_later tick left none = sent_less tick ((tick -ℤ pos 1) +ℤ pos 1) left (
 pub leave_later : (d : Document) (tick : ℤ) (left : List SentFrame) → AreSentFrom ((tick -ℤ pos 1) +ℤ pos 1) left → All (λ (f : Leaving). tick ≤ℤ f.at) (map (leaving_of d) left)
 leave_later d tick left none = leave_from d tick left (sent_later tick left none)
 
--- where nothing lands at either unit and none measures before it, all stands then as it stood
+-- where nothing lands at either unit and none measures before it, all is then as it was
 pub waits_at : (d : Document) (now tick : ℤ) (p : Plan) (w : Way) → IsReplayable d → (waits : WaitsDown d now p w) → first_clock ≤ℤ now → now ≤ℤ tick → tick ≤ℤ (end_of_time +ℤ pos 1)
     → AreSentFrom ((tick -ℤ pos 1) +ℤ pos 1) waits.left → IsCalmTo (landings_on (on_way d AtRu waits.way.sent)) now (tick -ℤ pos 1) → IsQuietBetween d now tick → WaitsDown d tick p w
 waits_at d now tick p w doc waits begun order ended none calm quiet =

@@ -52,13 +52,13 @@ air_stopped air.Failed (Err air.NoMemory) (Err replay.NoMemory) passed stopped =
 air_stopped air.NoMemory (Err air.Failed) (Err replay.AirFailed) passed stopped = absurd (cc stopped)
 air_stopped air.NoMemory (Err air.Failed) (Err replay.NoMemory) passed stopped = absurd (cc passed)
 
--- what holds where it comes to its end holds where its answer is passed on
+-- what holds where it reaches its end holds where its answer is passed on
 pub ok_passed : {T U D E : Type 0} (one : Result T D) (two : Result U E) (P : Type 0) → is_ok two ≡ is_ok one → OnOk one P → OnOk two P
 ok_passed one (Err e) P same holds = tt
 ok_passed (Err d) (Ok y) P same holds = absurd (true≢false same)
 ok_passed (Ok x) (Ok y) P same holds = holds
 
--- of want of memory, where the count stood still
+-- of want of memory, where the count did not change
 pub replay_wanted : {T : Type 0} (before now : ℕ) (r : Result T ReplayFault) → IsErrAnd r (λ e. e ≡ replay.NoMemory) → now ≡ before → HasReplayCause before now r
 replay_wanted before now (Ok x) wants still = still
 replay_wanted before now (Err replay.AirFailed) wants still = absurd (cc wants)
@@ -78,7 +78,7 @@ write_cause before now replay.AirFailed (Err text.NoMemory) passed cause = absur
 write_cause before now replay.NoMemory (Err text.WriteFault) passed cause = absurd (cc passed)
 write_cause before now replay.NoMemory (Err text.NoMemory) passed cause = cause
 
--- of the air's last answer, where the count stood still before it
+-- of the air's last answer, where the count did not change before it
 pub last_cause : {T U : Type 0} (before middle now : ℕ) (one : Result T AirFault) (two : Result U TextFault)
     → MatchResult one (λ _. IsOk two) (λ f. IsErrAnd two (λ e. e ≡ text_fault (replay_fault f)))
     → middle ≡ before → HasAirCause middle now one → HasWriteCause before now two

@@ -39,7 +39,7 @@ heard_all grew more d tick h k a b e come first second =
     more a b e (arrivals_at Du (traffic_of d) tick) (map Cell (cells_reported_at Du d.config (traffic_of d) tick)) first
     (subst (λ (cs : List AirCell). grew b (map Cell cs) e) (cells_then d tick h k come) second)
 
--- the intake stands at the start of the next tick
+-- the intake is at the start of the next tick
 pub turn_then : (d : Document) (tick : ℤ) (h k : History) (u : Intake) → HasLanded d tick h k
     → IntakeStandsFor d.config (planned_for d) u (at_clock (heard k (intake_due_of d.config (planned_for d) k tick)) tick) → AtIntakeTurn d (tick +ℤ pos 1) u
 turn_then d tick h k u l stands =

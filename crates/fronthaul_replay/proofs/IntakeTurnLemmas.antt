@@ -38,7 +38,7 @@ use Rattle.unit_model.proofs.ArrivalLemmas.{arrivals-append, arrivals-cells, arr
 
 -- ---- what an air heard of it in a moment: nothing of the radio unit's events, and of its own all
 
--- frames that landed at it and then its cells, behind what was heard and the radio unit's events
+-- frames that landed at it and then its cells, after what was heard and the radio unit's events
 pub arrivals_closed : (told more : List Event) (results : List (List DelayResult)) (xs : List Arrival) (cs : List AirCell) → AreEventsOf Ru more
     → arrivals_heard Du [] ((told ++ more) ++ (arrivals_told Du results xs ++ map Cell cs)) ≡ onto (arrivals_heard Du [] told) xs
 arrivals_closed told more results xs cs other =
@@ -74,7 +74,7 @@ pub unit_waits : (d : Document) (now tick : ℤ) (h : History) → IsReplayable 
     → intake_due_of d.config (planned_for d) h (tick -ℤ pos 1) ≡ [] → IsUnitMoment Du d.config (traffic_of d) now tick
 unit_waits d now tick h doc turn calm none = record { landings_are = landings_are_replayed d Du doc; calm = calm; quiet = due_same d now h turn (tick -ℤ pos 1) ∙ none }
 
--- what stands at the start of a tick stands at the start of the next moment
+-- what is at the start of a tick is at the start of the next moment
 pub skip : (d : Document) (now tick : ℤ) (h : History) → IsIntakeTurn d now h → IsNextMoment d.config (traffic_of d) now tick → IsIntakeTurn d tick h
 skip d now tick h turn next =
     let c = d.config in

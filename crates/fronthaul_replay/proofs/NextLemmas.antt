@@ -105,7 +105,7 @@ module _ (d : Document) (now : ℤ) (h k : History) (left : List SentFrame) (dow
 
 -- ---- from a tick to the next moment
 
--- nothing happens between, and then all stands at the start of the moment
+-- nothing happens between, and then all is at the start of the moment
 pub record ComesTo {G : Type 0} (pre : G → RePlace → Type 0) (post : G → RePlace → Wide → Type 0)
     (d : Document) (now tick : ℤ) (u : Ru) (i : Intake) (w : Coming G) (m : Meters) : Type 0 where
   pub next : IsNextMoment d.config (traffic_of d) now tick

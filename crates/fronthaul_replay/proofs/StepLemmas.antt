@@ -27,7 +27,7 @@ radio_in_step d tick u i told rest turn is step = record {
   intake = intake_front_stays d tick (events_before d tick) told rest i is (intake_turn_step d tick i turn);
 }
 
--- and with some of the distributed unit's behind all of those, where the intake is
+-- and with some of the distributed unit's after all of those, where the intake is
 pub intake_in_step : (d : Document) (tick : ℤ) (u : Ru) (i : Intake) (told rest : List Event) → IsRadioInStep d (events_before d tick ++ radio_events d tick) u
     → intake_events d tick ≡ told ++ rest → IsIntakeInStep d ((events_before d tick ++ radio_events d tick) ++ told) i
     → IsInStep d ((events_before d tick ++ radio_events d tick) ++ told) u i

@@ -55,7 +55,7 @@ unfolding events
 all_events d = refl
 
 module _ {A : Type 0} (grew : A → List Event → A → Type 0) (stopped : A → Event → A → Type 0) where
-  -- ---- memory ran out before a tick's events, or behind them
+  -- ---- memory ran out before a tick's events, or after them
 
   pub rests_before : (d : Document) (tick : ℤ) (u : Ru) (i : Intake) (a : A) → grew a [] a → AtTurn d tick u i
       → HaltsBehind grew stopped (InStep d u i) (events_before d tick) (events_at d.config (traffic_of d) tick) a a

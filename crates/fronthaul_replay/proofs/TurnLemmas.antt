@@ -91,7 +91,7 @@ none_skipped d now tick h doc turn next quiet =
     } in
     owes_none d.config ls now (tick -ℤ pos 1) tick h seen turn.begun (last_reached now tick next.order) (last_is_earlier tick) turn.given quiet.messages
 
--- what stands at the start of a tick stands at the start of the next moment of both units
+-- what is at the start of a tick is at the start of the next moment of both units
 pub skip : (d : Document) (now tick : ℤ) (h : History) → IsReplayable d → IsRadioTurn d now h → IsNextMoment d.config (traffic_of d) now tick → IsQuietTo d.config h (tick -ℤ pos 1)
     → IsRadioTurn d tick h
 skip d now tick h doc turn next quiet =

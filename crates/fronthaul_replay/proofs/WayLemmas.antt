@@ -1,4 +1,4 @@
--- How a way stands to a document from one time to another.
+-- How a way relates to a document from one time to another.
 use Rattle.std.proofs.Common.{◌≡◌, ℤ, pos, ◌+ℤ◌, ◌-ℤ◌, ◌≤ℤ◌, Bool, true, false, List, [], ◌∷◌, ◌++◌, All, inl, inr, refl, sym, ap, ap₂, ◌∙◌, subst, append_assoc, append-nil, arith}
 use Rattle.std.specs.Prelude.{if◌then◌else◌}
 use Rattle.std.specs.Ordering.{int_eq}
@@ -94,7 +94,7 @@ lands_at d side t sent left doc all later =
 next_is : (tick : ℤ) → (tick -ℤ pos 1) +ℤ pos 1 ≡ tick
 next_is tick = omega (arith, ints)
 
--- where nothing lands of those that were sent before a tick, the way stands at the tick as it stood
+-- where nothing lands of those that were sent before a tick, the way is at the tick as it was
 pub waits_until : (d : Document) (side : Side) (now tick : ℤ) (left : List Leaving) (w : Way) → (h : Waits d side now left w) → now ≤ℤ tick
     → IsCalmTo (landings_on (on_way d side h.sent)) now (tick -ℤ pos 1) → Waits d side tick left w
 waits_until d side now tick left w h order calm =

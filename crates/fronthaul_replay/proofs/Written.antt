@@ -84,7 +84,7 @@ module _ (text_of : Event → List ℕ) (text : Document → List ℕ) (text_is 
     cut_text NoMemory fresh cut =
         subst OfWhole (sym (text_is d)) (front_of_whole text_of (written old) (written new) (events_of d) (cut_front text_of WantsMemory written faults refusals owed (events_of d) old new fresh cut))
 
-    -- and not all of it, since the last line was still to come
+    -- and not all of it, since the last line was still to follow
     pub part_text : (f : TextFault) → owed old ≡ [] → CutBy f TextGrew TextStopped (events_of d) old new → WritesPart (written old) (written new) (text d)
     part_text WriteFault fresh cut =
         subst OfPart (sym (text_is d)) (front_part (written old) (written new) (flat_map text_of (events_of d)) end_text some_end (stops_front text_of Failed written faults refusals owed (events_of d) old new fresh cut))

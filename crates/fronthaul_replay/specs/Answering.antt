@@ -19,7 +19,7 @@ pub record IsDueAt (d : Document) (tick : ℤ) : Type 0 where
   pub begun : first_clock ≤ℤ tick
   pub ended : tick ≤ℤ end_of_time
 
--- all has landed at the radio unit, and what comes to the other waits
+-- all has landed at the radio unit, and what is to be received at the other waits
 pub record MayAnswer {G : Type 0} (pre : G → RePlace → Type 0) (post : G → RePlace → Wide → Type 0) (ru : Ru) (u : Uplink G) (link queue : List LinkFrame) (way : Way) : Type 0 where
   pub document : Document
   pub tick : ℤ

@@ -1,4 +1,4 @@
--- How a radio unit stands as time passes, tick by tick (this project's profile).
+-- The state of a radio unit as time passes, tick by tick (this project's profile).
 use Rattle.std.specs.Prelude.{◌≡◌, ℤ, pos, ◌+ℤ◌, ◌-ℤ◌, ◌≤ℤ◌, List, [], ◌++◌, map}
 use Rattle.air_source.specs.declared.events.Event.{Event}
 use Rattle.air_source.specs.declared.events.Event.TheVariants.{Cell}

@@ -1,4 +1,4 @@
--- What is to come to the radio unit: what the plan has still to send, and what is on its way (this project's profile).
+-- What is still to be received at the radio unit: what the plan has still to send, and what is on its way (this project's profile).
 use Rattle.std.specs.Prelude.{ℤ, pos, ◌+ℤ◌, List, map}
 use Rattle.air_source.specs.declared.events.Side.TheVariants.{Ru}
 use Rattle.du_scheduler.specs.Plans.{HasToSend}
@@ -31,7 +31,7 @@ pub record HasSentDown (d : Document) (tick : ℤ) (p : Plan) (w : Way) : Type 0
   pub later : AreSentFrom (tick +ℤ pos 1) left
   pub way : Waits d Ru tick (left_down d left tick) w
 
--- all that comes to the unit at a tick has landed: the frames of delay measurement that are made in it have still to be sent
+-- all that is received at the unit at a tick has landed: the frames of delay measurement that are made in it have still to be sent
 pub record HasLandedDown (d : Document) (tick : ℤ) (p : Plan) (w : Way) : Type 0 where
   pub left : List SentFrame
   pub plan : HasToSend d.config d.plan left p

@@ -1,4 +1,4 @@
--- How the distributed unit's intake stands as time passes, tick by tick (this project's profile).
+-- The state of the distributed unit's intake as time passes, tick by tick (this project's profile).
 use Rattle.std.specs.Prelude.{◌≡◌, ℤ, pos, ◌+ℤ◌, ◌-ℤ◌, ◌≤ℤ◌, List, [], ◌++◌}
 use Rattle.air_source.specs.declared.events.Event.{Event}
 use Rattle.air_source.specs.declared.events.Side.TheVariants.{Du as AtDu}

@@ -22,7 +22,7 @@ use Rattle.unit_model.specs.Meetings.{Arrival}
 use Rattle.unit_model.specs.Radiated.{first_clock}
 use Rattle.fronthaul_replay.specs.Replaying.{events_of}
 
--- each delay is a result of the frames that land at its unit at its time, and stands behind the frame that gave it, with that frame's
+-- each delay is a result of the frames that land at its unit at its time, and is after the frame that gave it, with that frame's
 -- results before it between; and each frame that lands is followed by all its results
 pub record TellsResults (d : Document) : Type 0 where
   pub results : All (IsResult (traffic_of d)) (events_of d)
@@ -30,16 +30,16 @@ pub record TellsResults (d : Document) : Type 0 where
   pub all : (side : Side) (tick : ℤ) (place : ℕ) (frame : Arrival) → first_clock ≤ℤ tick → tick ≤ℤ end_of_time → IsLanding side (traffic_of d) tick place frame
       → StandTogether (arrival_event side frame ∷ map (result_event side tick) (given_by side (traffic_of d) tick place)) (events_of d)
 
--- at each unit: no cell is reported twice; the samples of a cell came in the symbol's window, and each of its elements was named by a
--- command on time that was accepted under the cell's section id, or is planned under it; each decoded section has one counted verdict and
--- each cell one count; the frames that arrive are those that are listed, each as often as it is listed; where nothing disturbs the plan,
--- each planned element radiates or is taken in exactly once, and each generation holds fragments of one message only; a message that is
--- refused as it comes, a fragment that does not stand and a section that is refused change nothing but counters; nor does a message of data
--- that is whole and says nothing, but that its fragments keep their places; each fragment of the message that gave a shown cell its samples
--- came within the cell's window; the delays are told behind the frames that give them; the delays and the counters of delay measurement are
--- those of what both units are told of it and send; and where no injected frame has a message of delay measurement, each delay is that of
--- the one request of its id and of a copy of its frame, and exactly the copy's time on its way where the two compensations that enter it
--- are whole nanoseconds
+-- at each unit: no cell is reported twice; the samples of a cell were received in the symbol's window, and each of its elements was named
+-- by a command on time that was accepted under the cell's section id, or is planned under it; each decoded section has one counted verdict
+-- and each cell one count; the frames that arrive are those that are listed, each as often as it is listed; where nothing disturbs the
+-- plan, each planned element radiates or is taken in exactly once, and each generation holds fragments of one message only; a message that
+-- is refused on receipt, a fragment that is not stored and a section that is refused change nothing but counters; nor does a message of
+-- data that is complete and says nothing, but that its fragments keep their places; each fragment of the message that gave a shown cell its
+-- samples was received within the cell's window; the delays are told after the frames that give them; the delays and the counters of delay
+-- measurement are those of what both units are told of it and send; and where no injected frame has a message of delay measurement, each
+-- delay is that of the one request of its id and of a copy of its frame, and exactly the copy's time on its way where the two compensations
+-- that enter it are whole nanoseconds
 pub record IsSound (d : Document) : Type 0 where
   pub once : IsOnce d.config (traffic_of d)
   pub in_time : (side : Side) → IsShownInTime side d.config (traffic_of d)

@@ -1,4 +1,4 @@
--- How both units' meters stand to a document at a tick (this project's profile).
+-- How both units' meters relate to a document at a tick (this project's profile).
 use Rattle.std.specs.Prelude.{ℤ, pos, ◌+ℤ◌, List, map}
 use Rattle.air_source.specs.declared.events.Side.TheVariants.{Ru, Du}
 use Rattle.document_traffic.specs.Replayed.{doings_at}

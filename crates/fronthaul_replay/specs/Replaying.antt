@@ -1,4 +1,4 @@
--- The replay of a document: its events, and how both units stand to those that were heard (this project's profile).
+-- The replay of a document: its events, and how both units relate to those that were heard (this project's profile).
 use Rattle.std.specs.Prelude.{◌≡◌, ℤ, List, [], ◌∷◌, ◌++◌, ◌⊎◌}
 use Rattle.air_source.specs.declared.events.Event.{Event}
 use Rattle.air_source.specs.declared.events.Side.TheVariants.{Ru as AtRu, Du as AtDu}

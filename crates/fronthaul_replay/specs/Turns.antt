@@ -1,5 +1,5 @@
--- How both units, their meters and what is to come stand to a document at the start of a tick, and when the next moment is (this project's
--- profile).
+-- How both units, their meters and what is still to be received relate to a document at the start of a tick, and when the next moment is
+-- (this project's profile).
 use Rattle.std.specs.Prelude.{◌≡◌, ℤ, ◌<ℤ◌, ◌≤ℤ◌, pos, ◌+ℤ◌, List, [], Option, Some, None, if◌then◌else◌, int_lt}
 use Rattle.air_source.specs.declared.events.Side.TheVariants.{Ru, Du}
 use Rattle.air_source.specs.declared.links.LinkFrame.{LinkFrame}
@@ -32,7 +32,7 @@ pub record AtTurn (d : Document) (now : ℤ) (u : Unit) (i : Intake) : Type 0 wh
   pub radio : AtRadioTurn d now u
   pub intake : AtIntakeTurn d now i
 
--- what is to come to both: what has left stands on the ways, and what leaves later is with the plan and the radio unit's queue
+-- what is still to be received at both: what has left is on the ways, and what leaves later is with the plan and the radio unit's queue
 pub record WaitsInTurn {G : Type 0} (pre : G → RePlace → Type 0) (post : G → RePlace → Wide → Type 0) (d : Document) (now : ℤ) (w : Coming G) : Type 0 where
   pub down : WaitsDown d now w.downlink.plan w.downlink.way
   pub up : WaitsUp pre post d now w.answers.uplink w.answers.outbox.frames w.answers.queue w.answers.way
@@ -51,7 +51,7 @@ pub record TurnHasBegun {G : Type 0} (pre : G → RePlace → Type 0) (post : G 
   pub waits : WaitsInTurn pre post d tick w
   pub begun : HaveBegun d tick m
 
--- all that comes at a tick has landed at both units: the frames of delay measurement that they made in it have still to be sent
+-- all that is received at a tick has landed at both units: the frames of delay measurement that they made in it have still to be sent
 pub record TurnHasLanded {G : Type 0} (pre : G → RePlace → Type 0) (post : G → RePlace → Wide → Type 0)
     (d : Document) (tick : ℤ) (w : Coming G) (m : Meters) : Type 0 where
   pub down : HasLandedDown d tick w.downlink.plan w.downlink.way

@@ -1,4 +1,4 @@
--- What the radio unit answers, and what is to come to the distributed unit (this project's profile).
+-- What the radio unit answers, and what is still to be received at the distributed unit (this project's profile).
 use Rattle.std.specs.Prelude.{◌≡◌, ℤ, pos, ◌+ℤ◌, ◌-ℤ◌, List, [], length, map}
 use Rattle.air_source.specs.Answers.{AnswersBy}
 use Rattle.air_source.specs.Kept.{IsKept, closure_of}
@@ -73,7 +73,7 @@ pub record HasSentUp (d : Document) (tick : ℤ) (queue : List LinkFrame) (way :
   pub waiting : WaitsFor (length d.config.endpoints) (tick +ℤ pos 1) (handed_by d tick) queue
   pub on_way : Waits d Du tick (left_at_end d tick) way
 
--- all that comes to the distributed unit at a tick has landed: the frames of delay measurement that are made in it have still to be sent
+-- all that is received at the distributed unit at a tick has landed: the frames of delay measurement made in it have still to be sent
 pub record HasLandedUp {G : Type 0} (pre : G → RePlace → Type 0) (post : G → RePlace → Wide → Type 0) (d : Document) (tick : ℤ) (u : Uplink G) (link queue : List LinkFrame) (way : Way) : Type 0 where
   pub handed : HasHanded pre post d tick u link
   pub waiting : WaitsFor (length d.config.endpoints) (tick +ℤ pos 1) (handed_by d tick) queue

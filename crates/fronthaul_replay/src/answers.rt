@@ -1,4 +1,4 @@
-// What the radio unit answers, and what is to come to the distributed unit.
+// What the radio unit answers, and what is still to be received at the distributed unit.
 ghost use Rattle.std.specs.Prelude.{IfOk};
 ghost use Rattle.air_source.specs.Answers.{AnswersBy};
 ghost use Rattle.air_source.specs.Kept.{IsKept, closure_of};

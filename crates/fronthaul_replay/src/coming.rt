@@ -1,4 +1,4 @@
-// What is to come to both units.
+// What is still to be received at both units.
 ghost use Rattle.std.specs.Prelude.{IfOk};
 ghost use Rattle.air_source.specs.Answers.{AnswersBy};
 ghost use Rattle.air_source.specs.Kept.{IsKept, closure_of};
@@ -18,7 +18,7 @@ use fh_base::NoMemory;
 use fh_document::Document;
 use std::alloc::Global;
 
-/// What is to come: to the radio unit, and from it to the distributed unit.
+/// What is still to be received: at the radio unit, and from it at the distributed unit.
 #[derive(Drop)]
 pub(crate) struct Coming<'a, G: Fn(RePlace) -> Wide> {
     pub(crate) downlink: Downlink<'a>,

@@ -1,4 +1,4 @@
-// What is to come to the radio unit.
+// What is still to be received at the radio unit.
 ghost use Rattle.std.specs.Prelude.{IfOk};
 ghost use Rattle.du_scheduler.specs.Plans.{HasToSend, IsPlan};
 ghost use Rattle.fh_base.specs.Least.{IsLeastOf};

@@ -72,7 +72,7 @@ fn intake_lands<A: Air>(
     intake.close_until(tick, out)
 }
 
-/// What comes behind the radio unit's part of a moment: its messages of this time are handed over, the frames that leave then are in
+/// What follows the radio unit's part of a moment: its messages of this time are handed over, the frames that leave then are in
 /// flight, all that lands at the distributed unit is delivered, and this unit's cells are told.
 pub(crate) fn intake_moment<A: Air, G: Fn(RePlace) -> Wide>(
     doc: &Document,

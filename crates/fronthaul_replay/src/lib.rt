@@ -2,10 +2,10 @@
 //! air, or written as a report, a summary or a capture.
 //!
 //! The events are defined over complete lists of arrivals (`replay_laws`); [`replay`] lets the radio unit of `ru_buffers` and the
-//! intake of `du_intake` come to them moment by moment (`unit_moments`), and keeps no list of what arrived. What a document has to do with
+//! intake of `du_intake` reach them moment by moment (`unit_moments`), and keeps no list of what arrived. What a document has to do with
 //! the ways, the queues and the meters is said here alone, by one invariant of the loop over moments (`AtMoment`).
-//! [`report_document`], [`count_document`], [`summarize_document`] and [`capture_document`] make the units, and an air writes as the events come. So the
-//! memory is that of the units, of the frames on their way and of the document, whatever the units make of the frames.
+//! [`report_document`], [`count_document`], [`summarize_document`] and [`capture_document`] make the units, and an air writes as the
+//! events occur. So the memory is that of the units, of the frames on their way and of the document, whatever the units make of the frames.
 #![tactic(auto)]
 
 mod answers;

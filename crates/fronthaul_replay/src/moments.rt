@@ -72,8 +72,8 @@ fn send_both<G: Fn(RePlace) -> Wide>(
     )
 }
 
-/// What comes to both units at one time, once its measurements have begun: the plan's frames that leave then; the radio unit's cells and the
-/// frames that land at it; its answers; then the frames that land at the distributed unit, and that unit's cells.
+/// What happens at both units at one time, once its measurements have begun: the plan's frames that leave then; the radio unit's cells and
+/// the frames that land at it; its answers; then the frames that land at the distributed unit, and that unit's cells.
 fn land<A: Air, F: Fn(RePlace) -> Wide, G: Fn(RePlace) -> Wide>(
     doc: &Document,
     tick: Ticks,
@@ -109,7 +109,7 @@ fn land<A: Air, F: Fn(RePlace) -> Wide, G: Fn(RePlace) -> Wide>(
     )
 }
 
-/// What comes at one time: measurements begin, both units' frames land and their cells are told, and the frames of delay measurement that
+/// What happens at one time: measurements begin, both units' frames land and their cells are told, and the frames of delay measurement that
 /// both made leave.
 fn moment<A: Air, F: Fn(RePlace) -> Wide, G: Fn(RePlace) -> Wide>(
     doc: &Document,

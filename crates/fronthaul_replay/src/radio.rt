@@ -59,7 +59,7 @@ fn radio_lands<A: Air>(
     land(Side::Ru, tick, ru, meter, way, pool, out)
 }
 
-/// What comes at the radio unit at one time, once its measurements of the time have begun: the plan's frames that leave then go on their
+/// What happens at the radio unit at one time, once its measurements of the time have begun: the plan's frames that leave then go on their
 /// way, its cells are told, and the frames that land, each with the delays that it makes known.
 pub(crate) fn radio_moment<A: Air, F: Fn(RePlace) -> Wide>(
     doc: &Document,

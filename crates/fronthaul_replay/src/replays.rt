@@ -37,7 +37,7 @@ use std::alloc::Global;
 use thiserror::Error;
 use unit_meters::Meters;
 
-/// Why a replay did not come to its end.
+/// Why a replay did not reach its end.
 #[derive(Clone, Copy, Debug, PartialEq, Eq, Error)]
 pub enum ReplayFault {
     /// The air failed in an event: it heard those before it, and both units are in step with them.
@@ -70,16 +70,16 @@ impl From<AirFault> for ReplayFault {
 
 /// Replays a document: the frames of its plan are sent at their times with the samples of `du`, the radio unit answers the uplink
 /// sections that it accepts with the samples of `antenna`, both units measure delays at the document's times with its compensations, the
-/// frames of both ways are lost, repeated and delayed as the document says, and its injected frames come between. The air hears each frame
-/// that arrives at a unit (refused ones too), behind it each delay that it makes known, each cell that the radio unit radiates or the
-/// distributed unit takes in, and at the end the counters that are not 0, in the order of events: at one time the radio unit's cells, its
-/// arrivals, the distributed unit's arrivals, and its cells; copies of sent frames come, in the order in which they are sent, before
-/// injected frames, in the order of the document. At one time measurements begin first, and the frames that both units made for them leave
-/// last.
+/// frames of both ways are lost, repeated and delayed as the document says, and its injected frames are received between them. The air
+/// hears each frame that arrives at a unit (refused ones too), after it each delay that it makes known, each cell that the radio unit
+/// radiates or the distributed unit takes in, and at the end the counters that are not 0, in the order of events: at one time the radio
+/// unit's cells, its arrivals, the distributed unit's arrivals, and its cells; copies of sent frames, in the order in which they are sent,
+/// precede injected frames, in the order of the document. At one time measurements begin first, and the frames that both units made for
+/// them leave last.
 ///
-/// Of these events holds, for every document: no cell is reported twice; what a cell shows came within its window and was commanded
+/// Of these events holds, for every document: no cell is reported twice; what a cell shows was received within its window and was commanded
 /// on time, or planned, under the same section id; the counters add up; the frames that arrive are those that are sent and listed; and
-/// each delay stands behind the frame that gave it. Where the windows pass the check, nothing is injected and each frame that is sent to
+/// each delay is after the frame that gave it. Where the windows pass the check, nothing is injected and each frame that is sent to
 /// the radio unit has a copy, each within T12, each scheduled downlink element radiates exactly once, with its samples as compression
 /// leaves them; and where each frame that the radio unit sends has a copy too, each within T34, each planned uplink element is taken in
 /// exactly once. Where no injected frame has a message of delay measurement, each delay is that of the one request of its id and of a copy

@@ -202,7 +202,7 @@ all_alone stream k n (suc count) =
       ),
     )
 
--- all stand at endpoints of the one numerology
+-- all are at endpoints of the one numerology
 pub numerology_is : (k n count : ℕ) (p : PlannedLine) → IsIn p (placed_from k n count) → p.endpoint.numerology ≡ (endpoint 0).numerology
 unfolding placed_from
 numerology_is k n zero p m = absurd m

@@ -11,7 +11,7 @@ use Rattle.plan_model.specs.Streams.{Part}
 use Rattle.generated_laws.specs.Sparse.{IsSpaced}
 use Rattle.generated_laws.proofs.Told.{Any, IsTold, Told, at_tick, ticks_apart}
 
--- each starts so far behind the one before it, the first no earlier than `low`
+-- each starts so far after the one before it, the first no earlier than `low`
 abbrev pub AreSpaced : ℕ → ℤ → List Part → Type 0
 AreSpaced least low [] = ⊤
 AreSpaced least low (x ∷ xs) = (low ≤ℤ start_of_part x) × AreSpaced least (start_of_part x +ℤ pos least) xs
@@ -44,7 +44,7 @@ module _ (g : Slot → ℕ → List Part) (e : EndpointConfig) (least : ℕ) (sp
   abbrev pub now : ℤ → List Part
   now t = of_endpoint g e t
 
-  -- nothing starts right behind a part
+  -- nothing starts right after a part
   quiet : (from t : ℤ) → (a : Told e.numerology Any from (now from)) → (from +ℤ pos 1) ≤ℤ t → t <ℤ (start_of_part a.part +ℤ pos least) → now t ≡ []
   quiet from t a low high = elim (at_tick g e least spaced told t) [
     | inl none ↦ none

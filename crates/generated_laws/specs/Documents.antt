@@ -14,7 +14,7 @@ unfoldable pub numbers_from : ℕ → ℕ → List ℕ
 numbers_from n zero = []
 numbers_from n (suc count) = n ∷ numbers_from (n + 1) count
 
--- one frame of data in ten, which comes twice
+-- one frame of data in ten, which is received twice
 abbrev pub delivery_of : ℕ → ℕ → Delivery
 delivery_of seed j = record { side = Ru; class = U; k = 1 + 10 * j + seed % 10; copies = pos 50000 ∷ pos 60000 ∷ [] }
 
@@ -22,7 +22,7 @@ unfoldable pub deliveries_from : ℕ → ℕ → ℕ → List Delivery
 deliveries_from seed j zero = []
 deliveries_from seed j (suc count) = delivery_of seed j ∷ deliveries_from seed (j + 1) count
 
--- the plan stands from line 8 on
+-- the plan begins in line 8
 abbrev pub document : ℕ → ℕ → Document
 document seed slots = record {
   config = config;

@@ -1,4 +1,4 @@
--- Idle lines behind a plan change no cell that radiates.
+-- Idle lines after a plan change no cell that radiates.
 use Rattle.std.proofs.Common.{◌≡◌, ℕ, pos, ◌+ℤ◌, Bool, true, false, not, ◌&&◌, ◌||◌, ◌==◌, if◌then◌else◌, List, [], ◌∷◌, ◌++◌, Some, refl, ap, ap₂, ◌∙◌}
 use Rattle.fh_base.specs.Air.{air_of}
 use Rattle.fh_base.specs.declared.values.Slot.{Slot}

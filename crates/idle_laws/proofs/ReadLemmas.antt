@@ -21,7 +21,7 @@ use Rattle.fh_base.proofs.MadeLists.{in_all}
 product : (a b c : ℕ) → a * (b * c) ≡ a * b * c
 product a b c = omega arith
 
--- a slot of the frames stands in one of them
+-- a slot of the frames is in one of them
 frame_below : (n : Numerology) (first last k : ℕ) → AreFrames first last → k < slot_count n first last → first + k * symbols_of n / frame_symbols n ≤ last
 frame_below n first last k frames below =
     let few = (frame_few n).0 in

@@ -217,7 +217,7 @@ planned_idle es k (x ∷ xs) idle = go (find_endpoint es x.id) (planned_idle es 
     go None rest = rest
     go (Some found) rest = (idle x (inl refl), rest)
 
--- idle lines stand after those that were there
+-- idle lines are after those that were there
 pub record IsFollowed (es : List EndpointConfig) (lines more : List PlanLine) : Type 0 where
   pub idles : List PlannedLine
   pub is : planned es (lines ++ more) ≡ planned es lines ++ idles

@@ -1,4 +1,4 @@
--- A valid plan with idle lines more behind it, where no downlink line names a cell of their slots.
+-- A valid plan with more idle lines after it, where no downlink line names a cell of their slots.
 use Rattle.std.specs.Prelude.{◌≡◌, ℕ, ◌+◌, true, false, List, [], ◌∷◌, ◌++◌, length, Some}
 use Rattle.window_config.specs.declared.config.Config.{Config}
 use Rattle.window_config.specs.declared.endpoints.EndpointConfig.{EndpointConfig}
@@ -11,7 +11,7 @@ use Rattle.plan_model.specs.Validity.{is_out_of_range, with_line}
 use Rattle.plan_model.specs.declared.lines.PlannedLine.{PlannedLine}
 use Rattle.fh_base.specs.Members.{IsIn}
 
--- an idle line may stand as line k behind lines that name these: its endpoint is known, it is in range, and no downlink line before it
+-- an idle line may be line k after lines that name these: its endpoint is known, it is in range, and no downlink line before it
 -- is of its endpoint and slot
 pub record IsFree (es : List EndpointConfig) (earlier : List Allocation) (k : ℕ) (line : PlanLine) : Type 0 where
   pub p : PlannedLine
@@ -24,12 +24,12 @@ abbrev pub AreFree : List EndpointConfig → List Allocation → ℕ → List Pl
 AreFree es earlier k [] = Unit {0}
 AreFree es earlier k (line ∷ lines) = (h : IsFree es earlier k line) × AreFree es (line_allocation h.p ∷ earlier) (k + 1) lines
 
--- what lines name behind others, the newest first
+-- what lines name after others, the newest first
 abbrev pub with_lines : List EndpointConfig → List Allocation → ℕ → List PlanLine → List Allocation
 with_lines es earlier k [] = earlier
 with_lines es earlier k (line ∷ lines) = with_lines es (with_line (planned_at es k line) earlier) (k + 1) lines
 
--- the plan with these lines behind it is valid
+-- the plan with these lines after it is valid
 abbrev pub IdleLinesAreValid : Type 0
 IdleLinesAreValid =
     (c : Config) (lines idles : List PlanLine) → IsValid c lines → AreFree c.endpoints (with_lines c.endpoints [] 0 lines) (length lines) idles → IsValid c (lines ++ idles)

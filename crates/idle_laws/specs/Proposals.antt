@@ -21,7 +21,7 @@ ProposedAreValid =
     (c : Config) (lines : List PlanLine) (first last : ℕ) (cells : List AirCell) (min : ℕ) → IsConfig c → IsValid c lines
     → IsValid c (lines ++ proposed c.endpoints first last cells min lines)
 
--- after line 1 of a document, where no line of a later kind stands, each is read as the line that it is
+-- after line 1 of a document, where there is no line of a later kind, each is read as the line that it is
 abbrev pub ProposedAreRead : Type 0
 ProposedAreRead =
     (es : List EndpointConfig) (lines : List PlanLine) (first last : ℕ) (cells : List AirCell) (min : ℕ) → All (λ (e : EndpointConfig). e.id < 2 ^ 16) es → AreFrames first last

@@ -23,7 +23,7 @@ pub record SpanStands (e : EndpointConfig) (first last : ℕ) (cells : List AirC
   pub before : (k : ℕ) → k + 1 ≡ r.first → Radiates e first cells k
   pub behind : r.first + r.len < symbol_count e.numerology first last → Radiates e first cells (r.first + r.len)
 
--- each listed span stands, and each run of the least length that no symbol extends is listed
+-- each listed span holds, and each run of the least length that no symbol extends is listed
 pub record AreSpans (e : EndpointConfig) (first last : ℕ) (cells : List AirCell) (min : ℕ) : Type 0 where
   pub stand : (r : Run) → IsIn r (listed_runs e first last cells min) → SpanStands e first last cells min r
   pub all : (k len : ℕ) → IsListed e first last cells min k len → IsIn (record { first = k; len = len }) (listed_runs e first last cells min)

@@ -2,7 +2,7 @@
 //!
 //! There are no functions: a law is stated in `specs/` and proved as a lemma in `proofs/`.
 //!
-//! A valid plan is valid still where idle lines for untouched slots stand behind it.
+//! A valid plan is valid still where idle lines for untouched slots follow it.
 //!
 //! There are no functions: a law is stated in `specs/` and proved as a lemma in `proofs/`.
 #![tactic(auto)]

@@ -1,4 +1,4 @@
--- Which symbols come after a place.
+-- Which symbols are after a place.
 use Rattle.std.proofs.Common.{◌≡◌, ℕ, ℤ, pos, ◌+◌, ◌*◌, ◌/◌, ◌%◌, ◌<◌, ◌≤◌, ◌<ℤ◌, ◌⊎◌, inl, inr, ◌↔◌, min, refl, sym, ap, subst, ◌∙◌, arith, length}
 use Rattle.std.proofs.lemmas.Int.{ints}
 use Rattle.std.proofs.lemmas.Nat.{div-add-mod', mod_below}
@@ -10,7 +10,7 @@ use Rattle.idle_spans.proofs.NumberLemmas.{number_at, frame_at, frame_few, frame
 earlier_frame : (z w : ℤ) (first q : ℕ) → z <ℤ pos first → w ≡ pos (first + q) → z <ℤ w
 earlier_frame z w first q less is = omega (arith, ints)
 
--- all symbols come after a place before the frames
+-- all symbols follow a place before the frames
 pub before_all : (r : RowValue) (p : Place) (k : ℕ) → p.slot.frame <ℤ pos r.first → (0 ≤ k) ↔ ComesAfter r.endpoint.numerology p (row_symbol r k)
 before_all r p k less = (
   λ _. inl (earlier_frame _ _ r.first _ less (frame_at r.endpoint.numerology r.first k)),
@@ -21,7 +21,7 @@ later_frame : (z w : ℤ) (last f : ℕ) (A : Type 0) → pos last <ℤ z → w 
 later_frame z w last f A more is within (inl before) = omega (arith, ints)
 later_frame z w last f A more is within (inr same) = let e = same.0 in omega (arith, ints)
 
--- no symbol comes after a place behind the frames
+-- no symbol follows a place after the frames
 pub behind_all : (r : RowValue) (p : Place) (k len : ℕ) → IsRow r → k < length r.marks → len ≡ length r.marks → pos r.last <ℤ p.slot.frame
     → (len ≤ k) ↔ ComesAfter r.endpoint.numerology p (row_symbol r k)
 behind_all r p k len is below len_is more = (

@@ -1,4 +1,4 @@
--- The tables, and the cells that they stand for.
+-- The tables, and the cells that each stands for.
 use Rattle.std.proofs.Common.{◌≡◌, ℕ, ◌+◌, ◌-◌, ◌*◌, ◌<◌, ◌≤◌, inl, inr, Bool, true, false, not, ◌||◌, ◌&&◌, set, slice_index, is_some, List, [], ◌∷◌, ◌++◌, length, get_or, map, if◌then◌else◌, ◌↔◌, Option, Some, None, refl, sym, ap, subst, ◌∙◌, arith}
 use Rattle.std.specs.List.{list_any}
 use Rattle.std.proofs.lemmas.Nat.{mul-le}

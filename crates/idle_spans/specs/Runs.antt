@@ -7,7 +7,7 @@ use Rattle.idle_spans.specs.Silence.{is_silent, has_missing}
 use Rattle.idle_spans.specs.declared.places.Place.{Place}
 use Rattle.idle_spans.specs.declared.places.Span.{Span}
 
--- so many numbers from one on pass the test, and no number before or behind them extends them below `total`
+-- so many numbers from one on pass the test, and no number before or after them extends them below `total`
 pub record IsRun (silent : ℕ → Bool) (total first len : ℕ) : Type 0 where
   pub some : 1 ≤ len
   pub within : first + len ≤ total

@@ -26,7 +26,7 @@ pub record IsEnd (silent : ℕ → Bool) (total from end : ℕ) : Type 0 where
   pub all : (k : ℕ) → from ≤ k → k < end → silent k ≡ true
   pub behind : end < total → silent end ≡ false
 
--- the first run of a least length, of those that begin at a number or behind it
+-- the first run of a least length, of those that begin at a number or after it
 pub record IsFirstRun (silent : ℕ → Bool) (total min from first len : ℕ) : Type 0 where
   pub run : IsLongRun silent total min first len
   pub low : from ≤ first

@@ -27,11 +27,11 @@ symbol_at n frame k = record {
   symbol = k % frame_symbols n % symbols_of n;
 }
 
--- the second symbol comes after the first one
+-- the second symbol is after the first one
 abbrev pub ComesAfter : Numerology → Place → Place → Type 0
 ComesAfter n p q = (p.slot.frame <ℤ q.slot.frame) ⊎ ((p.slot.frame ≡ q.slot.frame) × (number_in_frame n p < number_in_frame n q))
 
--- the symbol comes after the place, where there is one
+-- the symbol is after the place, where there is one
 abbrev pub IsAfter : Numerology → Option Place → Place → Type 0
 IsAfter n None q = Unit {0}
 IsAfter n (Some p) q = ComesAfter n p q

@@ -1,4 +1,4 @@
--- What the tables of the endpoints keep, and which cells they stand for.
+-- What the tables of the endpoints keep, and which cells each stands for.
 use Rattle.std.specs.Prelude.{◌≡◌, ℕ, ◌+◌, ◌<◌, ◌≤◌, ◌||◌, List, [], ◌∷◌, length, get_or, map}
 use Rattle.window_config.specs.declared.endpoints.EndpointConfig.{EndpointConfig}
 use Rattle.window_config.specs.declared.config.Config.{Config}

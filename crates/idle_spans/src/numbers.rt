@@ -35,7 +35,7 @@ pub(crate) fn number_in_frame(n: &Numerology, place: Place) -> usize
     slot * shape.symbols as usize + place.symbol as usize
 }
 
-/// How many frames come before a place, from one on.
+/// How many frames are before a place, from one on.
 pub(crate) fn frames_between(first: u32, place: Place) -> usize
     requires order { pos first ≤ℤ place.slot.frame }
     requires few { place.slot.frame ≤ℤ pos (first + 9) }

@@ -10,7 +10,7 @@ pub struct Place {
     pub symbol: u8,
 }
 
-/// A run of silent symbols that no symbol before or behind it extends.
+/// A run of silent symbols that no symbol before or after it extends.
 #[derive(Clone, Copy, Debug, PartialEq, Eq)]
 pub struct Span {
     /// Its first symbol.

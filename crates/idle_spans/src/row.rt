@@ -106,7 +106,7 @@ impl Row {
         place.slot.frame < i64::from(self.first)
     }
 
-    /// Whether a place lies behind the frames.
+    /// Whether a place is after the frames.
     fn is_behind(&self, place: Place) -> bool
         ensures { IsTrue result ↔ (pos self.now.last <ℤ place.slot.frame) }
     {
@@ -206,7 +206,7 @@ impl Row {
         self.marks.len()
     }
 
-    /// The first and the number of symbols of the first span of a least length, of those that begin at a symbol or behind it.
+    /// The first and the number of symbols of the first span of a least length, of those that begin at a symbol or after it.
     fn run_from(&self, start: usize, min: usize) -> Option<(usize, usize)>
         ensures some { IfSome result (λ r. IsFirstRun (row_silent self.now) (length self.now.marks) min start r.0 r.1) }
         ensures none { IsNone result → (k m : ℕ) → IsLongRun (row_silent self.now) (length self.now.marks) min k m → start ≤ k → ⊥ }
@@ -234,7 +234,7 @@ impl Row {
         missed
     }
 
-    /// The number of the first symbol that comes after a place; the number of all symbols where none does.
+    /// The number of the first symbol that is after a place; the number of all symbols where none is.
     fn start_after(&self, place: Place) -> usize
         ensures { (k : ℕ) → k < length self.now.marks → ((result ≤ k) ↔ ComesAfter self.now.endpoint.numerology place (row_symbol self.now k)) }
     {

@@ -62,7 +62,7 @@ impl Spans {
         ep < self.rows.len() && self.rows[ep].id() == id
     }
 
-    /// The index of the endpoint with an id. Cells come in runs of one endpoint, or of one after the other.
+    /// The index of the endpoint with an id. Cells are reported in runs of one endpoint, or of one after the other.
     fn find(&self, id: u16) -> Option<usize>
         ensures some { IfSome result (λ ep. (ep < length self.now.rows) × ((row_at self.now ep).endpoint.id ≡ id)) }
         ensures none { IsNone result → (ep : ℕ) → ep < length self.now.rows → (row_at self.now ep).endpoint.id ≡ id → ⊥ }
@@ -136,7 +136,7 @@ impl Spans {
     }
 
     /// The first listed span of an endpoint that begins after a place, or of all where no place is given: a run of at least
-    /// `min` silent symbols that no symbol before or behind it extends within the frames. None exactly where there is none. The
+    /// `min` silent symbols that no symbol before or after it extends within the frames. None exactly where there is none. The
     /// place is a symbol of the endpoint, of any frame.
     pub fn next(&self, ep: usize, after: Option<Place>, min: u32) -> Option<Span>
         requires ep { ep < length (endpoints_of self.now) }

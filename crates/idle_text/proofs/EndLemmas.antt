@@ -22,7 +22,7 @@ module _ (es : List EndpointConfig) (lines : List PlanLine) (first last min : �
   unfolding idle_text
   lines_cut w v o none front = front_part w v all_text end_text some_end (subst (λ (t : List ℕ). WritesFront w v (t ++ all_text)) none front)
 
-  -- all of these, and a part of what comes after
+  -- all of these, and a part of what follows
   pub end_cut : (w v u : Option (List ℕ)) (o p : List ℕ) → o ≡ [] → Carried w o all_text v p → WritesPart v u (p ++ end_text) → WritesPart w u (idle_text es lines first last min cells)
   unfolding idle_text
   end_cut w v u o p none told part =

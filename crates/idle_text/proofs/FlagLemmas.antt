@@ -51,7 +51,7 @@ less k at h = grind (arith, nat_tests)
 not_less : (k at : ℕ) → at ≤ k → nat_lt k at ≡ false
 not_less k at h = grind (arith, nat_tests)
 
--- slot k is one of those from a to b, as far as a loop has come
+-- slot k is one of those from a to b, as far as a loop has reached
 abbrev pub is_set : ℕ → ℕ → ℕ → ℕ → Bool
 is_set a b at k = nat_le a k && (nat_lt k at && nat_lt k b)
 

@@ -16,7 +16,7 @@ use Rattle.idle_spans.proofs.OrderLemmas.{among_all}
 use Rattle.idle_text.specs.Listed.{Run, listed_runs, run_at}
 use Rattle.idle_text.proofs.RunLemmas.{each_next, each_to, no_run, run_is}
 
--- the symbols from this number on are those that come after the place
+-- the symbols from this number on are those after the place
 pub record IsAt (e : EndpointConfig) (first total : ℕ) (after : Option Place) (from : ℕ) : Type 0 where
   pub each : (k : ℕ) → k < total → ((from ≤ k) ↔ IsAfter e.numerology after (symbol_at e.numerology first k))
   pub within : from ≤ total

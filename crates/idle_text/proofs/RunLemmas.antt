@@ -144,7 +144,7 @@ pub each_next : {A : Type 0} (from k : ℕ) (f : ℕ → List A) (x : A) → fro
     → each 0 (k + 1) f ≡ each 0 from f ++ x ∷ []
 each_next from k f x order none is = each_more k f ∙ ap₂ (λ xs ys. xs ++ ys) (each_to from k f order none) is
 
--- and what comes after
+-- and what follows
 pub each_parted : {A : Type 0} (k total : ℕ) (f : ℕ → List A) → k ≤ total → each 0 total f ≡ each 0 k f ++ each k (total - k) f
 each_parted k total f order =
     let size : total ≡ k + (total - k) = omega arith in

@@ -1,4 +1,4 @@
--- The table of one endpoint among all, and the cells for which it stands.
+-- The table of one endpoint among all, and the cells that it stands for.
 use Rattle.std.specs.Prelude.{◌≡◌, ℕ, List}
 use Rattle.window_config.specs.declared.config.Config.{Config}
 use Rattle.window_config.specs.declared.endpoints.EndpointConfig.{EndpointConfig}

@@ -109,7 +109,7 @@ fn tell_endpoints<K: Sink>(
     Ok(())
 }
 
-/// Writes when the endpoints of a document are idle, in the frames for which the spans stand: for each endpoint in the order of the
+/// Writes when the endpoints of a document are idle, in the frames that the spans stand for: for each endpoint in the order of the
 /// document its listed spans, which have at least `min` symbols, as lines `idle ID F S L Y F S L Y SYMBOLS MISSED`, and then a plan line
 /// of section type 0 for each slot that lies in a listed span and that no `dl` or `idle` line of the plan touches; at the end `end`.
 ///

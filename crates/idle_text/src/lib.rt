@@ -1,13 +1,13 @@
 //! When the endpoints of a document are idle, as text, and the plan lines that it proposes (this project's profile).
 //!
 //! [`idle_text`] writes for each endpoint its listed spans, and for each slot that lies in one of them and that no downlink line of the
-//! plan touches a plan line of section type 0; `end` stands at the end.
+//! plan touches a plan line of section type 0; `end` is at the end.
 //!
 //! The slots of an endpoint that lie in its listed spans and that no downlink line of the plan touches, as flags (this project's
 //! profile).
 //!
-//! The definitions stand in `specs/`: the listed spans of an endpoint as a list, and its free slots. The functions here are the steps by
-//! which a text that tells of them comes to the free slots.
+//! The definitions are in `specs/`: the listed spans of an endpoint as a list, and its free slots. The functions here are the steps by
+//! which a text that tells of them reaches the free slots.
 //!
 //! The lines that tell of idle endpoints (this project's profile): a span in which a transmitter is silent, and a plan line of section
 //! type 0 for a slot that nobody touches.

@@ -139,7 +139,7 @@ fn data_of_cells_that_are_not_planned(rt: HostRuntime) -> Result<(), Fail> {
     Ok(())
 }
 
-/// A block of section 6 comes first: what section 5 has for that PRB is a repeat, and the cell shows nothing.
+/// A block of section 6 is received first: what section 5 has for that PRB is a repeat, and the cell shows nothing.
 #[test]
 fn a_block_of_another_section_first(rt: HostRuntime) -> Result<(), Fail> {
     let alloc = rt.alloc();

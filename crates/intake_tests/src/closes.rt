@@ -1,5 +1,5 @@
 // The report of cells, by a plan of one line: two symbols of two PRBs. At 30 kHz symbol 0 of frame 1 is 71168 Tc long, of 781.25 ticks
-// each, so the moments of symbol 1 come 55,600,000 ticks later. All is worked out by hand.
+// each, so the moments of symbol 1 are 55,600,000 ticks later. All is worked out by hand.
 ghost use Rattle.window_config.specs.Plans.{IsPlanLine};
 
 use crate::sample_plans::{line, one};
@@ -41,7 +41,7 @@ fn missing_1(prb: u16) -> Option<AirCell> {
 }
 
 /// Nothing is heard before the moment of symbol 0. There the air stops in the second cell, which is the next to be reported, also after
-/// a frame of the same time; the cells of symbol 1 come at their own moment.
+/// a frame of the same time; the cells of symbol 1 are reported at their own moment.
 #[test]
 fn cells_are_reported_in_order(rt: HostRuntime) -> Result<(), Fail> {
     let alloc = rt.alloc();
@@ -112,8 +112,8 @@ fn an_air_stops_in_each_cell(rt: HostRuntime) -> Result<(), Fail> {
     Ok(())
 }
 
-/// Between two closes in which the air stops a frame comes, at the moment of the cells: each is for PRB 3 of symbol 0, which is still to
-/// be reported and shows the first one's block.
+/// Between two closes in which the air stops a frame is received, at the moment of the cells: each is for PRB 3 of symbol 0, which is still
+/// to be reported and shows the first one's block.
 #[test]
 fn frames_come_between_two_closes(rt: HostRuntime) -> Result<(), Fail> {
     let alloc = rt.alloc();

@@ -12,7 +12,7 @@ use fh_base::{List, Ticks};
 use std::test::Fail;
 use window_config::{Delays, Range};
 
-/// A tick behind the moment of symbol 0.
+/// A tick after the moment of symbol 0.
 const LATE: Ticks = Ticks(15_776_256_001);
 
 /// Each call once: data a nanosecond too early, on both edges of Ta4, and in the very moment of its cell; then a command.
@@ -62,7 +62,7 @@ fn until_100_us() -> Delays
     delays
 }
 
-/// Data that leave 50 us behind the start and take 50 us come at Ta4's maximum: they are taken, and shown in the very moment.
+/// Data that leave 50 us after the start and take 50 us are received at Ta4's maximum: they are taken, and shown in the very moment.
 #[test]
 fn taken_and_shown_in_the_very_moment(rt: HostRuntime) -> Result<(), Fail> {
     let alloc = rt.alloc();

@@ -1,5 +1,5 @@
 // 50 s at 30 kHz, slot by slot: 100,000 slots, of which each hundredth has a line. A slot has 768,000,000 ticks, and frame 1 begins at
-// tick 15360000000; a cell is told 416,256,000 ticks behind the start of its symbol.
+// tick 15360000000; a cell is told 416,256,000 ticks after the start of its symbol.
 ghost use Rattle.std.specs.Prelude.{◌<◌, ◌≤ℤ◌, pos, All, IfOk};
 ghost use Rattle.du_intake.specs.Closing.{IntakeStandsForSome};
 ghost use Rattle.unit_model.specs.Proper.{IsTime};
@@ -31,7 +31,7 @@ fn slot_of(k: u32) -> Slot
     }
 }
 
-/// A time so many ticks behind the start of the slot with a number.
+/// A time so many ticks after the start of the slot with a number.
 fn behind(k: u32, ticks: i64) -> Ticks
     requires slot { k < 100000 }
     requires low { pos 0 ≤ℤ ticks }
@@ -102,7 +102,7 @@ fn cell_of(k: u32) -> Option<AirCell>
     })
 }
 
-/// The data of a slot come 100 us behind its start, where they are not lost. Whether they are read.
+/// The data of a slot are received 100 us after its start, where they are not lost. Whether they are read.
 fn data_come(unit: &mut Intake, k: u32) -> bool
     requires unit { IntakeStandsForSome unit.old }
     requires slot { k < 100000 }
@@ -114,7 +114,7 @@ fn data_come(unit: &mut Intake, k: u32) -> bool
     step(unit, behind(k, 153_600_000), &data_of(k)) == READ
 }
 
-/// The data of a slot come, and its cells are reported. Whether both may be done.
+/// The data of a slot are received, and its cells are reported. Whether both may be done.
 fn one_slot(unit: &mut Intake, k: u32, air: &mut MemoryAir) -> bool
     requires unit { IntakeStandsForSome unit.old }
     requires slot { k < 100000 }

@@ -1,4 +1,4 @@
-// Offset endpoints of 30 kHz, of section type 3: a slot's symbols start timeOffset Ts behind the slot, of 50,000 ticks each, and every
+// Offset endpoints of 30 kHz, of section type 3: a slot's symbols start timeOffset Ts after the slot, of 50,000 ticks each, and every
 // symbol is 2048 and cpLength halves of Ts long. Ta4 is from 76,800,000 to 416,256,000 ticks. All is worked out by hand.
 ghost use Rattle.std.specs.Prelude.{◌≡◌, ◌<◌, ◌^◌, pos, IfSome};
 ghost use Rattle.window_config.specs.Configs.{IsConfig};
@@ -72,7 +72,7 @@ fn cell_of(at: i64, slot: u8, symbol: u8, block: Option<[Wide; 12]>) -> Option<A
     })
 }
 
-/// timeOffset 1000 and cpLength 100: symbol 2 of slot 1 starts 768,000,000 + 50,000,000 + 2 * 53,700,000 ticks behind frame 1. Data
+/// timeOffset 1000 and cpLength 100: symbol 2 of slot 1 starts 768,000,000 + 50,000,000 + 2 * 53,700,000 ticks after frame 1. Data
 /// of it are early a nanosecond before Ta4's minimum, taken at the minimum, and a repeat at the maximum, when the cell is shown.
 #[test]
 fn a_symbol_starts_by_the_time_offset(rt: HostRuntime) -> Result<(), Fail> {
@@ -118,7 +118,7 @@ fn a_symbol_starts_by_the_time_offset(rt: HostRuntime) -> Result<(), Fail> {
     Ok(())
 }
 
-/// cpLength 65,535: a symbol is 1,689,575,000 ticks long, more than two slots. Symbol 1 of slot 0 comes behind symbol 0 of slot 1, and
+/// cpLength 65,535: a symbol is 1,689,575,000 ticks long, more than two slots. Symbol 1 of slot 0 is after symbol 0 of slot 1, and
 /// shows its own data.
 #[test]
 fn slots_overlap(rt: HostRuntime) -> Result<(), Fail> {

@@ -10,7 +10,7 @@ use fh_base::{List, Ticks};
 use std::test::Fail;
 use window_config::{Delays, PlanLine, Range};
 
-/// 100 us, 150 us and 271,001 ns behind the start of symbol 0.
+/// 100 us, 150 us and 271,001 ns after the start of symbol 0.
 const AT_100_US: Ticks = Ticks(15_513_600_000);
 
 const AT_150_US: Ticks = Ticks(15_590_400_000);
@@ -29,8 +29,8 @@ fn narrow() -> Delays
     delays
 }
 
-/// A message is early by its first piece, even where its last one is on time: 50 and 150 us behind the start, where Ta4 begins at 60 us.
-/// 100 us lie between the pieces, and the message is whole, since the distributed unit holds them for 221 us.
+/// A message is early by its first piece, even where its last one is on time: 50 and 150 us after the start, where Ta4 begins at 60 us.
+/// 100 us lie between the pieces, and the message is complete, since the distributed unit holds them for 221 us.
 #[test]
 fn a_message_is_early_by_its_first_piece(rt: HostRuntime) -> Result<(), Fail> {
     let alloc = rt.alloc();
@@ -106,7 +106,7 @@ fn holding(down: i64, up: i64) -> Delays
     delays
 }
 
-/// The distributed unit holds a message for as long as the uplink's hold says: two pieces that come 100 us apart are whole.
+/// The distributed unit holds a message for as long as the uplink's hold says: two pieces that are received 100 us apart are complete.
 #[test]
 fn pieces_are_held_for_the_uplink(rt: HostRuntime) -> Result<(), Fail> {
     let alloc = rt.alloc();

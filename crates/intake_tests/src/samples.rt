@@ -17,7 +17,7 @@ use window_config::{Config, Delays};
 /// The start of symbol 0 of frame 1 at 30 kHz.
 pub(crate) const START: Ticks = Ticks(15_360_000_000);
 
-/// 49,999 ns, 50 us and 271 us behind it: Ta4 is usually from 50 to 271 us.
+/// 49,999 ns, 50 us and 271 us after it: Ta4 is usually from 50 to 271 us.
 pub(crate) const EARLY: Ticks = Ticks(15_436_798_464);
 
 pub(crate) const FIRST: Ticks = Ticks(15_436_800_000);
@@ -138,7 +138,7 @@ pub(crate) fn heard(air: &MemoryAir, i: usize) -> Option<AirCell> {
     }
 }
 
-/// Whether these counters alone stand above 0, at these values.
+/// Whether these counters alone are above 0, at these values.
 pub(crate) fn has_counted(counters: &Counters, wanted: &[(Counter, u64)]) -> bool {
     for counter in Counter::all() {
         let mut value = 0;

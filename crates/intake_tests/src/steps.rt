@@ -50,7 +50,7 @@ fn is_later(unit: &Intake, at: Ticks) -> bool
     unit.clock().0 <= at.0
 }
 
-/// Whether all cells whose moments come before a time are reported.
+/// Whether all cells whose moments are before a time are reported.
 fn has_reported(unit: &Intake, at: Ticks) -> bool
     ensures { (c : SpecConfig) (planned : SpecList Allocation) (h : History) → IntakeStandsFor c planned unit.now h → result ≡ true → IsReportedBefore c planned h at.0 }
 {
@@ -90,7 +90,7 @@ pub fn close<A: Air>(unit: &mut Intake, to: Ticks, air: &mut A) -> Result<(), Ai
     }
 }
 
-/// Reports the cells whose moments come before a time. No plan has a moment before time 0.
+/// Reports the cells whose moments are before a time. No plan has a moment before time 0.
 pub fn close_before<A: Air>(unit: &mut Intake, at: Ticks, air: &mut A) -> Result<(), AirFault>
     requires unit { IntakeStandsForSome unit.old }
     requires time { IsTime at.0 }

@@ -1,6 +1,6 @@
 // Six frames, each at one of six times, over and over in other rows: the intake agrees with the plain program of `plain_units`, which
-// keeps all that came. The plan has two lines of section 5 at 30 kHz, of symbol 0 of frame 1: some elements of the PRBs 0 and 1, and
-// others of PRB 0. Ta4 is from 50 to 271 us behind its start. What two of the rows give is worked out by hand.
+// keeps all that was received. The plan has two lines of section 5 at 30 kHz, of symbol 0 of frame 1: some elements of the PRBs 0 and 1,
+// and others of PRB 0. Ta4 is from 50 to 271 us after its start. What two of the rows give is worked out by hand.
 ghost use Rattle.std.specs.Prelude.{IfOk, IfSome, All};
 ghost use Rattle.du_intake.specs.Closing.{IntakeStandsForSome};
 ghost use Rattle.plain_units.specs.declared.report.TimedFrame.{TimedFrame as SpecFrame};
@@ -43,7 +43,7 @@ fn second_line() -> PlanLine
     }
 }
 
-/// When the frame at a place of a row comes: 49,999 ns, 50 us, 100 us, 271 us, 271,001 ns and 400 us behind the start.
+/// When the frame at a place of a row is received: 49,999 ns, 50 us, 100 us, 271 us, 271,001 ns and 400 us after the start.
 fn time_of(place: usize) -> Ticks
     ensures { IsTime result.0 }
 {
@@ -57,7 +57,7 @@ fn time_of(place: usize) -> Ticks
     }
 }
 
-/// 1 ms behind the start.
+/// 1 ms after the start.
 const END: Ticks = Ticks(16_896_000_000);
 
 /// A message of PRB 1, in two pieces.
@@ -224,7 +224,7 @@ fn a_row_without_samples(rt: HostRuntime) -> Result<(), Fail> {
     Ok(())
 }
 
-/// Backwards: the pieces become whole on time, and PRB 0 has its data in the very moment; what comes later is late.
+/// Backwards: the pieces become complete on time, and PRB 0 has its data in the very moment; what is received later is late.
 #[test]
 fn a_row_with_samples(rt: HostRuntime) -> Result<(), Fail> {
     let alloc = rt.alloc();

@@ -12,7 +12,7 @@ without_last_feed text = if slice_index text (length text - 1) == 10 then take (
 abbrev pub lines_of : List ℕ → List (List ℕ)
 lines_of text = if length text == 0 then [] else slice_split (λ b. b == 10) (without_last_feed text)
 
--- the words: what stands between spaces and is not empty
+-- the words: what is between spaces and is not empty
 abbrev pub words_of : List ℕ → List (List ℕ)
 words_of line = filter (λ w. nat_lt 0 (length w)) (slice_split (λ b. b == 32) line)
 

@@ -64,7 +64,7 @@ fn marks_of_16(separator: u8, bytes: &[u8]) -> u64
         .to_bitmask()
 }
 
-/// How many of the first sixteen bytes stand before the first that is the separator, or all sixteen.
+/// How many of the first sixteen bytes are before the first that is the separator, or all sixteen.
 #[inline(always)]
 fn end_in_16(separator: u8, bytes: &[u8]) -> usize
     requires { 16 ≤ length bytes.now }
@@ -77,7 +77,7 @@ fn end_in_16(separator: u8, bytes: &[u8]) -> usize
     marks.trailing_zeros() as usize
 }
 
-/// How many bytes stand before the first that is the separator, or all of them, looked at one by one.
+/// How many bytes are before the first that is the separator, or all of them, looked at one by one.
 #[inline(always)]
 fn end_by_one(separator: u8, bytes: &[u8]) -> usize
     ensures value { result ≡ position_or_len (λ b. b == separator) bytes.now }
@@ -91,7 +91,7 @@ fn end_by_one(separator: u8, bytes: &[u8]) -> usize
     bytes.len()
 }
 
-/// How many bytes stand before the first that is the separator, or all of them, for parts of many bytes.
+/// How many bytes are before the first that is the separator, or all of them, for parts of many bytes.
 #[inline(always)]
 fn end_by_many(separator: u8, bytes: &[u8]) -> usize
     ensures value { result ≡ position_or_len (λ b. b == separator) bytes.now }
@@ -103,7 +103,7 @@ fn end_by_many(separator: u8, bytes: &[u8]) -> usize
     }
 }
 
-/// How many bytes stand before the first that is the separator, or all of them.
+/// How many bytes are before the first that is the separator, or all of them.
 #[inline(always)]
 fn end_of(separator: u8, bytes: &[u8]) -> usize
     ensures value { result ≡ position_or_len (λ b. b == separator) bytes.now }

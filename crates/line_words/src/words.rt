@@ -9,7 +9,7 @@ use std::marker::Model;
 /// How many words of a line are kept.
 pub const KEPT: usize = 20;
 
-/// Keeps a word behind so many others, where there is room for it.
+/// Keeps a word after so many others, where there is room for it.
 #[inline(always)]
 fn keep_word<'a>(word: &'a [u8], count: usize, kept: &mut [&'a [u8]; KEPT])
     ensures size { length kept.new ≡ KEPT }
@@ -40,14 +40,14 @@ fn keep<'a>(line: &'a [u8], kept: &mut [&'a [u8]; KEPT]) -> usize
     count
 }
 
-/// The words of a line: what stands between spaces and is not empty. Contracts see them as a list of texts.
+/// The words of a line: what is between spaces and is not empty. Contracts see them as a list of texts.
 ///
 /// One value may serve for all lines of a text ([`Words::read`]), since to make and to move the kept words takes longer than to find
 /// them.
 #[derive(Drop)]
 pub struct Words<'a> {
     line: &'a [u8],
-    /// The first words; what stands after the last of them is none.
+    /// The first words; what is after the last of them is none.
     kept: [&'a [u8]; KEPT],
     /// How many words there are.
     count: usize,

@@ -3,7 +3,7 @@ use Rattle.std.specs.Prelude.{ℕ, ℤ, List, ◌++◌, codes, decimal}
 use Rattle.std.specs.Fmt.{signed_decimal}
 use Rattle.fh_base.specs.Words.{hex2_text, hex3_text, hex4_text}
 
--- what stands before a value
+-- what is before a value
 abbrev pub lead_text : List ℕ → List ℕ
 lead_text name = codes " " ++ name ++ codes "="
 

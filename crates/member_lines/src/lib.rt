@@ -1,7 +1,7 @@
 //! The members of a line of text, ` name=value` each: a name with a number or a word.
 //!
 //! [`named`] appends a member whose value is a number, [`named_signed`] one with a sign, [`named_hex2`], [`named_hex3`] and
-//! [`named_hex4`] one of hexadecimal digits, and [`named_word`] one that is a word. [`lead`] appends what stands before a value, and
+//! [`named_hex4`] one of hexadecimal digits, and [`named_word`] one that is a word. [`lead`] appends what is before a value, and
 //! [`way`] is the word of a way. None takes memory.
 #![tactic(auto)]
 

@@ -12,7 +12,7 @@ use Rattle.pcap_export.specs.declared.ways.Ways.{Ways}
 use Rattle.pcap_export.specs.Checked.{checked}
 use Rattle.pcap_export.specs.Packets.{pcap_bytes}
 
--- a whole text, and the status behind it
+-- a complete text, and the status after it
 pub record Answer : Type 0 where
   pub text : List ℕ
   pub status : Status

@@ -19,7 +19,7 @@ fault_at (Some ns) len = if nat_lt 262130 len then Some LongFrame else None
 abbrev pub fault_of : Ways → Arrived → Option ExportWhy
 fault_of ways a = if is_wanted ways a.side then fault_at (nanoseconds_of a.at.0) (length a.frame) else None
 
--- the refusal of a record at a place, or what is found behind it
+-- the refusal of a record at a place, or what is found after it
 abbrev pub passed_by : Option ExportWhy → ℕ → Result (Unit {0}) ExportRefusal → Result (Unit {0}) ExportRefusal
 passed_by None place behind = behind
 passed_by (Some why) place behind = Err (record { place = place; why = why })

@@ -33,7 +33,7 @@ nanoseconds_of (negsuc n) = None
 abbrev pub ns_of : Arrived → ℕ
 ns_of a = unwrap_or (nanoseconds_of a.at.0) 0
 
--- what stands before a packet: seconds, nanoseconds, and twice how many bytes it has
+-- what is before a packet: seconds, nanoseconds, and twice how many bytes it has
 abbrev pub record_head : ℕ → ℕ → List ℕ
 record_head ns kept = to_be_bytes w32 (ns / 10 ^ 9) ++ (to_be_bytes w32 (ns % 10 ^ 9) ++ (to_be_bytes w32 kept ++ to_be_bytes w32 kept))
 

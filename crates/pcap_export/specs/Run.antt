@@ -40,7 +40,7 @@ pub record Exports (a : Answer) (written_old written_new : Option (List ℕ)) (b
   pub answers : AnswersExport a.status before now status
   pub output : Counts (fails_output status) before now
 
--- why a run answers a status, where this one is wanted by the words over what came
+-- why a run answers a status, where this one is wanted by the words over what was received
 abbrev pub AnswersRun : Status → ℕ → ℕ → ℕ → ℕ → Status → Type 0
 AnswersRun wanted source_before source_now out_before out_now ReadFault = Rose source_before source_now
 AnswersRun wanted source_before source_now out_before out_now WriteFault = Rose out_before out_now × (wanted ≡ Done)
@@ -50,12 +50,12 @@ AnswersRun wanted source_before source_now out_before out_now status = wanted �
 
 -- what a run did, but for its line on standard error
 pub record Outcome (words : List (List ℕ)) (left_old left_new : Option (List ℕ)) (source_before source_now : ℕ) (written_old written_new : Option (List ℕ)) (out_before out_now : ℕ) (status : Status) : Type 0 where
-  -- the bytes that came
+  -- the bytes that were received
   pub came : List ℕ
   pub taken : left_old ≡ prepend_known came left_new
-  -- whatever the status, a front part was written of the one text of what came
+  -- whatever the status, a front part was written of the one text of what was received
   pub front : WritesFront written_old written_new (asked (ways_of words) came).text
-  -- a status that words and capture decide: it is the wanted one, all was read, and the one text stands whole
+  -- a status that words and capture decide: it is the wanted one, all was read, and the one text is complete
   pub answers : AnswersRun (asked (ways_of words) came).status source_before source_now out_before out_now status
   pub ended : IsDecided status → IsSome (ways_of words) → IsAtEnd left_new
   pub whole : IsDecided status → written_new ≡ append_known written_old (asked (ways_of words) came).text

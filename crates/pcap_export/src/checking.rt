@@ -9,7 +9,7 @@ use crate::refusals::{ExportRefusal, ExportWhy};
 use crate::ways::{Ways, is_wanted};
 use capture_records::{MAGIC, Record, check as check_capture, records};
 
-/// How many bytes of a capture's record stand before its frame.
+/// How many bytes of a capture's record are before its frame.
 const RECORD: usize = 13;
 
 // The fault of a frame that is to be written, with its time where that has a place.

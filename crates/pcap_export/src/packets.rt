@@ -11,7 +11,7 @@ pub const HEAD: [u8; 24] = [
     0x00, 0x04, 0x00, 0x00, 0x00, 0x00, 0x00, 0x01,
 ];
 
-/// How many bytes of a packet stand before its frame.
+/// How many bytes of a packet are before its frame.
 pub const ETHERNET: usize = 14;
 /// The most bytes of a frame: those of a record less the Ethernet header.
 pub const LONGEST: usize = 262_144 - ETHERNET;
@@ -43,7 +43,7 @@ pub fn ethernet_head(side: Side) -> [u8; ETHERNET]
     }
 }
 
-/// What stands before a packet of `kept` bytes that was seen at `ns` nanoseconds.
+/// What is before a packet of `kept` bytes that was seen at `ns` nanoseconds.
 pub fn record_head(ns: u64, kept: u32) -> [u8; 16]
     requires { ns < 2 ^ 32 * 10 ^ 9 }
     ensures { result ≡ record_head ns kept }

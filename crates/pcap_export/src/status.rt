@@ -18,7 +18,7 @@ pub enum Status {
     WriteFault,
     /// Memory was refused. A front part of the file was written.
     NoMemory,
-    /// More bytes came than the limit. Nothing was written.
+    /// More bytes were received than the limit. Nothing was written.
     TooLong,
 }
 

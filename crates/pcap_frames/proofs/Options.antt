@@ -16,7 +16,7 @@ skip little (suc n) i (b ∷ bytes) h = skip little n i bytes (omega arith)
 abbrev step : Bool → Interface → List ℕ → Result (Option Chosen) BlockWhy → Result Interface BlockWhy
 step little i bytes o = ended_or o i (described little (behind_first o) (changed_by little i o) bytes)
 
--- behind an option the others stand
+-- the others follow an option
 pub next : (little : Bool) (i : Interface) (bytes : List ℕ) (o : Chosen) → option_of little bytes ≡ Ok (Some o) → 4 + padded (length o.value) ≤ length bytes
     → described little 0 i bytes ≡ described little 0 (changed little i o) (drop (4 + padded (length o.value)) bytes)
 unfolding described
@@ -27,7 +27,7 @@ next little i (b ∷ bytes) o e h =
     ∙ skip little (3 + padded (length o.value)) (changed little i o) bytes (omega (arith, h))
     ∙ ap (λ n. described little 0 (changed little i o) (drop n (b ∷ bytes))) (sym more)
 
--- where options end, an interface stands as it is
+-- where options end, an interface remains as it is
 pub ended : (little : Bool) (i : Interface) (bytes : List ℕ) → option_of little bytes ≡ Ok None → described little 0 i bytes ≡ Ok i
 unfolding described
 ended little i [] e = refl

@@ -12,7 +12,7 @@ use Rattle.pcap_frames.proofs.Steps.{next, last, ended}
 use Rattle.pcap_frames.specs.declared.pcapng_values.Interface.{Interface}
 use Rattle.pcap_frames.specs.Blocks.{Block}
 
--- ---- the first time, and the fault, behind what a part may have of a wanted frame
+-- ---- the first time, and the fault, after what a part may have of a wanted frame
 
 time_by : (fault : Option PcapWhy) (t : ℕ) (found : Option ℕ) (later : ℕ) → found_or fault t ≡ Ok found → t ≡ first_or found later
 time_by None t found later e =

@@ -13,11 +13,11 @@ skip r zero (b ∷ bytes) h = refl
 skip r (suc n) [] h = absurd (omega arith)
 skip r (suc n) (b ∷ bytes) h = skip r n bytes (omega arith)
 
--- a part, and those behind it
+-- a part, and those after it
 abbrev joined : Reading → List ℕ → Result Block PcapWhy → List (Result Block PcapWhy)
 joined r bytes part = part ∷ parts_from (after_part r part) (behind_first part (length bytes)) bytes
 
--- behind a part that is not refused the others stand
+-- the others follow a part that is not refused
 pub next : (r : Reading) (bytes : List ℕ) (part : Block) → part_of r bytes ≡ Ok part → 0 < part.size → part.size ≤ length bytes
     → parts_from r 0 bytes ≡ Ok part ∷ parts_from (after r part.held) 0 (drop part.size bytes)
 unfolding parts_from

@@ -15,7 +15,7 @@ use Rattle.pcap_frames.proofs.Passing.{wanted_cons, wanted_end, interfaces_cons,
 use Rattle.pcap_frames.specs.declared.pcapng_values.Interface.{Interface}
 use Rattle.pcap_frames.specs.Blocks.{Block, Held, begins, adds, shows, nothing}
 
--- the interfaces that are to come begin with that which a part adds
+-- the interfaces that are to follow begin with that which a part adds
 later_is : (w : Walk) (part : Block) → IsWalk w → part_of (reading_of w) w.rest.now ≡ Ok part → 0 < part.size → part.size ≤ length w.rest.now
     → later_in w ≡ added part.held ++ interfaces_in (parts_from (after (reading_of w) part.held) 0 (drop part.size w.rest.now))
 later_is w part h e some within =
@@ -55,7 +55,7 @@ walk_next w behind part h e some within b = record {
       (sym b.later ∙ h.later ∙ ap interfaces_in (left_is w behind part e some within b) ∙ interfaces_cons part (left_in behind));
 }
 
--- behind what is refused nothing is left
+-- after what is refused nothing is left
 wanted_stop : (whose : Whose) (why : PcapWhy) → wanted_from whose (Err why ∷ []) ≡ []
 unfolding wanted_from
 wanted_stop whose why = refl

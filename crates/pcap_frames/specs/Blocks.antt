@@ -24,7 +24,7 @@ pub record Block : Type 0 where
 abbrev pub is_section : List ℕ → Bool
 is_section bytes = starts_with nat_eq bytes (0x0a ∷ 0x0d ∷ 0x0d ∷ 0x0a ∷ [])
 
--- whether numbers stand lowest byte first, as the bytes behind a section's length tell it
+-- whether numbers are lowest byte first, as the bytes after a section's length tell it
 abbrev pub order_of : List ℕ → Option Bool
 order_of bytes =
     if starts_with nat_eq bytes (0x1a ∷ 0x2b ∷ 0x3c ∷ 0x4d ∷ []) then Some false
@@ -35,7 +35,7 @@ order_of bytes =
 abbrev pub least_of : ℕ → ℕ
 least_of kind = if nat_eq kind 1 then 20 else (if nat_eq kind 6 then 32 else 12)
 
--- the length of a block, where it is at least this, a multiple of 4, not more than there is, and stands at the block's end too
+-- the length of a block, where it is at least this, a multiple of 4, not more than there is, and is given at the block's end too
 abbrev pub size_in : Bool → ℕ → List ℕ → ℕ → Option ℕ
 size_in little least bytes size =
     if nat_lt size least then None
@@ -77,7 +77,7 @@ abbrev pub sized : ℕ → Result Held BlockWhy → Result Block BlockWhy
 sized size (Ok held) = Ok (record { size = size; held = held })
 sized size (Err w) = Err w
 
--- a block of a type whose length is this: its body stands from byte 8 to the last four bytes
+-- a block of a type whose length is this: its body is from byte 8 to the last four bytes
 abbrev pub other_by : Bool → List Interface → ℕ → List ℕ → Option ℕ → Result Block BlockWhy
 other_by little interfaces kind bytes None = Err Cut
 other_by little interfaces kind bytes (Some size) = sized size (held_of little interfaces kind (take (size - 4 - 8) (drop 8 bytes)))

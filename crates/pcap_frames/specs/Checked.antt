@@ -30,7 +30,7 @@ abbrev pub fault_at : Whose → ℕ → ℕ → Result Block PcapWhy → Option 
 fault_at whose first start (Err why) = Some why
 fault_at whose first start (Ok b) = fault_of first start (wanted_of whose b.held)
 
--- the refusal of a part at a place, or what is found behind it
+-- the refusal of a part at a place, or what is found after it
 abbrev pub passed_by : Option PcapWhy → ℕ → Result (Unit {0}) PcapRefusal → Result (Unit {0}) PcapRefusal
 passed_by None place behind = behind
 passed_by (Some why) place behind = Err (record { place = place; why = why })

@@ -2,7 +2,7 @@
 use Rattle.std.specs.Prelude.{ℕ, ◌+◌, nat_eq, if◌then◌else◌, Bool, ◌||◌, List, [], ◌∷◌, drop, Option, Some, None}
 use Rattle.std.specs.List.{starts_with}
 
--- whether some bytes stand at a place; where fewer are left they do not
+-- whether some bytes are at a place; where fewer are left they are not
 abbrev pub stands_at : List ℕ → ℕ → List ℕ → Bool
 stands_at packet place some = starts_with nat_eq (drop place packet) some
 
@@ -10,10 +10,10 @@ stands_at packet place some = starts_with nat_eq (drop place packet) some
 abbrev pub is_tag : List ℕ → ℕ → Bool
 is_tag packet place = stands_at packet place (0x81 ∷ 0x00 ∷ []) || stands_at packet place (0x88 ∷ 0xa8 ∷ [])
 
--- where the EtherType stands: behind the 12 bytes of addresses and at most two tags of four bytes
+-- where the EtherType is: after the 12 bytes of addresses and at most two tags of four bytes
 abbrev pub type_place : List ℕ → ℕ
 type_place packet = if is_tag packet 12 then (if is_tag packet 16 then 20 else 16) else 12
 
--- the bytes behind the EtherType of eCPRI; none where the EtherType is another or is not whole
+-- the bytes after the EtherType of eCPRI; none where the EtherType is another or is not complete
 abbrev pub ecpri_in : List ℕ → Option (List ℕ)
 ecpri_in packet = if stands_at packet (type_place packet) (0xae ∷ 0xfe ∷ []) then Some (drop (type_place packet + 2) packet) else None

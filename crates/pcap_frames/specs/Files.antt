@@ -19,7 +19,7 @@ format_of bytes =
     else (if starts_with nat_eq bytes (0x4d ∷ 0x3c ∷ 0xb2 ∷ 0xa1 ∷ []) then Some (record { little = true; nanos = true })
     else None)))
 
--- the head of 24 bytes behind a magic that was found: the low 16 bits of the link type are those of Ethernet
+-- the head of 24 bytes after a magic that was found: the low 16 bits of the link type are those of Ethernet
 abbrev pub head_behind : Option Format → List ℕ → Result Format PcapRefusal
 head_behind None bytes = Err (record { place = 0; why = Magic })
 head_behind (Some format) bytes =

@@ -24,7 +24,7 @@ option_of little bytes =
     else (if is_wrong (number little 2 bytes) (number little 2 (drop 2 bytes)) then Err why.Option
     else Ok (Some (record { code = number little 2 bytes; value = take (number little 2 (drop 2 bytes)) (drop 4 bytes) })))))
 
--- how many bytes behind its first belong to an option, with its padding
+-- how many bytes after its first belong to an option, with its padding
 abbrev pub behind_first : Result (Option Chosen) BlockWhy → ℕ
 behind_first (Ok (Some o)) = 3 + padded (length o.value)
 behind_first (Ok None) = 0

@@ -36,7 +36,7 @@ abbrev pub with_interface : Interface → Reading → Reading
 with_interface i (records format) = records format
 with_interface i (blocks little interfaces) = blocks little (interfaces ++ i ∷ [])
 
--- how the parts behind one are read: a section has an order of its own and no interfaces at first
+-- how the parts after one are read: a section has an order of its own and no interfaces at first
 abbrev pub after : Reading → Held → Reading
 after r (begins little) = blocks little []
 after r (adds i) = with_interface i r
@@ -47,7 +47,7 @@ abbrev pub after_part : Reading → Result Block PcapWhy → Reading
 after_part r (Ok b) = after r b.held
 after_part r (Err w) = r
 
--- how many bytes behind its first belong to a part; where it is refused, all that are left
+-- how many bytes after its first belong to a part; where it is refused, all that are left
 abbrev pub behind_first : Result Block PcapWhy → ℕ → ℕ
 behind_first (Ok b) left = b.size - 1
 behind_first (Err w) left = left

@@ -14,12 +14,12 @@ abbrev pub first_or : Option ℕ → ℕ → ℕ
 first_or None later = later
 first_or (Some first) later = first
 
--- a fault, or the first time behind a frame
+-- a fault, or the first time after a frame
 abbrev pub found_or : Option PcapWhy → ℕ → Result (Option ℕ) PcapWhy
 found_or None first = Ok (Some first)
 found_or (Some why) first = Err why
 
--- the first time behind what a part may have of a wanted frame, or its fault
+-- the first time after what a part may have of a wanted frame, or its fault
 abbrev pub found_by : ℕ → Option ℕ → Option Wanted → Result (Option ℕ) PcapWhy
 found_by start first None = Ok first
 found_by start first (Some w) = found_or (frame_fault (first_or first w.time) start w) (first_or first w.time)

@@ -34,7 +34,7 @@ Expects w (adds i) = (more : List Interface) × (later_in w ≡ i ∷ more)
 Expects w (shows seen) = Unit {0}
 Expects w nothing = Unit {0}
 
--- what is left behind a part
+-- what is left after a part
 pub record IsBehind (w : Walk) (held : Held) (size : ℕ) (behind : Walk) : Type 0 where
   pub rest : behind.rest.now ≡ drop size w.rest.now
   pub reading : reading_of behind ≡ after (reading_of w) held

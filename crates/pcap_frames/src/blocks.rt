@@ -12,12 +12,12 @@ use crate::pcapng_values::{Block, Content, Interface};
 /// The type of a block with which a section begins, the same in both orders of bytes.
 pub const SECTION: [u8; 4] = [0x0a, 0x0d, 0x0d, 0x0a];
 
-/// What stands behind its length where its numbers stand highest byte first.
+/// What is after its length where its numbers are highest byte first.
 const BIG: [u8; 4] = [0x1a, 0x2b, 0x3c, 0x4d];
 /// And lowest byte first.
 const LITTLE: [u8; 4] = [0x4d, 0x3c, 0x2b, 0x1a];
 
-/// How many bytes of a block stand before its body, and after it.
+/// How many bytes of a block are before its body, and after it.
 const HEAD: usize = 8;
 
 const TAIL: usize = 4;
@@ -31,7 +31,7 @@ const SIMPLE_PACKET: u32 = 3;
 
 const ENHANCED_PACKET: u32 = 6;
 
-// Whether the numbers of a section stand lowest byte first; none where the bytes tell no order.
+// Whether the numbers of a section are lowest byte first; none where the bytes tell no order.
 fn order(bytes: &[u8]) -> Option<bool>
     ensures { result ≡ order_of bytes.now }
 {
@@ -134,7 +134,7 @@ fn other<'a>(bytes: &'a [u8], little: bool, interfaces: &[Interface]) -> Result<
     }
 }
 
-/// The block that the bytes begin with, in a section whose numbers stand lowest byte first where `little` is set, and that has these
+/// The block that the bytes begin with, in a section whose numbers are lowest byte first where `little` is set, and that has these
 /// interfaces so far. The block with which a section begins has an order of its own.
 ///
 /// # Errors

@@ -34,7 +34,7 @@ fn fault(first: u128, start: u64, wanted: Wanted<'_>) -> Option<PcapWhy>
     }
 }
 
-// The first time behind what a record or a block holds, or its fault.
+// The first time after what a record or a block holds, or its fault.
 fn first_behind(
     content: Content<'_>,
     whose: Whose,
@@ -90,7 +90,7 @@ fn check_parts(
     })
 }
 
-/// Tests a complete file, of which these frames are wanted, and whose first of them is to stand at `start` ns.
+/// Tests a complete file, of which these frames are wanted, and whose first of them is to be at `start` ns.
 ///
 /// # Errors
 ///

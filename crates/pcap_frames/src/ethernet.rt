@@ -4,7 +4,7 @@ ghost use Rattle.std.specs.List.{starts_with};
 ghost use Rattle.std.specs.Prelude.{nat_eq, map};
 ghost use Rattle.pcap_frames.specs.Ethernet.{is_tag, type_place, ecpri_in};
 
-/// How many bytes of addresses stand first.
+/// How many bytes of addresses are first.
 const ADDRESSES: usize = 12;
 /// How many bytes a tag has.
 const TAG: usize = 4;
@@ -15,7 +15,7 @@ const CUSTOMER_TAG: [u8; 2] = [0x81, 0x00];
 
 const SERVICE_TAG: [u8; 2] = [0x88, 0xa8];
 
-/// Whether some bytes stand at a place.
+/// Whether some bytes are at a place.
 pub fn stands_at(packet: &[u8], place: usize, some: &[u8]) -> bool
     ensures value { result ≡ starts_with nat_eq (drop place packet.now) some.now }
     ensures bound { IsTrue result → length some.now ≤ length packet.now - place }
@@ -31,7 +31,7 @@ fn is_tag(packet: &[u8], place: usize) -> bool
     stands_at(packet, place, &CUSTOMER_TAG) || stands_at(packet, place, &SERVICE_TAG)
 }
 
-// Where the EtherType stands, behind at most two tags.
+// Where the EtherType is, after at most two tags.
 fn type_place(packet: &[u8]) -> usize
     ensures { result ≡ type_place packet.now }
 {
@@ -44,7 +44,7 @@ fn type_place(packet: &[u8]) -> usize
     }
 }
 
-/// The bytes behind the EtherType of eCPRI, where the Ethernet frame has this EtherType.
+/// The bytes after the EtherType of eCPRI, where the Ethernet frame has this EtherType.
 pub fn ecpri_in(packet: &[u8]) -> Option<&[u8]>
     ensures { option_copied result ≡ ecpri_in packet.now }
 {

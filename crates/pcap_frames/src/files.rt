@@ -6,9 +6,9 @@ use crate::refusals::{PcapRefusal, PcapWhy};
 use crate::values::Format;
 use byteorder::{BigEndian, ByteOrder, LittleEndian};
 
-/// How many bytes stand before the first record.
+/// How many bytes are before the first record.
 pub const HEAD: usize = 24;
-/// Where the link type stands.
+/// Where the link type is.
 const LINK_TYPE: usize = 20;
 /// The link type of Ethernet.
 const ETHERNET: u32 = 1;

@@ -2,7 +2,7 @@
 use crate::walks::Walk;
 use crate::wanted::Wanted;
 
-/// A frame that is wanted, and what is left behind it.
+/// A frame that is wanted, and what is left after it.
 #[derive(Clone, Copy)]
 pub struct Found<'a> {
     pub wanted: Wanted<'a>,

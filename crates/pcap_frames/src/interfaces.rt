@@ -8,12 +8,12 @@ use crate::numbers::{long, padded, short};
 use crate::pcapng_refusals::BlockWhy;
 use crate::pcapng_values::Interface;
 
-/// How many bytes of an option stand before its value.
+/// How many bytes of an option are before its value.
 const HEAD: usize = 4;
-/// How many bytes of an interface's body stand before its options.
+/// How many bytes of an interface's body are before its options.
 const FIXED: usize = 8;
 
-/// The code behind which no options stand.
+/// The code after which there are no options.
 const END: u16 = 0;
 /// The code of the unit of time.
 const RESOLUTION: u16 = 9;

@@ -1,8 +1,8 @@
 //! Capture files, classic pcap and pcapng: the eCPRI frames in a capture of the outside (this project's profile).
 //!
-//! [`check`] tests a complete file, and [`frames`] goes over the eCPRI frames of one that passed: all of them, or those that go to or
-//! come from one address ([`Whose`]). A classic file has 24 bytes and then records of 16 bytes and the bytes that were kept; a pcapng
-//! file is a list of blocks. All its own numbers stand in the order of bytes that its magic tells, or the beginning of the section,
+//! [`check`] tests a complete file, and [`frames`] goes over the eCPRI frames of one that passed: all of them, or those to or
+//! from one address ([`Whose`]). A classic file has 24 bytes and then records of 16 bytes and the bytes that were kept; a pcapng
+//! file is a list of blocks. All its own numbers are in the order of bytes that its magic tells, or the beginning of the section,
 //! which is never that of the Ethernet frames in it. Only [`check`] takes memory, for the interfaces of a pcapng file, and no bytes are
 //! copied.
 //!

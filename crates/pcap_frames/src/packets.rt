@@ -6,7 +6,7 @@ ghost use Rattle.pcap_frames.specs.Packets.{record_as, record_or_none};
 use crate::files::word;
 use crate::values::Record;
 
-/// How many bytes of a record stand before its packet.
+/// How many bytes of a record are before its packet.
 pub const RECORD: usize = 16;
 
 /// The record that the bytes begin with, where they hold it whole.

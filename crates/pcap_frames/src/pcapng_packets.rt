@@ -10,7 +10,7 @@ use crate::pcapng_refusals::BlockWhy;
 use crate::pcapng_values::Interface;
 use crate::times::time;
 
-/// How many bytes of a packet's body stand before the packet.
+/// How many bytes of a packet's body are before the packet.
 const FIXED: usize = 20;
 /// The link type of Ethernet.
 const ETHERNET: u16 = 1;

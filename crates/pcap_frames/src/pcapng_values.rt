@@ -15,7 +15,7 @@ pub struct Interface {
 /// What a block holds.
 #[derive(Clone, Copy)]
 pub enum Content<'a> {
-    /// A section begins, without interfaces. Whether its numbers stand lowest byte first.
+    /// A section begins, without interfaces. Whether its numbers are lowest byte first.
     Section(bool),
     /// The next interface of its section.
     Interface(Interface),

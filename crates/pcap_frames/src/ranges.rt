@@ -5,7 +5,7 @@ ghost use Rattle.fh_base.specs.declared.nanoseconds.TheConstants.{LAST_TIME};
 
 use fh_base::LAST_TIME;
 
-/// Whether a time, counted from the first and put behind the start, lies from 0 to 1,000,000,000,000 ns.
+/// Whether a time, counted from the first and put after the start, lies from 0 to 1,000,000,000,000 ns.
 pub fn is_in_range(first: u128, start: u64, time: u128) -> bool
     requires { time < 2 ^ 96 }
     ensures { result ≡ in_range first start time }

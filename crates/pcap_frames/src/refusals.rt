@@ -10,7 +10,7 @@ use thiserror::Error;
 /// What is wrong with a capture file.
 #[derive(Clone, Copy, Debug, PartialEq, Eq, Error)]
 pub enum PcapWhy {
-    /// The magic is not there, or other bytes stand in its place.
+    /// The magic is not there, or other bytes are in its place.
     #[error("not a capture file")]
     Magic,
     /// The file ends inside its head, a record or a block, or a block has a length that does not fit.

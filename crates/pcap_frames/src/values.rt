@@ -16,7 +16,7 @@ pub enum Whose {
 pub struct PcapFrame<'a> {
     /// The unit that it goes to.
     pub side: Side,
-    /// When it was seen, from 0 to 1,000,000,000,000 ns: the start behind by as much as its packet is behind the first.
+    /// When it was seen, from 0 to 1,000,000,000,000 ns: as long after the start as its packet is after the first.
     pub at: i64,
     /// Its bytes, to the end of its packet.
     pub frame: &'a [u8],
@@ -25,7 +25,7 @@ pub struct PcapFrame<'a> {
 /// How a classic file's numbers are read.
 #[derive(Clone, Copy, Debug, PartialEq, Eq)]
 pub struct Format {
-    /// Whether they stand lowest byte first.
+    /// Whether they are lowest byte first.
     pub little: bool,
     /// Whether fractions are in nanoseconds; else they are in microseconds.
     pub nanos: bool,
@@ -36,7 +36,7 @@ pub struct Format {
 pub enum Layout {
     /// The records of a classic file.
     Records(Format),
-    /// The blocks of a pcapng file, in a section whose numbers stand lowest byte first or not.
+    /// The blocks of a pcapng file, in a section whose numbers are lowest byte first or not.
     Blocks(bool),
 }
 

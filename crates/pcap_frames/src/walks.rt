@@ -15,7 +15,7 @@ pub struct Walk<'a> {
     pub count: usize,
 }
 
-/// What the next record or block holds, and what is left behind it.
+/// What the next record or block holds, and what is left after it.
 #[derive(Clone, Copy)]
 pub struct Step<'a> {
     pub content: Content<'a>,
@@ -26,7 +26,7 @@ impl<'a> Walk<'a> {
     ghost use Rattle.pcap_frames.specs.Walks.{IsWalk, Expects, IsBehind, Steps};
     ghost use Rattle.pcap_frames.specs.Values.{held_as};
 
-    // What is left behind a record or a block.
+    // What is left after a record or a block.
     fn behind(self, content: Content<'a>, size: usize) -> Walk<'a>
         requires size { size ≤ length self.rest.now }
         requires within { self.count ≤ length self.interfaces.now }

@@ -10,7 +10,7 @@ use crate::values::Whose;
 use crate::wanted::Wanted;
 use air_source::Side;
 
-/// Where the destination of a packet stands, and its source.
+/// Where the destination of a packet is, and its source.
 const DESTINATION: usize = 0;
 
 const SOURCE: usize = 6;

@@ -28,7 +28,7 @@ seconds_of base r = r.seen.time / 10 ^ 9 - base
 abbrev recorded_as : ℕ → Recording → Recorded
 recorded_as base r = record { seconds = seconds_of base r; fraction = r.seen.time % 10 ^ 9; packet = r.seen.packet }
 
--- what stands behind the first, the second and the third number, before other bytes
+-- what is after the first, the second and the third number, before other bytes
 abbrev behind_one : Bool → Recording → List ℕ → List ℕ
 behind_one little r rest = word_bytes little (r.seen.time % 10 ^ 9) ++ (word_bytes little (length r.seen.packet) ++ (word_bytes little r.original ++ (r.seen.packet ++ rest)))
 

@@ -22,7 +22,7 @@ classic_head little limit =
     word_bytes little 0xa1b23c4d
     ++ (short_bytes little 2 ++ (short_bytes little 4 ++ (word_bytes little 0 ++ (word_bytes little 0 ++ (word_bytes little limit ++ word_bytes little 1)))))
 
--- what stands before a packet: seconds, less by a number, nanoseconds, how many bytes follow, and how many there were
+-- what is before a packet: seconds, less by a number, nanoseconds, how many bytes follow, and how many there were
 abbrev pub record_head : Bool → ℕ → Recording → List ℕ
 record_head little base r =
     word_bytes little (r.seen.time / 10 ^ 9 - base)

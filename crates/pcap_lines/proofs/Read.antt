@@ -222,7 +222,7 @@ are_frames : (ts : List Timed) → AreShown ts → AllByRecursion HasBytes ts �
 are_frames [] h k = All-nil IsFrame
 are_frames (t ∷ ts) h k = All-cons IsFrame (injection_of t) (map injection_of ts) (is_frame t h.0 k.0) (are_frames ts h.1 k.1)
 
--- behind line 1 the text is read as exactly these frames
+-- after line 1 the text is read as exactly these frames
 pub read_back : (whose : Whose) (bytes : List ℕ) (start : ℕ) → AreBytes bytes → AreShown (frames_of whose bytes start)
     → document_of (codes "fronthaul 1\n" ++ lines_of (frames_of whose bytes start)) ≡ Ok (document_with (map injection_of (frames_of whose bytes start)))
 read_back whose bytes start all shown =

@@ -10,7 +10,7 @@ use Rattle.pcap_frames.specs.Frames.{Timed}
 use Rattle.air_source.specs.Units.{way_text}
 use Rattle.fh_base.specs.declared.nanoseconds.TheConstants.{NANOSECOND}
 
--- what stands before a frame's word
+-- what is before a frame's word
 abbrev pub opening_text : Side → ℤ → List ℕ
 opening_text side at = codes "inject " ++ way_text side ++ codes " " ++ signed_decimal at ++ codes " "
 

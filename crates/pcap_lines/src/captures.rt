@@ -15,7 +15,7 @@ use capture_records::{MAGIC, record_head};
 use fh_base::{OwedBytes, Sink, SinkFault, of_ns};
 use pcap_frames::{PcapFrame, PcapHead, Whose, frames};
 
-// What stands before a frame in its record.
+// What is before a frame in its record.
 fn head_of(f: &PcapFrame<'_>) -> [u8; 13]
     requires { IsShown (timed_of f.now) }
     ensures { result ≡ head_bytes f.now.side (f.now.at *ℤ pos NANOSECOND) (length f.now.frame.now) }

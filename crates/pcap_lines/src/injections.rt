@@ -74,7 +74,7 @@ pub fn inject_text<K: Sink>(
     ensures ok { OnOk result (K.written out.new ≡ append_known (K.written out.old) (lines_of (frames_of whose bytes.now start))) }
     ensures front { WritesFront (K.written out.old) (K.written out.new) (lines_of (frames_of whose bytes.now start)) }
     ensures part { OnErr result (WritesPart (K.written out.old) (K.written out.new) (lines_of (frames_of whose bytes.now start))) }
-    // behind line 1 of a document this text is read as exactly these frames, in their order
+    // after line 1 of a document this text is read as exactly these frames, in their order
     ensures read { document_of (codes "fronthaul 1\n" ++ lines_of (frames_of whose bytes.now start)) ≡ Ok (document_with (map injection_of (frames_of whose bytes.now start))) }
     ensures cause { HasSinkCause (K.faults out.old) (K.faults out.new) (K.refusals out.old) (K.refusals out.new) result }
 {

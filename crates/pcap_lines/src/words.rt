@@ -11,7 +11,7 @@ use air_source::Side;
 use fh_base::{Line, OwedBytes, Sink, SinkFault};
 use pcap_frames::PcapFrame;
 
-/// Appends what stands before a frame's word, to an empty line.
+/// Appends what is before a frame's word, to an empty line.
 pub fn opening(line: &mut Line, f: &PcapFrame<'_>)
     requires { line.old ≡ [] }
     ensures { line.new ≡ opening_text f.now.side f.now.at }

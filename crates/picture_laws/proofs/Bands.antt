@@ -1,4 +1,4 @@
--- Bands stand one below the other, above the legend.
+-- Bands are one below the other, above the legend.
 use Rattle.std.proofs.Common.{◌≡◌, ℕ, zero, suc, ◌+◌, ◌*◌, ◌<◌, ◌≤◌, List, [], ◌∷◌, length, take, Bool, true, false, max, subst, ap, arith}
 use Rattle.std.specs.Prelude.{Some, if◌then◌else◌, slice_get, sum_by}
 use Rattle.std.proofs.lemmas.List.{take_all}

@@ -29,7 +29,7 @@ use Rattle.picture_laws.specs.Plain.{IsPlain, is_plain_byte}
 use Rattle.picture_laws.specs.Laws.{parts_of}
 use Rattle.picture_laws.proofs.PlainTexts.{lit, ◌⊕◌, byte_plain, closing_plain, down_plain, each_plain, hatched_plain, number_plain, opening_plain, plain_cons, plain_if, rect_plain, text_plain, titled_plain}
 
--- ---- what stands before the cells and after them
+-- ---- what is before the cells and after them
 
 scs_plain : (e : Endpoint) → IsPlain (scs_name e)
 scs_plain e =

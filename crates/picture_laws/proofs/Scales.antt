@@ -1,4 +1,4 @@
--- Where times stand, and how wide and how high rectangles are.
+-- Where times are, and how wide and how high rectangles are.
 use Rattle.std.proofs.Common.{◌≡◌, ℕ, ◌+◌, ◌-◌, ◌*◌, ◌<◌, ◌≤◌, ◌&&◌, not, true, false, Bool, ℤ, pos, negsuc, ◌-ℤ◌, int_lt, nat_lt, min, max, refl, sym, subst, arith, div-lt_iff_lt-mul, mul-le-mul_left, mul-add, mul_comm, mul-le-mul}
 use Rattle.std.specs.Prelude.{if◌then◌else◌}
 use Rattle.std.proofs.lemmas.Bool.Decides.{nat_tests}
@@ -7,7 +7,7 @@ use Rattle.pictures.specs.Scales.{or_zero, scaled}
 use Rattle.pictures.proofs.Scaling.{part_most}
 use Rattle.pictures.specs.Areas.{width_of}
 
--- a number under the whole stands before the end
+-- a number under the whole is before the end
 pub before_end : (n w p : ℕ) → n < w → 0 < p → scaled n w p < p
 unfolding scaled
 before_end n w p lt some =
@@ -26,7 +26,7 @@ pub at_most : (n w p : ℕ) → 0 < w → scaled n w p ≤ p
 unfolding scaled
 at_most n w p some = part_most (min n w) p w some (omega arith)
 
--- a time in a range is less than its length behind its start
+-- a time in a range is less than its length after its start
 pub past_in : (at : ℤ) (b l : ℕ) → (not (int_lt at (pos b)) && int_lt at (pos (b + l))) ≡ true → or_zero (at -ℤ pos b) < l
 past_in (pos n) b l e = go (nat_lt n b) (nat_lt n (b + l)) refl refl e
   where

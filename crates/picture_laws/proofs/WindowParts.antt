@@ -27,7 +27,7 @@ use Rattle.picture_laws.proofs.Parts.{◌⊗◌, ◌⊙◌, each_made, made_none
 use Rattle.picture_laws.proofs.PlainWindows.{Shown}
 use Rattle.picture_laws.proofs.Scales.{at_most}
 
--- ---- where times stand
+-- ---- where times are
 
 column_most : (ws : Windows) (ns : ℤ) → column_of ws ns ≤ 1040
 unfolding column_of far_of

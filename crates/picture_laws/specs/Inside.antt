@@ -1,4 +1,4 @@
--- Where the rectangle of cells stands.
+-- Where the rectangle of cells is.
 use Rattle.std.specs.Prelude.{◌+◌, ◌≤◌, ◌<◌, List}
 use Rattle.pictures.specs.declared.cells.Cell.{Cell}
 use Rattle.pictures.specs.declared.endpoints.Endpoint.{Endpoint}
@@ -6,7 +6,7 @@ use Rattle.pictures.specs.declared.rects.Area.{Area}
 use Rattle.pictures.specs.Areas.{band_of}
 use Rattle.pictures.specs.Sizes.{height_of, legend_of}
 
--- it has at least one pixel, and lies in the columns of the subframes and in its band, which stands above the legend
+-- it has at least one pixel, and lies in the columns of the subframes and in its band, which is above the legend
 pub record IsInside (es : List Endpoint) (c : Cell) (a : Area) : Type 0 where
   pub wide : 1 ≤ a.width
   pub high : 1 ≤ a.height

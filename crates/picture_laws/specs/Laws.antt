@@ -17,7 +17,7 @@ use Rattle.picture_laws.specs.Plain.{IsPlain}
 abbrev pub parts_of : List ℕ → List (List ℕ)
 parts_of text = slice_split (λ b. b == 10) (without_last_feed text)
 
--- what a line draws stands in the picture once, at its place
+-- what a line draws is in the picture once, at its place
 abbrev pub PicturesAreLines : Type 0
 PicturesAreLines =
     (s : Span) (es : List Endpoint) (text : List ℕ) (before after : List (List ℕ)) (line : List ℕ) → parts_of text ≡ before ++ line ∷ after

@@ -1,4 +1,4 @@
--- The parts of the picture of windows, and where each stands.
+-- The parts of the picture of windows, and where each is.
 use Rattle.std.specs.Prelude.{◌≡◌, ℕ, ◌+◌, ◌≤◌, List, ◌++◌, Bool, true, not, ◌&&◌, ◌||◌, ◌==◌, nat_le, codes}
 use Rattle.std.specs.List.{All, flat_map, list_all}
 use Rattle.pictures.specs.declared.arrivals.Kind.{Kind}
@@ -76,7 +76,7 @@ page = record { left = 0; right = 1284; top = 0; bottom = 652 }
 abbrev pub nowhere : Panel
 nowhere = record { left = 0; right = 0; top = 0; bottom = 0 }
 
--- outside of the rows stand lines and texts alone
+-- outside of the rows are lines and texts alone
 abbrev pub whole : Part → Panel
 whole (Window a) = nowhere
 whole (Bar kind a) = nowhere
@@ -84,8 +84,8 @@ whole (Down name x y by) = page
 whole (Across name x y by) = page
 whole (Words x y grey anchor t) = page
 
--- Of a row from y on: its windows and their names above, its bars below the windows and on the base line, which ends it. Bars stand where
--- times stand, from 214 to 1254, and reach a pixel farther.
+-- Of a row from y on: its windows and their names above, its bars below the windows and on the base line, which ends it. Bars are where
+-- times are, from 214 to 1254, and reach a pixel farther.
 abbrev pub row_panel : ℕ → Part → Panel
 row_panel y (Window a) = record { left = 214; right = 1255; top = y + 23; bottom = y + 57 }
 row_panel y (Bar kind a) = record { left = 213; right = 1256; top = y + 57; bottom = y + 122 }

@@ -1,4 +1,4 @@
-//! Laws of pictures: of which bytes they are, what is drawn of each line of the text of a resource grid, and where all of it stands.
+//! Laws of pictures: of which bytes they are, what is drawn of each line of the text of a resource grid, and where all of it is.
 //!
 //! The functions here do nothing: each one's contract is its law, stated in `specs/`.
 #![tactic(auto)]
@@ -26,7 +26,7 @@ pub fn windows_are_plain()
     ensures { WindowsArePlain }
 {}
 
-/// The picture of the windows is made of windows, bars, lines and texts. Each of them stands in the picture, and each window and each bar
+/// The picture of the windows is made of windows, bars, lines and texts. Each of them is in the picture, and each window and each bar
 /// of a row in its panel of this row.
 pub fn windows_have_panels()
     ensures { WindowsHavePanels }

@@ -56,7 +56,7 @@ carries_nothing s es line w o h = subst (λ (t : List ℕ). Carried w o t w o) (
 pub line_said : (f : List ℕ → List ℕ) (parts rest : List (List ℕ)) (line told whole : List ℕ) → parts ≡ line ∷ rest → told ++ flat_map f parts ≡ whole → (told ++ f line) ++ flat_map f rest ≡ whole
 line_said f parts rest line told whole is says = append_assoc told (f line) (flat_map f rest) ∙ ap (λ (ps : List (List ℕ)). told ++ flat_map f ps) (sym is) ∙ says
 
--- a front of a line was told behind those before it
+-- a front of a line was told after those before it
 pub line_cut : (f : List ℕ → List ℕ) (parts rest : List (List ℕ)) (line told whole : List ℕ) (w v u : Option (List ℕ)) (o p : List ℕ) → parts ≡ line ∷ rest → told ++ flat_map f parts ≡ whole
     → Carried w o told v p → WritesFront v u (p ++ f line) → WritesFront w u (o ++ whole)
 line_cut f parts rest line told whole w v u o p is says before front =

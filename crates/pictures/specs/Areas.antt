@@ -1,4 +1,4 @@
--- Where cells stand.
+-- Where cells are.
 use Rattle.std.specs.Prelude.{ℕ, ◌+◌, ◌-◌, ◌*◌, List, max, nat_lt, if◌then◌else◌}
 use Rattle.pictures.specs.declared.cells.Cell.{Cell}
 use Rattle.pictures.specs.declared.endpoints.Endpoint.{Endpoint}
@@ -12,11 +12,11 @@ use Rattle.pictures.specs.declared.spans.Span.{Span}
 abbrev pub width_of : ℕ → ℕ → ℕ
 width_of from to = if nat_lt 3 (to - from) then to - from - 1 else max (to - from) 1
 
--- the band of the downlink stands above that of the uplink
+-- the band of the downlink is above that of the uplink
 abbrev pub band_of : List Endpoint → Cell → ℕ
 band_of es c = if c.up then top_of es c.ep + step_of c.endpoint else top_of es c.ep
 
--- from the start of the symbol to its end; PRB 0 stands at the bottom of the band
+-- from the start of the symbol to its end; PRB 0 is at the bottom of the band
 unfoldable pub area_of : Span → List Endpoint → Cell → Area
 area_of s es c = record {
   x = x_after s (past s c.at);

@@ -43,7 +43,7 @@ is_down (Some Up) = false
 abbrev pub command_arrival : Reading → Command → Option Arrival
 command_arrival r c = if c.mismatch then None else Some (arrival_of r.windows (command_flow c.uplink) c.margins)
 
--- a section of a command comes in a frame of the downlink
+-- a section of a command is in a frame of the downlink
 abbrev pub command_line : Reading → List (List ℕ) → Result (Option Arrival) TextWhy
 command_line r ws = if is_down r.way then or_line (command_in ws) (λ c. Ok (command_arrival r c)) else Err why.Line
 
@@ -51,7 +51,7 @@ abbrev pub data_flow : Way → Flow
 data_flow Down = DownlinkData
 data_flow Up = UplinkData
 
--- a section of data comes in a frame, and goes its way
+-- a section of data is in a frame, and goes its way
 abbrev pub data_line : Reading → List (List ℕ) → Result (Option Arrival) TextWhy
 data_line r ws = or_line r.way (λ way. or_line (data_in ws) (λ m. Ok (Some (arrival_of r.windows (data_flow way) m))))
 
@@ -70,7 +70,7 @@ abbrev pub heard : Reading → Result (Option Arrival) TextWhy → Result (Readi
 heard r (Ok a) = Ok (r, a)
 heard r (Err w) = Err w
 
--- windows stand in lines 2 to 9 alone; all other lines are passed over
+-- windows are in lines 2 to 9 alone; all other lines are passed over
 abbrev pub used_line : Reading → List (List ℕ) → Result (Reading × Option Arrival) TextWhy
 used_line r ws =
     if bytes_eq (word_at ws 0) (codes "window") then Err why.Line
@@ -79,7 +79,7 @@ used_line r ws =
     else (if bytes_eq (word_at ws 0) (codes "u") then heard r (data_line r ws)
     else Ok (r, None))))
 
--- no line comes after the end
+-- no line is after the end
 abbrev pub later_line : Reading → List (List ℕ) → Result (Reading × Option Arrival) TextWhy
 later_line r ws =
     if r.ended then Err why.End
@@ -114,7 +114,7 @@ read_from n r came (line ∷ lines) = going_on (line_of r n line) (λ next. read
 abbrev pub arrivals_of : List ℕ → Result (Windows × List Arrival) (ℕ × TextWhy)
 arrivals_of text = if length text == 0 then Err (1, why.Head) else read_from 1 start [] (slice_split (λ b. b == 10) (without_last_feed text))
 
--- what was read became the wanted one, or the wanted reason came
+-- what was read became the wanted one, or the wanted reason was given
 abbrev pub Refuses : Result Reading TextWhy → Result (Unit {0}) TextWhy → Reading → Type 0
 Refuses wanted (Ok u) new = wanted ≡ Ok new
 Refuses wanted (Err w) new = wanted ≡ Err w
@@ -124,7 +124,7 @@ abbrev pub Hears : Result (Reading × Option Arrival) TextWhy → Result (Option
 Hears wanted (Ok a) new = wanted ≡ Ok (new, a)
 Hears wanted (Err w) new = wanted ≡ Err w
 
--- an arrival stands in a column
+-- an arrival is in a column
 pub record HasPlace (a : Arrival) : Type 0 where
   pub first : a.first ≤ 1040
   pub last : IfSome a.last (λ column. column ≤ 1040)

@@ -18,7 +18,7 @@ step_of ws = if nat_le (far_of ws + near_of ws) 1300000 then 100000 else 500000
 unfoldable pub tick_text : Windows → ℤ → List ℕ
 tick_text ws ns = down_text (codes "slot") (place_of ws ns) 76 546 ++ text_text (place_of ws ns) 72 true Middle (signed_decimal ns)
 
--- how many lines stand before the symbol, and after it
+-- how many lines are before the symbol, and after it
 abbrev pub before_of : Windows → ℕ
 before_of ws = far_of ws / step_of ws
 

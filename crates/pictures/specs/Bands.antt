@@ -1,4 +1,4 @@
--- What stands before the cells and after them.
+-- What is before the cells and after them.
 use Rattle.std.specs.Prelude.{ℕ, ◌+◌, ◌*◌, ◌/◌, ◌%◌, List, [], ◌∷◌, ◌++◌, Bool, true, false, ◌==◌, if◌then◌else◌, codes, decimal}
 use Rattle.fh_base.specs.Numbering.{code_of, slots_of}
 use Rattle.fh_base.specs.declared.nanoseconds.TheConstants.{NANOSECOND}
@@ -86,7 +86,7 @@ column_text s k =
 unfoldable pub columns_text : Span → List ℕ
 columns_text s = each (column_text s) s.count
 
--- what stands before the cells
+-- what is before the cells
 unfoldable pub head_text : Span → List Endpoint → List ℕ
 head_text s es = title_text s (legend_of es) ++ from_text s ++ columns_text s ++ bands_text s 62 es
 
@@ -94,7 +94,7 @@ head_text s es = title_text s (legend_of es) ++ from_text s ++ columns_text s ++
 unfoldable pub entry_text : ℕ → ℕ → List ℕ → List ℕ → List ℕ
 entry_text x y class name = rect_text class (record { x = x; y = y; width = 12; height = 12 }) ++ text_text (x + 17) (y + 10) false Start name
 
--- each entry stands 32 pixels and 7 for each character of the name behind the one before it
+-- each entry is 32 pixels, and 7 for each character of the name, after the one before it
 unfoldable pub first_text : ℕ → List ℕ
 first_text y =
     entry_text 10 y (codes "shown-dl") (codes "radiates")
@@ -121,6 +121,6 @@ hint_text y =
     text_text 118 (y + 34) true Start
     (codes "Point at a coloured cell for its line of explain. Blue radiates, green was taken in; every other colour is a cell that is missing or silent.")
 
--- what stands after the cells
+-- what is after the cells
 unfoldable pub foot_text : List Endpoint → List ℕ
 foot_text es = legend_text (legend_of es) ++ hint_text (legend_of es) ++ closing_text

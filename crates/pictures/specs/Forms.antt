@@ -44,7 +44,7 @@ margins_at ws at =
 abbrev pub is_uplink : List (List ℕ) → Bool
 is_uplink ws = bytes_eq (word_at ws 12) (codes "uplink")
 
--- the index of the word after `uplink`, and of that after `idle`, where these stand
+-- the index of the word after `uplink`, and of that after `idle`, where these are present
 abbrev pub after_uplink : List (List ℕ) → ℕ
 after_uplink ws = if is_uplink ws then 13 else 12
 

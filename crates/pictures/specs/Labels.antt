@@ -1,11 +1,11 @@
--- What stands beside a row.
+-- What is beside a row.
 use Rattle.std.specs.Prelude.{ℕ, ℤ, List, [], ◌++◌, length, ◌==◌, Option, Some, None, if◌then◌else◌, codes, decimal, true, false}
 use Rattle.std.specs.Fmt.{signed_decimal}
 use Rattle.pictures.specs.declared.tallies.Counts.{Counts}
 use Rattle.pictures.specs.Elements.{text_text}
 use Rattle.pictures.specs.declared.texts.Anchor.TheVariants.{End}
 
--- a number that is not 0, behind a comma where something stands before it
+-- a number that is not 0, after a comma where something is before it
 abbrev pub count_part : List ℕ → ℕ → List ℕ → List ℕ
 count_part before n name = if n == 0 then before else ((if length before == 0 then before else before ++ codes ", ") ++ decimal n ++ name)
 

@@ -15,7 +15,7 @@ taking (Some x) next = next x
 abbrev pub numeral : ℕ → ℕ → List ℕ → Option ℕ
 numeral low high w = number_in MOST_DIGITS low high w
 
--- what stands after a key, and nothing where the word does not begin with it
+-- what is after a key, and nothing where the word does not begin with it
 abbrev pub after : List ℕ → List ℕ → List ℕ
 after key w = if bytes_eq (take (length key) w) key then drop (length key) w else []
 

@@ -6,6 +6,6 @@ abbrev pub or_zero : ℤ → ℕ
 or_zero (pos n) = n
 or_zero (negsuc n) = 0
 
--- the place of a number where a range from 0 to `whole` has so many pixels; a greater number stands at the end
+-- the place of a number where a range from 0 to `whole` has so many pixels; a greater number is at the end
 unfoldable pub scaled : ℕ → ℕ → ℕ → ℕ
 scaled n whole pixels = min n whole * pixels / whole

@@ -1,4 +1,4 @@
--- How high the bands of endpoints are, and where they stand, in pixels.
+-- How high the bands of endpoints are, and where they are, in pixels.
 use Rattle.std.specs.Prelude.{ℕ, ◌+◌, ◌*◌, ◌/◌, List, length, take, min, max, sum_by}
 use Rattle.pictures.specs.declared.endpoints.Endpoint.{Endpoint}
 
@@ -21,6 +21,6 @@ block_of e = 2 * step_of e + 12
 unfoldable pub top_of : List Endpoint → ℕ → ℕ
 top_of es ep = 62 + sum_by block_of (take ep es)
 
--- the legend stands 6 pixels below the place of the band after the last
+-- the legend is 6 pixels below the place of the band after the last
 abbrev pub legend_of : List Endpoint → ℕ
 legend_of es = top_of es (length es) + 6

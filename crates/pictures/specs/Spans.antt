@@ -1,4 +1,4 @@
--- The subframes of a picture, and where times stand in it. Times are in ticks from the start of frame 0; a frame has ten subframes.
+-- The subframes of a picture, and where times are in it. Times are in ticks from the start of frame 0; a frame has ten subframes.
 use Rattle.std.specs.Prelude.{ℕ, ℤ, pos, ◌+◌, ◌*◌, ◌≤◌, ◌-ℤ◌, Bool, ◌&&◌, not, int_lt}
 use Rattle.fh_base.specs.declared.symbols.TheConstants.{SUBFRAME}
 use Rattle.pictures.specs.Scales.{or_zero, scaled}
@@ -23,7 +23,7 @@ length_of s = s.count * SUBFRAME
 abbrev pub past : Span → ℤ → ℕ
 past s at = or_zero (at -ℤ pos (begin_of s))
 
--- 1,120 pixels from 118 on are all subframes; what is later stands at their end
+-- 1,120 pixels from 118 on are all subframes; what is later is at their end
 unfoldable pub x_after : Span → ℕ → ℕ
 x_after s ticks = 118 + scaled ticks (length_of s) 1120
 

@@ -22,7 +22,7 @@ start = record { endpoints = []; begun = false; ended = false }
 abbrev pub has_id : List Endpoint → List ℕ → Bool
 has_id es id = is_some (with_id es id)
 
--- an endpoint line comes before all lines of cells, and has an id of its own; there are at most sixteen
+-- an endpoint line is before all lines of cells, and has an id of its own; there are at most sixteen
 abbrev pub endpoint_line : Reading → List (List ℕ) → Result Reading TextWhy
 endpoint_line r ws =
     if r.begun then Err why.Line
@@ -40,7 +40,7 @@ used_line r ws =
     else (if is_cell_word ws || is_why_word ws then cell_line r ws
     else Ok r)
 
--- no line comes after the end
+-- no line is after the end
 abbrev pub later_line : Reading → List (List ℕ) → Result Reading TextWhy
 later_line r ws =
     if r.ended then Err why.End
@@ -74,7 +74,7 @@ read_from n r (line ∷ lines) = going_on (line_of r n line) (λ next. read_from
 abbrev pub grid_of : List ℕ → Result (List Endpoint) (ℕ × TextWhy)
 grid_of text = if length text == 0 then Err (1, why.Head) else read_from 1 start (slice_split (λ b. b == 10) (without_last_feed text))
 
--- what was read became the wanted one, or the wanted reason came
+-- what was read became the wanted one, or the wanted reason was given
 abbrev pub Refuses : Result Reading TextWhy → Result (Unit {0}) TextWhy → Reading → Type 0
 Refuses wanted (Ok u) new = wanted ≡ Ok new
 Refuses wanted (Err w) new = wanted ≡ Err w

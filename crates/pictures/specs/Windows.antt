@@ -1,4 +1,4 @@
--- The windows of a text (O-RAN.WG4.CUS, section 2.3, delay management), and where times stand in a picture of them.
+-- The windows of a text (O-RAN.WG4.CUS, section 2.3, delay management), and where times are in a picture of them.
 use Rattle.std.specs.Prelude.{ℕ, ℤ, pos, ◌+◌, ◌+ℤ◌, List, length, max, ◌&&◌, ◌==◌, Option, Some, None, if◌then◌else◌, codes}
 use Rattle.std.specs.Str.{bytes_eq}
 use Rattle.fh_base.specs.Numbers.{word_at}

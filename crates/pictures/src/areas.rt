@@ -1,4 +1,4 @@
-// Where cells stand.
+// Where cells are.
 ghost use Rattle.std.specs.Prelude.{◌≡◌, ◌≤◌, length, true};
 ghost use Rattle.pictures.specs.Cells.{IsWithin};
 ghost use Rattle.pictures.specs.Areas.{width_of, band_of, area_of};
@@ -34,7 +34,7 @@ fn band_of(endpoints: &[Endpoint], c: &Cell) -> u32
     }
 }
 
-/// Where cells stand: of their PRBs the highest is at the top.
+/// Where cells are: of their PRBs the highest is at the top.
 #[tactic(auto, unfolding(crate::specs::Areas::area_of))]
 pub(crate) fn area_of(span: Span, endpoints: &[Endpoint], c: &Cell) -> Area
     requires span { IsSpan span }

@@ -94,7 +94,7 @@ fn command_arrival(reading: &Reading, command: Command) -> Option<Arrival>
     Some(arrival_of(&reading.windows, flow, command.margins))
 }
 
-/// A section of a command, which stands after a frame of the downlink.
+/// A section of a command, which is after a frame of the downlink.
 fn command_line(reading: &Reading, words: &Words<'_>) -> Result<Option<Arrival>, TextWhy>
     ensures value { result ≡ command_line reading.now words.now }
     ensures place { MatchResult result (λ a. IfSome a (λ arrival. HasPlace arrival)) (λ _. Unit {0}) }
@@ -117,7 +117,7 @@ fn data_flow(way: Way) -> Flow
     }
 }
 
-/// A section of data, which stands after a frame and goes its way.
+/// A section of data, which is after a frame and goes its way.
 fn data_line(reading: &Reading, words: &Words<'_>) -> Result<Option<Arrival>, TextWhy>
     ensures value { result ≡ data_line reading.now words.now }
     ensures place { MatchResult result (λ a. IfSome a (λ arrival. HasPlace arrival)) (λ _. Unit {0}) }

@@ -7,7 +7,7 @@ use crate::texts::{Anchor, put_text};
 use crate::windows::{Windows, column_of, far_of, near_of};
 use fh_base::{Bytes, Line, NoMemory};
 
-/// Where a time stands.
+/// Where a time is.
 pub(crate) fn place_of(windows: &Windows, ns: i64) -> u32
     requires low { neg_ℤ (pos (2 ^ 60)) ≤ℤ ns }
     requires high { ns ≤ℤ pos (2 ^ 60) }
@@ -44,7 +44,7 @@ fn put_tick(to: &mut Bytes, windows: &Windows, ns: i64) -> Result<(), NoMemory>
     put_text(to, x, 72, true, Anchor::Middle, line.as_slice())
 }
 
-/// How many lines of the axis stand before the symbol.
+/// How many lines of the axis are before the symbol.
 fn before_of(windows: &Windows) -> u64
     ensures value { result ≡ before_of windows.now }
     ensures few { result < 2 ^ 20 }
@@ -52,7 +52,7 @@ fn before_of(windows: &Windows) -> u64
     far_of(windows) / step_of(windows)
 }
 
-/// How many stand after it.
+/// How many are after it.
 fn after_of(windows: &Windows) -> u64
     ensures value { result ≡ after_of windows.now }
     ensures few { result < 2 ^ 20 }

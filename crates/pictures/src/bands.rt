@@ -1,4 +1,4 @@
-// What stands before and after the cells: the head, the bands, the legend.
+// What is before and after the cells: the head, the bands, the legend.
 ghost use Rattle.std.specs.Prelude.{◌≡◌, ◌++◌, ◌^◌, ◌<◌, ◌≤◌, length, IfOk, OnOk};
 ghost use Rattle.fh_base.specs.Numbering.{slots_of};
 ghost use Rattle.pictures.specs.Bands.{scs_name, slot_name, way_name, slot_text, slots_text, lines_text, label_text, note_text, band_text, block_text, bands_text, count_name, span_title, title_text, from_text, column_text, columns_text, head_text, entry_text, first_text, second_text, third_text, legend_text, hint_text, foot_text};
@@ -90,7 +90,7 @@ fn put_lines(to: &mut Bytes, span: Span, e: &Endpoint, y: u32) -> Result<(), NoM
     Ok(())
 }
 
-/// Appends what stands beside a band: the endpoint's id and the way.
+/// Appends what is beside a band: the endpoint's id and the way.
 #[tactic(auto, unfolding(crate::specs::Bands::label_text))]
 fn put_label(to: &mut Bytes, e: &Endpoint, y: u32, up: bool) -> Result<(), NoMemory>
     requires { y < 2 ^ 31 }
@@ -102,7 +102,7 @@ fn put_label(to: &mut Bytes, e: &Endpoint, y: u32, up: bool) -> Result<(), NoMem
     put_text(to, 110, y + 12, false, Anchor::End, line.as_slice())
 }
 
-/// Appends what stands below it: the PRBs and the spacing of the subcarriers.
+/// Appends what is below it: the PRBs and the spacing of the subcarriers.
 #[tactic(auto, unfolding(crate::specs::Bands::note_text))]
 fn put_note(to: &mut Bytes, e: &Endpoint, y: u32) -> Result<(), NoMemory>
     requires { y < 2 ^ 31 }
@@ -242,7 +242,7 @@ fn put_columns(to: &mut Bytes, span: Span) -> Result<(), NoMemory>
     Ok(())
 }
 
-/// What stands before the cells.
+/// What is before the cells.
 #[tactic(auto, unfolding(crate::specs::Bands::head_text))]
 pub(crate) fn head_of(alloc: Global, span: Span, endpoints: &[Endpoint]) -> Result<Bytes, NoMemory>
     requires span { IsSpan span }
@@ -336,7 +336,7 @@ fn put_hint(to: &mut Bytes, y: u32) -> Result<(), NoMemory>
     )
 }
 
-/// What stands after the cells.
+/// What is after the cells.
 #[tactic(auto, unfolding(crate::specs::Bands::foot_text))]
 pub(crate) fn foot_of(alloc: Global, endpoints: &[Endpoint]) -> Result<Bytes, NoMemory>
     requires { length endpoints.now ≤ 16 }

@@ -5,21 +5,21 @@ ghost use Rattle.pictures.specs.Classes.{class_name, command_class, data_class, 
 /// A class of cells, which have one colour.
 #[derive(Clone, Copy, Debug, PartialEq, Eq)]
 pub enum Class {
-    /// Data came late, or its command.
+    /// Data was received late, or its command.
     Late,
-    /// Data came early, or its command.
+    /// Data was received early, or its command.
     Early,
     /// A fragment is missing.
     Unfinished,
-    /// Data of another section id came.
+    /// Data of another section id was received.
     Other,
     /// Data were refused, or went the wrong way.
     Refused,
-    /// Data came under a sequence id that was used before.
+    /// Data was received under a sequence id that was used before.
     Repeated,
     /// A command was not accepted.
     Command,
-    /// Nothing came.
+    /// Nothing was received.
     NoData,
 }
 

@@ -72,7 +72,7 @@ fn tell_lines<K: Sink>(
     Ok(())
 }
 
-/// Tells the cells and what stands before and after them, and writes all.
+/// Tells the cells and what is before and after them, and writes all.
 fn write_parts<K: Sink>(
     alloc: Global,
     span: Span,

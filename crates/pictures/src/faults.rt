@@ -15,7 +15,7 @@ pub enum TextWhy {
     /// It is line 1, and not the head of the text.
     #[error("Head")]
     Head,
-    /// The end of the text stands before it, or does not stand anywhere.
+    /// The end of the text is before it, or is missing.
     #[error("End")]
     End,
     /// It has not the form or the place of its kind.

@@ -1,4 +1,4 @@
-// What stands beside a row.
+// What is beside a row.
 ghost use Rattle.std.specs.Prelude.{◌≡◌, ◌++◌, ◌+◌, ◌≤◌, ◌<◌, ◌^◌, length, OnOk};
 ghost use Rattle.pictures.specs.Labels.{count_part, counts_text, sections_text, least_text, since_text, until_text};
 

@@ -14,16 +14,16 @@
 //! The lines that the picture of a resource grid is drawn of: endpoints, cells, and why a cell is missing or silent, with their forms
 //! and places in the text that the command `explain` writes (this project's profile).
 //!
-//! [`read_grid`] tests a whole text and answers its endpoints, or the first line that fails and why. [`cell_of`] answers what the words
+//! [`read_grid`] tests a complete text and answers its endpoints, or the first line that fails and why. [`cell_of`] answers what the words
 //! of a line draw.
 //!
 //! The lines that the picture of reception windows is drawn of: windows, frames, and the sections of commands and of data with the
 //! margins at which they arrived, with their forms and places in the text that the command `explain` writes (this project's profile).
 //!
-//! [`read_arrivals`] tests a whole text in one pass and counts its arrivals, or answers the first line that fails and why.
+//! [`read_arrivals`] tests a complete text in one pass and counts its arrivals, or answers the first line that fails and why.
 //!
 //! The picture of a resource grid (this project's profile): for each endpoint a band of the downlink and one of the uplink, in which
-//! the cells of some subframes stand with the colour of what became of them.
+//! the cells of some subframes are shown with the colour of what became of them.
 //!
 //! [`draw_grid`] reads the text that the command `explain` writes, tests all of it, and writes the picture as Scalable Vector Graphics.
 //!

@@ -16,7 +16,7 @@ pub fn numeral(word: &[u8], low: u64, high: u64) -> Option<u64>
     number_in(word, MOST_DIGITS, low, high)
 }
 
-/// What stands in a word after a key; nothing where the word does not begin with it.
+/// What is in a word after a key; nothing where the word does not begin with it.
 pub fn after<'a>(key: &[u8], word: &'a [u8]) -> &'a [u8]
     ensures { result.now ≡ after key.now word.now }
 {
@@ -84,14 +84,14 @@ pub fn is_mask(word: &[u8]) -> bool
     digits.len() == 3 && is_lower_hex(digits)
 }
 
-/// Whether a byte may stand in a word that says more: a lower-case letter, a digit, `_`, `=` or `-`.
+/// Whether a byte may be in a word that says more: a lower-case letter, a digit, `_`, `=` or `-`.
 fn is_name_byte(b: u8) -> bool
     ensures { result ≡ is_name_byte b }
 {
     matches!(b, b'a'..=b'z') || matches!(b, b'0'..=b'9') || b == b'_' || b == b'=' || b == b'-'
 }
 
-/// Whether each byte may stand in such a word.
+/// Whether each byte may be in such a word.
 fn is_name(word: &[u8]) -> bool
     ensures { result ≡ is_name word.now }
 {

@@ -1,4 +1,4 @@
-// How high the bands are, and where they stand.
+// How high the bands are, and where they are.
 ghost use Rattle.std.specs.Prelude.{◌≡◌, ◌+◌, ◌*◌, ◌<◌, ◌≤◌, length};
 ghost use Rattle.pictures.specs.Sizes.{pixels_of, height_of, step_of, block_of, top_of, legend_of};
 

@@ -1,4 +1,4 @@
-// The subframes of a picture, and where times stand in it.
+// The subframes of a picture, and where times are in it.
 ghost use Rattle.std.specs.Prelude.{◌≡◌, pos, neg_ℤ, ◌^◌, ◌<◌, ◌≤◌, ◌≤ℤ◌};
 ghost use Rattle.pictures.specs.Spans.{IsSpan, begin_of, length_of, past, x_after, x_of, is_in};
 
@@ -42,7 +42,7 @@ pub(crate) fn past(span: Span, at: i64) -> u64
     or_zero(at - begin_of(span) as i64)
 }
 
-/// Where a time stands that is so long after the start of the first subframe; one after the last stands at the end.
+/// Where a time is that is so long after the start of the first subframe; one after the last is at the end.
 #[tactic(auto, unfolding(crate::specs::Spans::x_after))]
 pub(crate) fn x_after(span: Span, ticks: u64) -> u32
     requires { IsSpan span }
@@ -53,7 +53,7 @@ pub(crate) fn x_after(span: Span, ticks: u64) -> u32
     118 + scaled(ticks, length_of(span), 1_120)
 }
 
-/// Where a time stands.
+/// Where a time is.
 pub(crate) fn x_of(span: Span, at: i64) -> u32
     requires span { IsSpan span }
     requires low { neg_ℤ (pos (2 ^ 62)) ≤ℤ at }

@@ -5,7 +5,7 @@ ghost use Rattle.pictures.specs.Elements.{grey_text, anchor_text, text_text};
 use crate::pieces::{attribute, class};
 use fh_base::{Bytes, Line, NoMemory};
 
-/// Which place of a text stands at its point.
+/// Which place of a text is at its point.
 #[derive(Clone, Copy, Debug, PartialEq, Eq)]
 pub enum Anchor {
     Start,
@@ -37,7 +37,7 @@ fn anchor_attribute(line: &mut Line, anchor: Anchor)
     }
 }
 
-/// Appends a text, whose anchor stands at a point of its base line.
+/// Appends a text, whose anchor is at a point of its base line.
 ///
 /// # Errors
 ///

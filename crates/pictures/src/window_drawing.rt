@@ -50,7 +50,7 @@ fn put_colours_note(to: &mut Bytes) -> Result<(), NoMemory>
     )
 }
 
-/// Appends what stands above the rows.
+/// Appends what is above the rows.
 #[tactic(auto, unfolding(crate::specs::WindowPicture::head_text))]
 fn put_head(to: &mut Bytes, windows: &Windows) -> Result<(), NoMemory>
     ensures { OnOk result (to.new ≡ to.old ++ head_text windows.now) }
@@ -138,7 +138,7 @@ fn start_of(windows: &Windows) -> u32
     place_of(windows, 0)
 }
 
-/// Appends what stands below the rows.
+/// Appends what is below the rows.
 #[tactic(auto, unfolding(crate::specs::WindowPicture::foot_text))]
 fn put_foot(to: &mut Bytes, windows: &Windows) -> Result<(), NoMemory>
     ensures { OnOk result (to.new ≡ to.old ++ foot_text windows.now) }

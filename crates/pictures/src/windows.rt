@@ -1,4 +1,4 @@
-// The windows of a text, and where times stand among them.
+// The windows of a text, and where times are among them.
 ghost use Rattle.std.specs.Prelude.{◌≡◌, ℕ, pos, neg_ℤ, ◌^◌, ◌<◌, ◌≤◌, ◌≤ℤ◌};
 ghost use Rattle.pictures.specs.Windows.{window_name, window_in, far_of, near_of, column_of, no_windows, with_window};
 

@@ -113,9 +113,9 @@ unnamed_frame accepted down ep e s frame h =
     (ap (λ (b : Bool). let xs : List SymbolStart = if b then start_at ep e (slot_at frame subframe slot) symbol ∷ [] else [] in xs)
     (not_named accepted ep down (slot_at frame subframe slot) symbol h)))))
 
--- ---- what an allocation is that stands in a symbol
+-- ---- what an allocation is that is in a symbol
 
--- what an allocation is that stands in a symbol
+-- what an allocation is that is in a symbol
 pub record StandsIn (ep : ℕ) (down : Bool) (slot : Slot) (symbol : ℕ) (a : Allocation) : Type 0 where
   pub index : a.ep ≡ ep
   pub way : a.down ≡ down
@@ -143,7 +143,7 @@ same_endpoint es a ep e is same at =
     let here : Some a.endpoint ≡ Some e = sym is ∙ ap (slice_get es) same ∙ at in
     cc
 
--- none stands in a symbol that starts at a tick at which none starts
+-- none is in a symbol that starts at a tick at which none starts
 pub unclaimed : (es : List EndpointConfig) (accepted : List Allocation) (down : Bool) (from end u : ℤ) (ep : ℕ) (e : EndpointConfig) (slot : Slot) (symbol : ℕ)
     → from ≤ℤ u → u <ℤ end → IsAt es ep e → air_of e.numerology slot symbol ≡ u
     → All (IsProperAllocation es) accepted → All (IsQuiet from end down) accepted → is_claimed_in accepted ep down slot symbol ≡ false
@@ -172,7 +172,7 @@ quiet_tick es accepted down from end u low high proper quiet =
     ∙ ap (λ (b : Bool). let xs : List SymbolStart = if b then start_at k e slot symbol ∷ [] else [] in xs)
     (unclaimed es accepted down from end u k e slot symbol low high at starts proper quiet))
 
--- as far as a loop over the endpoints has come
+-- as far as a loop over the endpoints has gone
 pub tick_more : (g : OfSymbol SymbolStart) (es : List EndpointConfig) (i : ℕ) (d : EndpointConfig) (s : ℤ) (xs ys zs : List SymbolStart) → i < length es
     → zs ≡ ys ++ of_endpoint (g i (get_or es i d)) (get_or es i d) s → ys ++ of_endpoints g i (drop i es) s ≡ xs → zs ++ of_endpoints g (i + 1) (drop (i + 1) es) s ≡ xs
 unfolding of_endpoints
@@ -185,7 +185,7 @@ pub tick_end : (g : OfSymbol SymbolStart) (es : List EndpointConfig) (i : ℕ) (
 unfolding of_endpoints
 tick_end g es i s xs ys h before = sym (ap (λ ws. ys ++ ws) (at_drop_all (λ fs. of_endpoints g i fs s) es i h) ∙ append-nil ys) ∙ before
 
--- as far as a loop over the starts has come
+-- as far as a loop over the starts has gone
 pub starts_more : (es : List EndpointConfig) (accepted : List Allocation) (down : Bool) (now t next end : ℤ) (xs ys zs : List SymbolStart)
     → now ≤ℤ t → t <ℤ end → next ≡ t +ℤ pos 1 → All (IsProperAllocation es) accepted → All (IsQuiet now t down) accepted
     → zs ≡ ys ++ at_tick (claimed_start accepted down) es t → ys ++ sweep (claimed_start accepted down) es now end ≡ xs

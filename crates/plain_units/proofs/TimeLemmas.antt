@@ -1,4 +1,4 @@
--- When the pieces of a whole message came: each at the time of a fragment.
+-- When the pieces of a complete message were received: each at the time of a fragment.
 use Rattle.std.proofs.Common.{◌≡◌, ℤ, List, ◌∷◌, All, Some}
 use Rattle.std.specs.Option.{option_map}
 use Rattle.ecpri_fragments.specs.declared.verdict.Verdict.{Verdict}

@@ -12,7 +12,7 @@ use Rattle.unit_model.specs.declared.allocations.Allocation.{Allocation}
 use Rattle.unit_model.specs.declared.symbol_start.SymbolStart.{SymbolStart}
 use Rattle.unit_model.specs.Starts.{start_at}
 
--- an allocation of this direction stands in a symbol
+-- an allocation of this direction is in a symbol
 abbrev pub is_claimed_way : ℕ → Bool → Slot → ℕ → Allocation → Bool
 is_claimed_way ep down slot symbol a =
     (a.ep == ep) && (same_way a.down down && (same_slot a.slot slot && is_from a.symbol a.num_symbol symbol))

@@ -11,7 +11,7 @@ use Rattle.ecpri_fragments.specs.Pieces.{joined}
 abbrev pub owned : Message → OwnedMessage
 owned m = record { first = record { 0 = m.first }; last = record { 0 = m.last }; bytes = joined m.pieces }
 
--- the verdict on a fragment behind these, and the message where it makes one whole
+-- the verdict on a fragment after these, and the message where it makes one complete
 pub record IsTaken (hold : ℤ) (f : Fragment) (arrivals : List Fragment) (verdict : Verdict) (message : Option OwnedMessage) : Type 0 where
   pub verdict_is : verdict ≡ verdict_on hold f arrivals
   pub message_is : message ≡ option_map owned (whole_now hold f arrivals)

@@ -33,7 +33,7 @@ pub(crate) fn data_prb_count(d: &UserSection) -> u16
     }
 }
 
-/// Whether a cell stands in the symbol and the PRBs of a section of data.
+/// Whether a cell is in the symbol and the PRBs of a section of data.
 pub(crate) fn data_covers(d: &UserSection, cell: &Cell) -> bool
     requires { IsSoundData d.now }
     ensures { result ≡ data_covers d.now cell.now }
@@ -63,7 +63,7 @@ pub(crate) fn block_in(d: &UserSection, cell: &Cell) -> Option<Block>
     }
 }
 
-/// The block of a cell, where these came on time, the newest first: that of the first of them that covers it.
+/// The block of a cell, where these were received on time, the newest first: that of the first of them that covers it.
 pub(crate) fn block_at(timely: &[UserSection], cell: &Cell) -> Option<Block>
     requires { All IsSoundData timely.now }
     ensures { result ≡ block_at timely.now cell.now }
@@ -123,7 +123,7 @@ pub(crate) fn has_all(timely: &[UserSection], d: &UserSection) -> bool
     true
 }
 
-/// The verdict on a section of data, where these came on time before it, the newest first.
+/// The verdict on a section of data, where these were received on time before it, the newest first.
 #[tactic(auto, unfolding(unit_model::specs::Blocks::data_verdict))]
 pub(crate) fn data_verdict(
     side: Side,

@@ -31,7 +31,7 @@ pub(crate) fn prb_count(a: &Allocation) -> u16
     }
 }
 
-/// Whether a mask has element `re`: element 0 stands in the most significant of its 12 bits.
+/// Whether a mask has element `re`: element 0 is the most significant of its 12 bits.
 pub(crate) fn in_mask(mask: u16, re: u8) -> bool
     requires { re < 12 }
     ensures { result ≡ in_mask mask re }
@@ -39,7 +39,7 @@ pub(crate) fn in_mask(mask: u16, re: u8) -> bool
     (mask >> (11 - re)) % 2 == 1
 }
 
-/// Whether a cell stands in the symbols and PRBs of an allocation.
+/// Whether a cell is in the symbols and PRBs of an allocation.
 pub(crate) fn covers(a: &Allocation, cell: &Cell) -> bool
     ensures { result ≡ covers a.now cell.now }
 {

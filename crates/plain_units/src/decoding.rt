@@ -111,7 +111,7 @@ fn said(
     Ok(DecodedMessage::Sections(sections))
 }
 
-/// What the bytes of a whole message to an endpoint say, whose first and last fragments came then.
+/// What the bytes of a complete message to an endpoint say, whose first and last fragments were received then.
 #[tactic(auto, unfolding(unit_model::specs::Decoding::decode))]
 pub(crate) fn decode(
     alloc: Global,

@@ -26,7 +26,7 @@ impl Model for Part {
 impl Part {
     ghost use Rattle.unit_model.specs.Decoding.{without_blocks, longer};
 
-    /// A section of which no PRB came yet.
+    /// A section of which no PRB was read yet.
     fn begin(alloc: Global, section: USection) -> Part
         ensures { result ≡ without_blocks section }
     {

@@ -1,7 +1,7 @@
-//! Units that keep whole lists: a plain program, slow and obvious, for what each unit of an open fronthaul makes of the frames
+//! Units that keep complete lists: a plain program, slow and obvious, for what each unit of an open fronthaul makes of the frames
 //! that arrive.
 //!
-//! Its contract is the definitions of `unit_model`, and its memory grows with what came. The units that work in fixed memory have
+//! Its contract is the definitions of `unit_model`, and its memory grows with what was received. The units that work in fixed memory have
 //! the same definitions as their contracts, and are compared with it.
 #![tactic(auto)]
 

@@ -67,7 +67,7 @@ fn accept(
     Ok(())
 }
 
-/// Keeps data that came on time.
+/// Keeps data that were received on time.
 fn keep(timely: &mut Vec<UserSection>, class: Class, d: UserSection) -> Result<(), NoMemory>
     ensures { OnOk result (timely.new.items ≡ with_timely class d timely.old.items) }
 {
@@ -77,7 +77,7 @@ fn keep(timely: &mut Vec<UserSection>, class: Class, d: UserSection) -> Result<(
     Ok(())
 }
 
-/// What a unit keeps of all that came. The newest is first in `accepted` and `timely`, and last in the lists of verdicts.
+/// What a unit keeps of all that was received. The newest is first in `accepted` and `timely`, and last in the lists of verdicts.
 #[derive(Drop)]
 pub(crate) struct Plain {
     pub(crate) assembly: Assembly,
@@ -89,7 +89,7 @@ pub(crate) struct Plain {
 }
 
 impl Plain {
-    /// A unit that nothing came to.
+    /// A unit that received nothing.
     pub(crate) fn make(alloc: Global, side: Side, config: &Config) -> Result<Plain, NoMemory>
         requires { IsConfig config.now }
         ensures { IfOk result (λ u. PlainStands u side config.now [] []) }

@@ -50,7 +50,7 @@ fn sweep_from(wait: Ticks) -> Ticks
     Ticks(-FRAME - wait.0)
 }
 
-/// The start that a sweep ends before: that after the last one whose moment has come.
+/// The start that a sweep ends before: that after the last one whose moment is reached.
 fn sweep_end(wait: Ticks, to: Ticks) -> Ticks
     requires low { pos 0 ≤ℤ wait.0 }
     requires high { wait.0 ≤ℤ pos 3072000000 }
@@ -95,8 +95,8 @@ fn cell_id(claimed: &[Allocation], cell: &Cell) -> u16
     0
 }
 
-/// Appends a cell of a symbol if one of its elements is in use, where these allocations were accepted and these data came on
-/// time, the newest first.
+/// Appends a cell of a symbol if one of its elements is in use, where these allocations were accepted and these data were received
+/// on time, the newest first.
 fn push_cell(
     cells: &mut List<AirCell>,
     side: Side,
@@ -151,7 +151,7 @@ fn push_cells(
     Ok(())
 }
 
-/// Appends an allocation if it stands in a symbol.
+/// Appends an allocation if it is in a symbol.
 fn push_in(
     found: &mut Vec<Allocation>,
     a: &Allocation,
@@ -167,7 +167,7 @@ fn push_in(
     Ok(())
 }
 
-/// Those of these that stand in a symbol.
+/// Those of these that are in a symbol.
 fn in_symbol(
     alloc: Global,
     accepted: &[Allocation],
@@ -183,7 +183,7 @@ fn in_symbol(
     Ok(found)
 }
 
-/// Appends the cells of a symbol. Only the allocations that stand in it are asked for claims.
+/// Appends the cells of a symbol. Only the allocations that are in it are asked for claims.
 fn push_symbol(
     cells: &mut List<AirCell>,
     alloc: Global,
@@ -219,7 +219,7 @@ fn cells_of(
 }
 
 /// All cells that a unit reports up to a time, that time included, where these allocations were accepted, or planned, and these
-/// data came on time, each with the newest first: in the order of their moments, and at one moment by endpoint, slot, symbol and
+/// data were received on time, each with the newest first: in the order of their moments, and at one moment by endpoint, slot, symbol and
 /// PRB (this project's profile).
 pub(crate) fn reported(
     alloc: Global,

@@ -21,7 +21,7 @@ use std::alloc::Global;
 use unit_model::{Allocation, block_counter};
 use window_config::Config;
 
-/// A unit that frames came to, in this order.
+/// A unit that received frames, in this order.
 fn treated(
     alloc: Global,
     side: Side,

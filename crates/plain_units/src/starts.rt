@@ -16,7 +16,7 @@ use window_config::EndpointConfig;
 /// How many frames a sweep goes over at each tick: that of the tick and those before it.
 const FRAMES: u8 = 6;
 
-/// Whether an allocation of this direction, downlink where `down`, stands in a symbol.
+/// Whether an allocation of this direction, downlink where `down`, is in a symbol.
 pub(crate) fn is_in(a: &Allocation, ep: usize, down: bool, slot: Slot, symbol: u8) -> bool
     ensures { result ≡ is_claimed_way ep down slot symbol a.now }
 {

@@ -112,7 +112,7 @@ pub record AreNamed (d : Delays) (cs : List ControlSection) : Type 0 where
   pub distinct : AreDistinct (accepted d cs)
 
 module _ (d : Delays) (ls : List Allocation) (allowed : AreAllowed ls) where
-  -- behind these the command is accepted or a repeat
+  -- after these the command is accepted or a repeat
   module _ (c : ControlSection) (cs : List ControlSection) (timely_c : IsTimely d ls c) (timely_cs : (x : ControlSection) → IsIn x cs → IsTimely d ls x) (named : AreNamed d cs) where
     abbrev a : Allocation
     a = allocation_of c

@@ -19,4 +19,4 @@ use Rattle.unit_model.specs.Proper.{IsAt}
 pub endpoint_is : (es : List EndpointConfig) (ep : ℕ) (e : EndpointConfig) → All IsEndpoint es → IsAt es ep e → IsEndpoint e
 endpoint_is es ep e all at = subst IsEndpoint (get_or_from_slice_get es ep e e at) (all ep e (slice_get_within es ep e at))
 
--- ---- lists of which each element may stand before those behind it
+-- ---- lists of which each element may precede those after it

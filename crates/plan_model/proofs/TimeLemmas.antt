@@ -1,4 +1,4 @@
--- The frame that a frameId means near its own time, and when copies come.
+-- The frame that a frameId means near its own time, and when copies are received.
 use Rattle.std.proofs.Common.{◌≡◌, ℕ, ℤ, pos, neg_ℤ, ◌+◌, ◌*◌, ◌<◌, ◌≤◌, ◌+ℤ◌, ◌-ℤ◌, ◌≤ℤ◌, ◌<ℤ◌, min, zero, suc, refl, sym, ◌∙◌, arith}
 use Rattle.unit_model.specs.Radiated.{first_clock}
 use Rattle.unit_model.specs.Times.{end_of_time}

@@ -13,8 +13,8 @@ use Rattle.plan_model.specs.declared.departures.Departures.{Departures}
 use Rattle.plan_model.specs.declared.streams.Stream.{Stream}
 use Rattle.plan_model.specs.declared.streams.Stream.TheVariants.{DownCommands, UpCommands, DownData, UpData}
 
--- when the i-th frame of a symbol with this start leaves, counted from 0: each a gap behind the one before it, but none later than
--- the spread behind the first
+-- when the i-th frame of a symbol with this start leaves, counted from 0: each a gap after the one before it, but none later than
+-- the spread after the first
 abbrev pub departure : Departures → ℤ → ℕ → ℤ
 departure d start i = (start +ℤ d.from.0) +ℤ pos (min (i * d.gap) d.spread)
 

@@ -166,7 +166,7 @@ pub record PartsAreAsWorked : Type 0 where
 -- ---- dense messages
 
 -- An offset endpoint of 15 kHz with cpLength 64: symbols of 68,750 ns. Nineteen lines in each of 14 symbols, a gap of 1,000 ns: message
--- 256 is the tenth of symbol 13, and leaves 13 * 68,750 + 9 * 1,000 = 902,750 ns behind message 0.
+-- 256 is the tenth of symbol 13, and leaves 13 * 68,750 + 9 * 1,000 = 902,750 ns after message 0.
 abbrev pub sending : ℕ → ℕ → Sending
 sending symbol line = record { at = record { 0 = pos (15360000000 + (symbol * 105600000 + line * 1536000)) }; line = line }
 

@@ -35,14 +35,14 @@ size_of f m = 4 + sum (map f.size (parts_of m))
 abbrev pub same_symbol : {P : Type 0} → PartFields P → P → P → Bool
 same_symbol f p q = same_slot (f.slot p) (f.slot q) && (f.symbol p == f.symbol q)
 
--- a message takes one part more: of its slot, symbol and filterIndex, which stand in its one header, where it has fewer than so many,
+-- a message takes one part more: of its slot, symbol and filterIndex, which are in its one header, where it has fewer than so many,
 -- and at most 16,384 bytes with it
 abbrev pub takes : {P : Type 0} → PartFields P → ℕ → Message P → P → Bool
 takes f most m p =
     same_symbol f m.first p && ((f.filter m.first == f.filter p)
     && (nat_lt (length (parts_of m)) most && nat_le (size_of f m + f.size p) MESSAGE_BYTES))
 
--- the messages that these parts make behind one that may take more
+-- the messages that these parts make after one that may take more
 unfoldable pub packs_behind : {P : Type 0} → PartFields P → ℕ → Message P → List P → List (Message P)
 packs_behind f most m [] = m ∷ []
 packs_behind f most m (p ∷ ps) =
@@ -66,7 +66,7 @@ unfoldable pub frames_before : {P : Type 0} → PartFields P → (Message P → 
 frames_before f frames m [] = 0
 frames_before f frames m (n ∷ earlier) = if same_symbol f m.first n.first then frames n + frames_before f frames m earlier else 0
 
--- each message's number is how many stand before it
+-- each message's number is how many precede it
 unfoldable pub numbered_behind : {P : Type 0} → PartFields P → (Message P → ℕ) → List (Message P) → List (Message P) → List (Numbered P)
 numbered_behind f frames earlier [] = []
 numbered_behind f frames earlier (m ∷ ms) =

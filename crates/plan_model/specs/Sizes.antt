@@ -7,7 +7,7 @@ use Rattle.plan_model.specs.declared.sizes.MessageSize.{MessageSize}
 abbrev pub measured : {P : Type 0} → PartFields P → Message P → MessageSize
 measured f m = record { parts = length (parts_of m); bytes = size_of f m }
 
--- of one part of so many bytes, behind the 4 of the header
+-- of one part of so many bytes, after the 4 of the header
 abbrev pub of_one : ℕ → MessageSize
 of_one n = record { parts = 1; bytes = 4 + n }
 

@@ -18,7 +18,7 @@ use Rattle.plan_model.specs.declared.refusals.PlanWhy.TheVariants.{UnknownEndpoi
 
 -- ---- Range
 
--- the endpoint's subframes have no such slot, the line names no symbol or one behind the slot's last, PRBs behind the carrier's
+-- the endpoint's subframes have no such slot, the line names no symbol or one after the slot's last, PRBs after the carrier's
 -- last, or no resource element
 abbrev pub is_out_of_range : EndpointConfig → PlanLine → Bool
 is_out_of_range e line =
@@ -52,7 +52,7 @@ share_bit m n = some 0 12 (λ re. in_mask m re && in_mask n re)
 abbrev pub clash : Allocation → Allocation → Bool
 clash a b = share_cell a b && (share_bit a.mask b.mask || not (a.section == b.section))
 
--- ---- one line behind others, the newest of these first
+-- ---- one line after others, the newest of these first
 
 abbrev pub why_claimed : List Allocation → Allocation → Option PlanWhy
 why_claimed earlier a =

@@ -43,7 +43,7 @@ pub fn up_distance(d: &Delays) -> Ticks
     of_ns(d.hold_ul + (d.t34.max - d.t34.min))
 }
 
-/// Whether a time is no more than a distance behind another.
+/// Whether a time is no more than a distance after another.
 fn is_soon(distance: Ticks, later: Ticks, earlier: Ticks) -> bool
     requires later_low { neg_ℤ (pos (2 ^ 57)) ≤ℤ later.0 }
     requires later_high { later.0 ≤ℤ pos (2 ^ 57) }

@@ -8,8 +8,8 @@ use crate::streams::Stream;
 use fh_base::{Ticks, of_ns};
 use window_config::{Config, Delays, Range, cp_dl};
 
-/// When the frames of a symbol leave, in ticks: the first `from` behind the symbol's start, which is below 0 where it leaves
-/// before it; each further one `gap` behind the one before it, but none later than `spread` behind the first.
+/// When the frames of a symbol leave, in ticks: the first `from` after the symbol's start, which is below 0 where it leaves
+/// before it; each further one `gap` after the one before it, but none later than `spread` after the first.
 #[derive(Clone, Copy, Debug, PartialEq, Eq)]
 pub struct Departures {
     pub from: Ticks,
@@ -90,7 +90,7 @@ impl Departures {
         }
     }
 
-    /// How long behind its symbol's first frame a frame leaves that comes so many frames behind one that leaves `wait` behind it.
+    /// How long after its symbol's first frame a frame leaves that is so many frames after one that leaves `wait` after it.
     pub fn later(&self, wait: u64, frames: usize) -> u64
         requires gap { self.now.gap < 2 ^ 33 }
         requires spread { self.now.spread < 2 ^ 33 }
@@ -105,7 +105,7 @@ impl Departures {
         next.min(self.spread)
     }
 
-    /// When a frame leaves whose symbol starts then and which leaves `wait` behind the symbol's first.
+    /// When a frame leaves whose symbol starts then and which leaves `wait` after the symbol's first.
     pub fn at(&self, start: Ticks, wait: u64) -> Ticks
         requires low { neg_ℤ (pos (2 ^ 56)) ≤ℤ start.0 }
         requires high { start.0 ≤ℤ pos (2 ^ 56) }

@@ -1,7 +1,7 @@
 //! What the lines of a plan say, when a plan is valid, and which frames the distributed unit sends for it.
 //!
-//! The definitions stand in `specs/`, in the terms of O-RAN.WG4.CUS; the plan, its tests and the order of what is sent are this
-//! project's profile. The functions here compute one value of them each; what goes over whole plans stands in the crates above.
+//! The definitions are in `specs/`, in the terms of O-RAN.WG4.CUS; the plan, its tests and the order of what is sent are this
+//! project's profile. The functions here compute one value of them each; what goes over complete plans is in the crates above.
 //! Nothing allocates.
 #![tactic(auto)]
 

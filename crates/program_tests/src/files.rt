@@ -5,8 +5,8 @@ use pcap_frames::{PcapFault, PcapRefusal, PcapWhy, Whose, check, frames};
 use std::alloc::Global;
 
 /// Highest byte first, in nanoseconds, with a link type whose high half is not 0: a record of ARP, two bytes at 1.999999999 s with
-/// an original length of 0, two bytes 70,000 ns later behind a tag, a frame behind three tags, a tag without a type, and an empty
-/// frame behind two tags with a fraction of 2^32 - 1.
+/// an original length of 0, two bytes after a tag 70,000 ns later, a frame after three tags, a tag without a type, and an empty
+/// frame after two tags with a fraction of 2^32 - 1.
 const BIG: [u8; 235] = [
     0xa1, 0xb2, 0x3c, 0x4d, 0x00, 0x02, 0x00, 0x04, 0x00, 0x00, 0x00, 0x00, 0x00, 0x00, 0x00, 0x00,
     0x00, 0x04, 0x00, 0x00, 0xa5, 0xa5, 0x00, 0x01, 0x00, 0x00, 0x00, 0x00, 0x00, 0x00, 0x00, 0x05,

@@ -1,4 +1,4 @@
--- What is counted of frames, messages and fragments stands beside the counters of verdicts and cells.
+-- What is counted of frames, messages and fragments is beside the counters of verdicts and cells.
 use Rattle.std.proofs.Common.{◌≡◌, ℕ, ℤ, ◌+◌, Bool, true, false, List, [], ◌∷◌, ◌++◌, refl, arith}
 use Rattle.std.specs.Prelude.{◌==◌, if◌then◌else◌, not, ◌||◌, nat_lt, length, map, All, Option, Some, None, Result, Ok, Err}
 use Rattle.std.proofs.lemmas.List.Elements.{All-nil, All-cons, All-head, All-tail}

@@ -1,4 +1,4 @@
--- What came before a tick.
+-- What was received before a tick.
 use Rattle.std.proofs.Common.{◌≡◌, ℕ, ℤ, pos, suc, ◌+ℤ◌, ◌-ℤ◌, ◌≤ℤ◌, true, List, [], ◌∷◌, refl, sym, ap, ◌∙◌, subst}
 use Rattle.std.specs.Prelude.{All}
 use Rattle.std.specs.Int.{int_gap}
@@ -37,7 +37,7 @@ arrivals_go_on landings tick begun =
     ap (arrivals_in landings) (next_gap first_clock tick begun) ∙ next_first landings n
     ∙ ap (λ (t : ℤ). onto (arrivals_in landings n) (landing_at landings t)) (gap_is first_clock tick begun)
 
--- nothing came before the clock began
+-- nothing was received before the clock began
 pub none_yet : (landings : List Arrival) (tick : ℤ) → tick ≤ℤ first_clock → arrivals_before landings tick ≡ []
 none_yet landings tick early = ap (arrivals_in landings) (gap_none first_clock tick early) ∙ none_first landings
 

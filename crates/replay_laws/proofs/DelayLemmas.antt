@@ -1,4 +1,4 @@
--- The delays that a replay tells are the results of the frames that land, each behind its frame.
+-- The delays that a replay tells are the results of the frames that land, each after its frame.
 use Rattle.std.proofs.Common.{◌≡◌, ℕ, ℤ, zero, suc, pos, ◌+ℤ◌, ◌≤ℤ◌, List, [], ◌∷◌, ◌++◌, refl, sym, ap, ap₂, ◌∙◌, subst, inl, inr, append_assoc, append-nil}
 use Rattle.std.specs.Prelude.{All, Contains, ◌⊎◌, map, Some, slice_get, slice_index_or, ◌==◌, if◌then◌else◌, Bool, true, false}
 use Rattle.std.specs.Int.{int_gap}
@@ -59,7 +59,7 @@ parts (x ∷ xs) ys (b ∷ before) m after e =
       })
     ]
 
--- what holds of each, by what stands before it, holds of all
+-- what holds of each, by what precedes it, holds of all
 each_holds : {A : Type 0} (P : A → Type 0) (xs : List A) → ((before : List A) (x : A) (after : List A) → xs ≡ before ++ x ∷ after → P x) → All P xs
 each_holds P [] h = All-nil P
 each_holds P (x ∷ xs) h = All-cons P x xs (h [] x xs refl) (each_holds P xs (λ before y after e. h (x ∷ before) y after (ap (λ (zs : List _). x ∷ zs) e)))

@@ -1,4 +1,4 @@
--- Nothing comes after the end of time.
+-- Nothing follows the end of time.
 use Rattle.std.proofs.Common.{◌≡◌, ℕ, zero, suc, ℤ, pos, ◌+ℤ◌, ◌-ℤ◌, ◌*ℤ◌, ◌≤ℤ◌, ◌<ℤ◌, Bool, List, [], ◌∷◌, ◌++◌, length, drop, refl, sym, ap, ◌∙◌, subst, arith, append-nil}
 use Rattle.std.specs.Prelude.{All, None, Some, false, if◌then◌else◌}
 use Rattle.std.specs.Ordering.{int_eq}

@@ -1,4 +1,4 @@
--- The fragments of what arrived came in the order of time.
+-- The fragments of what arrived were received in the order of time.
 use Rattle.std.proofs.Common.{ℤ, ◌≤ℤ◌, List, [], ◌∷◌, ◌++◌, sym, subst}
 use Rattle.std.specs.Prelude.{All}
 use Rattle.std.proofs.lemmas.List.Elements.{All-head, All-tail}

@@ -1,4 +1,4 @@
--- The message that gave a cell its samples: where it came whole, and its fragments.
+-- The message that gave a cell its samples: where it became complete, and its fragments.
 use Rattle.std.proofs.Common.{◌≡◌, ℕ, ℤ, pos, ◌+◌, ◌+ℤ◌, ◌-ℤ◌, ◌≤◌, ◌≤ℤ◌, Bool, true, false, List, [], ◌∷◌, ◌++◌, inl, inr, refl, sym, ap, ◌∙◌, subst, arith, length}
 use Rattle.std.specs.Prelude.{◌==◌, if◌then◌else◌, All, Contains, Option, Some, None, map, slice_get}
 use Rattle.std.proofs.lemmas.Bool.{and_parts, eqb-true}
@@ -149,7 +149,7 @@ within_window Du d first last at start from to is =
     let late = is.late_enough in
     record { soon_enough = omega (arith, ints, soon, to); late_enough = omega (arith, ints, late, from) }
 
--- ---- what came
+-- ---- what was received
 
 later_there : (later ms : List Meeting) (x : Fragment) → Contains (fragments ms) x → Contains (fragments (later ++ ms)) x
 unfolding fragments

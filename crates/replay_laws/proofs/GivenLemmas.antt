@@ -26,7 +26,7 @@ use Rattle.unit_laws.proofs.ChangeLemmas.{accepted_more, block-cons, claim-cons,
 use Rattle.fh_base.proofs.Orders.{is_true as not_false}
 use Rattle.unit_model.proofs.ClaimLemmas.{starts_before as from_first, from_within, covers_is}
 
--- ---- where nothing came
+-- ---- where nothing was received
 
 none_given : (side : Side) (d : Delays) (cell : Cell) (b : Block) → block_at (timely side d []) cell ≡ Some b → ⊥
 unfolding timely block_at

@@ -1,4 +1,4 @@
--- The frames that land come to the unit, each as often.
+-- The frames that land are received by the unit, each as often.
 use Rattle.std.proofs.Common.{◌≡◌, ℕ, ℤ, zero, suc, pos, ◌+◌, ◌+ℤ◌, ◌≤ℤ◌, Bool, true, false, ◌&&◌, List, [], ◌∷◌, refl, sym, ap, ap₂, ◌∙◌, arith, zero-add}
 use Rattle.std.specs.Prelude.{All, if◌then◌else◌, cond, filter, int_lt}
 use Rattle.std.specs.Int.{int_gap}

@@ -142,7 +142,7 @@ module _ (side : Side) (c : Config) (x : Traffic) (now tick : ℤ) (next : IsNex
   abbrev w : ℤ
   w = wait_of side d
 
-  -- by what came before now, and by what is seen at the tick
+  -- by what was received before now, and by what is seen at the tick
   abbrev old : Known
   old = known_at side c x.planned (arrivals_before landings now)
 

@@ -115,7 +115,7 @@ blocks_rest side d (y ∷ later) x earlier untaken cell =
 
 -- ---- generations that a later fragment cannot tell apart
 
--- the last ones began at one time, and the same stands in them
+-- the last ones began at one time, and the same is stored in them
 abbrev pub AreAlike : List Generation → List Generation → Type 0
 AreAlike [] [] = Unit {0}
 AreAlike [] (h ∷ hs) = ⊥
@@ -138,7 +138,7 @@ alike_more hold a (g ∷ gs) (h ∷ hs) same =
     go true = (same.0, ap (λ (s : List Fragment). placed s a) same.1)
     go false = (refl, refl)
 
--- the same stands before a fragment
+-- the same is stored before a fragment
 pub alike_standing : (hold at : ℤ) (gs hs : List Generation) → AreAlike gs hs → standing (held_in hold at gs) ≡ standing (held_in hold at hs)
 alike_standing hold at [] [] same = refl
 alike_standing hold at [] (h ∷ hs) same = absurd same
@@ -152,7 +152,7 @@ alike_standing hold at (g ∷ gs) (h ∷ hs) same =
 
 -- ---- a fragment that rests
 
--- so it joins the last one, in which the same stands as before
+-- so it joins the last one, in which the same is stored as before
 rest_joins : (hold : ℤ) (a : Fragment) (gs : List Generation) → Rests (verdict (standing (held_in hold a.at gs)) a) (begins hold a.at gs)
     → AreAlike gs (with_fragment hold a gs)
 rest_joins hold a [] rests = absurd (no_first a rests)

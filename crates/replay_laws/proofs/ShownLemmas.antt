@@ -1,4 +1,4 @@
--- What a cell shows came in time.
+-- What a cell shows was received in time.
 use Rattle.std.proofs.Common.{◌≡◌, ℕ, ℤ, pos, ◌+ℤ◌, ◌-ℤ◌, ◌-◌, ◌<◌, true, false, List, [], refl, sym, ap, ap₂, ◌∙◌, subst, arith, length}
 use Rattle.std.specs.Prelude.{◌==◌, All, Some}
 use Rattle.std.proofs.lemmas.Option.{slice_get-get_or}

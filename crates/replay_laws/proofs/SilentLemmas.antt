@@ -32,12 +32,12 @@ past_by hold start low at order h = grind (arith, ints)
 
 -- ---- a whole message keeps its generation to itself
 
--- the last generation began then, and a whole message stands in it
+-- the last generation began then, and a complete message is stored in it
 abbrev pub IsKept : ℤ → List Generation → Type 0
 IsKept start [] = ⊥
 IsKept start (g ∷ gs) = (g.start ≡ start) × (is_whole (standing g.held) ≡ true)
 
--- what comes where a whole message stands is a repeat
+-- what is received where a complete message is stored is a repeat
 repeats : (s : List Fragment) (a : Fragment) → is_whole s ≡ true → refused s a ≡ Some fragment.Repeat
 repeats s a whole =
     ap (λ (w : Bool). if w || stands s a.sub then Some fragment.Repeat else if is_stray s a then Some fragment.Stray

@@ -1,4 +1,4 @@
--- The fragments that stand together in a generation.
+-- The fragments that are stored together in a generation.
 use Rattle.std.proofs.Common.{◌≡◌, ℕ, ℤ, zero, suc, ◌+◌, ◌<◌, ◌≤◌, ◌≤ℤ◌, Bool, true, false, ◌||◌, List, [], ◌∷◌, ◌++◌, inl, inr, refl, sym, ap, ◌∙◌, arith, length, get_or, length-append}
 use Rattle.std.specs.Prelude.{◌==◌, if◌then◌else◌, All, Contains, Option, Some, None, is_some, unwrap_or, slice_get, nat_lt}
 use Rattle.std.proofs.Math.ListN.{get_or-append}
@@ -75,7 +75,7 @@ stood_falls hold clock f earlier h =
     (held_falls hold clock f.at (generations_of hold f.ep f.seq earlier)
     (last_falls hold clock (of_id f.ep f.seq earlier) (falling_ids clock f.ep f.seq earlier h)))
 
--- none came before the first of them
+-- none was received before the first of them
 pub none_before : (f : Fragment) (s : List Fragment) → AreFalling f.at s → All (λ x. first_of (f ∷ s) ≤ℤ x.at) (f ∷ s)
 none_before f [] h = All-cons (λ (x : Fragment). f.at ≤ℤ x.at) f [] (≤ℤ_refl f.at) (All-nil (λ (x : Fragment). f.at ≤ℤ x.at))
 none_before f (g ∷ s) h =
@@ -168,7 +168,7 @@ all_up_to (a ∷ s) e h =
 pub has_fragment : (s : List Fragment) (n k : ℕ) → all_stand s n ≡ true → k < n → HasFragment s k
 has_fragment s n k all below = stands_at s k (one_stands s n k all below)
 
--- no two of one subsequence id stand together
+-- no two of one subsequence id are stored together
 abbrev IsPiece : List Fragment → Fragment → Type 0
 IsPiece s x = piece_at s x.sub ≡ Some x.bytes
 

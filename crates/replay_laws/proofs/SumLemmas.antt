@@ -55,7 +55,7 @@ unfolding data_verdicts
 data_verdict_each side d [] = refl
 data_verdict_each side d (x ∷ earlier) = omega (arith, data_verdict_each side d earlier)
 
--- ---- verdicts of one kind stand beside those of the other, and beside the cells
+-- ---- verdicts of one kind are beside those of the other, and beside the cells
 
 -- how often the counters of one kind are counted, and no others
 record IsOf (cs : List Counter) (commands sections cells : ℕ) : Type 0 where

@@ -1,4 +1,4 @@
--- A message of data that says nothing, and what comes later within its generation, may as well not have come.
+-- A message of data that says nothing, and what is received later within its generation, may as well not have been received.
 use Rattle.std.proofs.Common.{◌≡◌, ℕ, ℤ, pos, ◌+ℤ◌, ◌-ℤ◌, ◌≤ℤ◌, Bool, true, false, ◌&&◌, List, [], ◌∷◌, ◌++◌, ◌⊎◌, inl, inr, refl, sym, ap, ap₂, ◌∙◌, subst}
 use Rattle.std.specs.Prelude.{◌==◌, if◌then◌else◌}
 use Rattle.std.proofs.lemmas.Bool.{and_parts, eqb-true}
@@ -57,7 +57,7 @@ kept_over hold start at [] past kept = absurd kept
 kept_over hold start at (g ∷ gs) past kept =
     ap (λ (t : ℤ). if is_within hold t at then false else true) kept.0 ∙ ap (λ (w : Bool). if w then false else true) past
 
--- what comes after a fragment and past its generation begins another, whether the fragment came or not
+-- what is received after a fragment and past its generation begins another, whether the fragment was received or not
 over_without : (hold from at : ℤ) (gs : List Generation) → from ≤ℤ at → is_within hold (start_in hold from gs) at ≡ false → begins hold at gs ≡ true
 over_without hold from at [] order past = refl
 over_without hold from at (g ∷ gs) order past = ap (λ (w : Bool). if w then false else true) (go (is_within hold g.start from) refl past)
@@ -66,9 +66,9 @@ over_without hold from at (g ∷ gs) order past = ap (λ (w : Bool). if w then f
     go true is past = past
     go false is past = past_by hold g.start from at order is
 
--- ---- what came of the message's endpoint and sequence id, with its last fragment and without
+-- ---- what was received of the message's endpoint and sequence id, with its last fragment and without
 
--- all that came later fell in its generation; or something came past it, and since then no fragment can tell the two apart
+-- all that was received later fell in its generation; or something was received past it, and since then no fragment can tell the two apart
 record IsWaiting (hold start from : ℤ) (gs hs : List Generation) : Type 0 where
   kept : IsKept start gs
   over : (at : ℤ) → from ≤ℤ at → is_within hold start at ≡ false → begins hold at hs ≡ true
@@ -86,7 +86,7 @@ own_later : (hold start from clock later : ℤ) (gs hs : List Generation) → cl
 own_later hold start from clock later gs hs order (inl w) = inl w
 own_later hold start from clock later gs hs order (inr p) = inr (record { when = p.when; come = at_most p.when clock later p.come order; past = p.past; alike = p.alike })
 
--- a fragment past the generation: the same stands before it, and no later one can tell the two apart
+-- a fragment past the generation: the same is stored before it, and no later one can tell the two apart
 record AreMet (hold : ℤ) (h : Fragment) (gs hs : List Generation) : Type 0 where
   alike : AreAlike (with_fragment hold h gs) (with_fragment hold h hs)
   stood : standing (held_in hold h.at gs) ≡ standing (held_in hold h.at hs)
@@ -105,9 +105,9 @@ past_met hold start from clock h gs hs order past (inl w) =
       stood = ap standing (with.1 ∙ sym but.1);
     }
 
--- ---- all that came
+-- ---- all that was received
 
--- a fragment tells the same where the same stands before it
+-- a fragment tells the same where the same is stored before it
 told_same : (side : Side) (hold : ℤ) (e : EndpointConfig) (h : Fragment) (fs gs : List Fragment) → standing_before hold h fs ≡ standing_before hold h gs
     → data_told (data_now side hold e h fs) ≡ data_told (data_now side hold e h gs)
 told_same side hold e h fs gs same = ap (λ (s : List Fragment). data_told (decoded_now side e h (whole_of (verdict s h) h s))) same

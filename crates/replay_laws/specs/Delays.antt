@@ -1,4 +1,4 @@
--- The delays that a replay tells: the results of the frames that land, each behind its frame (this project's profile).
+-- The delays that a replay tells: the results of the frames that land, each after its frame (this project's profile).
 use Rattle.std.specs.Prelude.{◌≡◌, ℕ, ℤ, ◌≤ℤ◌, All, Contains, List, [], ◌∷◌, ◌++◌, map, Some, slice_get, slice_index_or}
 use Rattle.air_source.specs.declared.events.Event.{Event}
 use Rattle.air_source.specs.declared.events.Event.TheVariants as event
@@ -29,7 +29,7 @@ IsResult t (event.Count side k value) = Unit {0}
 abbrev pub DelaysAreResults : Type 0
 DelaysAreResults = (c : Config) (t : Traffic) → All (IsResult t) (events c t)
 
--- ---- where they stand
+-- ---- where they are
 
 -- a frame that lands at a unit at a tick, by its place among those that do, and what it gives
 abbrev pub IsLanding : Side → Traffic → ℤ → ℕ → Arrival → Type 0
@@ -49,7 +49,7 @@ pub record IsBehindFrame (t : Traffic) (side : Side) (tick : ℤ) (r : DelayResu
   pub front : List Event
   pub is : told ≡ front ++ arrival_event side frame ∷ map (result_event side tick) earlier
 
--- an event, behind these
+-- an event, after these
 abbrev pub FollowsFrame : Traffic → List Event → Event → Type 0
 FollowsFrame t told (event.Delay at side id value) = IsBehindFrame t side at.0 (record { id = id; value = value }) told
 FollowsFrame t told (event.Cell a) = Unit {0}
@@ -61,13 +61,13 @@ DelaysFollowFrames = (c : Config) (t : Traffic) (before : List Event) (x : Event
 
 -- ---- none is left out
 
--- some events stand one behind the other among all
+-- some events are one after the other among all
 pub record StandTogether (some all : List Event) : Type 0 where
   pub before : List Event
   pub after : List Event
   pub are : all ≡ before ++ (some ++ after)
 
--- each frame that lands is told, and all its results behind it
+-- each frame that lands is told, and all its results after it
 abbrev pub FramesAreTold : Type 0
 FramesAreTold =
     (c : Config) (t : Traffic) (side : Side) (tick : ℤ) (place : ℕ) (frame : Arrival) → first_clock ≤ℤ tick → tick ≤ℤ end_of_time → IsLanding side t tick place frame

@@ -1,4 +1,4 @@
--- Nothing comes after the end of time: once all up to it is told, no cell is due and no message is to be given, however late.
+-- Nothing follows the end of time: once all up to it is told, no cell is due and no message is to be given, however late.
 use Rattle.std.specs.Prelude.{◌≡◌, ℤ, pos, ◌≤ℤ◌, List, [], All}
 use Rattle.air_source.specs.declared.events.Side.{Side}
 use Rattle.window_config.specs.Configs.{IsConfig}

@@ -1,5 +1,6 @@
 -- The events of a replay, in the order of time: at each tick the radio unit's cells, the frames that land at it, the frames that land
--- at the distributed unit, and that unit's cells; each frame is followed by the delays that it makes known; the counters stand last (this project's profile).
+-- at the distributed unit, and that unit's cells; each frame is followed by the delays that it makes known; the counters are last (this
+-- project's profile).
 use Rattle.std.specs.Prelude.{ℕ, ℤ, pos, ◌+ℤ◌, ◌-ℤ◌, ◌==◌, nat_lt, Bool, List, [], ◌∷◌, ◌++◌, map, if◌then◌else◌}
 use Rattle.std.specs.List.{flat_map}
 use Rattle.std.specs.Int.{int_gap}
@@ -55,11 +56,11 @@ is_measured k = nat_lt 28 (index_of k)
 abbrev pub additions_of : Side → Config → Traffic → Counter → List Counter
 additions_of side c t k = if is_measured k then t.counted side else all_counted side c t
 
--- the number at which its counter stands in the end
+-- the value of its counter in the end
 unfoldable pub number_of : Side → Config → Traffic → Counter → ℕ
 number_of side c t k = capped (times (additions_of side c t k) k)
 
--- the counters that do not stand at 0
+-- the counters that are not 0
 abbrev pub count_event : Side → ℕ → Counter → List Event
 count_event side n k = if n == 0 then [] else event.Count side k n ∷ []
 

@@ -1,6 +1,6 @@
--- The message of data that gave a cell its samples: each of its fragments came, all in one generation, none before the first arrival or
--- after the last, each in the window of the cell's symbol (O-RAN.WG4.CUS for the windows and for the fields of a fragment; the rest is
--- this project's profile).
+-- The message of data that gave a cell its samples: each of its fragments was received, all in one generation, none before the first
+-- arrival or after the last, each in the window of the cell's symbol (O-RAN.WG4.CUS for the windows and for the fields of a fragment;
+-- the rest is this project's profile).
 use Rattle.std.specs.Prelude.{◌≡◌, ℕ, ℤ, ◌+◌, ◌≤◌, ◌≤ℤ◌, true, All, Contains, List, ◌∷◌, ◌++◌, Some, length, slice_get}
 use Rattle.bfp_codec.specs.declared.samples.Wide.{Wide}
 use Rattle.air_source.specs.declared.events.AirCell.{AirCell}
@@ -30,7 +30,7 @@ pub record IsPieceInTime (side : Side) (c : Config) (arrivals : List Arrival) (f
   pub came : Contains (fragments (met side c arrivals)) x
   pub ep : x.ep ≡ part.ep
   pub seq : x.seq ≡ f.seq
-  -- it is f, or came before f in f's generation
+  -- it is f, or was received before f in f's generation
   pub together : Contains (f ∷ seen (hold_of side c.delays) f earlier) x
   pub from : part.first.0 ≤ℤ x.at
   pub to : x.at ≤ℤ part.last.0
@@ -42,15 +42,15 @@ pub record HasFragment (fs : List Fragment) (sub : ℕ) : Type 0 where
   pub there : Contains fs fragment
   pub sub_is : fragment.sub ≡ sub
 
--- one of these that came then
+-- one of these that was received then
 pub record CameThen (fs : List Fragment) (at : ℤ) : Type 0 where
   pub fragment : Fragment
   pub there : Contains fs fragment
   pub came : fragment.at ≡ at
 
--- The message of a section of data that covers a symbol that starts then: one fragment made it whole, after the earlier messages and before
--- the later ones. What stands then are the fragments of the message, each of which is the piece of its subsequence id: there is one of each
--- id from 0 to that of the fragment with E = 1, and none beyond.
+-- The message of a section of data that covers a symbol that starts then: one fragment made it complete, after the earlier messages and
+-- before the later ones. What is stored then are the fragments of the message, each of which is the piece of its subsequence id: there is
+-- one of each id from 0 to that of the fragment with E = 1, and none beyond.
 pub record IsGathered (side : Side) (c : Config) (arrivals : List Arrival) (part : UserSection) (start : ℤ) : Type 0 where
   pub later : List Meeting
   pub endpoint : EndpointConfig

@@ -1,4 +1,4 @@
--- Frames that land at a unit, as time passes: those of a tick, and all that came before one (this project's profile).
+-- Frames that land at a unit, as time passes: those of a tick, and all that were received before one (this project's profile).
 use Rattle.std.specs.Prelude.{ℕ, zero, suc, ℤ, pos, ◌+ℤ◌, List, [], filter}
 use Rattle.std.specs.Int.{int_gap}
 use Rattle.std.specs.Ordering.{int_eq}

@@ -42,9 +42,9 @@ seen_before Du tick = tick +ℤ pos 1
 abbrev pub seen_at : Side → List Arrival → ℤ → List Arrival
 seen_at side landings tick = arrivals_before landings (seen_before side tick)
 
--- ---- what came
+-- ---- what was received
 
--- a tick's frames come behind those of the ticks before it
+-- a tick's frames follow those of the ticks before it
 abbrev pub ArrivalsGoOn : Type 0
 ArrivalsGoOn =
     (landings : List Arrival) (tick : ℤ) → first_clock ≤ℤ tick
@@ -80,7 +80,7 @@ pub record IsUnitMoment (side : Side) (c : Config) (t : Traffic) (now tick : ℤ
   pub calm : IsCalm (landings_at side t) now tick
   pub quiet : due_from side c t.planned (landings_at side t) now (tick -ℤ pos 1) ≡ []
 
--- Where it is so at both units: what is due up to the tick are its cells, and no events stand between.
+-- Where it is so at both units: what is due up to the tick are its cells, and no events are between.
 pub record IsNextMoment (c : Config) (t : Traffic) (now tick : ℤ) : Type 0 where
   pub config : IsConfig c
   pub begun : first_clock ≤ℤ now

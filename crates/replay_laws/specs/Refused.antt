@@ -1,5 +1,5 @@
--- A message that is refused as it comes, a fragment that does not stand and a section that is refused change nothing but counters (this
--- project's profile). A message of data that is whole and then refused is none of these: its fragments keep their places.
+-- A message that is refused as it is received, a fragment that is not stored and a section that is refused change nothing but counters
+-- (this project's profile). A message of data that is complete and then refused is none of these: its fragments keep their places.
 use Rattle.std.specs.Prelude.{◌≡◌, ◌≢◌, ℤ, List, ◌∷◌, ◌++◌}
 use Rattle.air_source.specs.declared.events.Side.{Side}
 use Rattle.ecpri_fragments.specs.Generations.{is_first}
@@ -16,7 +16,7 @@ use Rattle.unit_model.specs.declared.decoded.UserSection.{UserSection}
 use Rattle.unit_model.specs.declared.verdicts.CommandVerdict.TheVariants.{Accepted}
 use Rattle.unit_model.specs.declared.verdicts.DataVerdict.TheVariants.{Taken}
 
--- a message that is refused as it comes, after these earlier ones: it is counted and no more, or it is a fragment that stands
+-- a message that is refused as it is received, after these earlier ones: it is counted and no more, or it is a fragment that is stored
 -- nowhere and begins no generation
 abbrev pub IsRefusedMessage : ℤ → Meeting → List Meeting → Type 0
 IsRefusedMessage hold (Ignored k) earlier = Unit {0}

@@ -1,10 +1,10 @@
--- What a cell shows came in time: its samples in one message of data whose fragments all lay in their window; at the radio unit each
--- of its elements by a command that was on time and was accepted, at the distributed unit by an allocation of the plan
+-- What a cell shows was received in time: its samples in one message of data whose fragments all lay in their window; at the radio unit
+-- each of its elements by a command that was on time and was accepted, at the distributed unit by an allocation of the plan
 -- (O-RAN.WG4.CUS for the windows; the rest is this project's profile).
 --
--- `data_of` are the sections of whole messages among all frames that landed, and none else: a message becomes whole only by
--- fragments that landed and stand together in one generation, which holds for as long as the configuration says (`data_sections`,
--- `whole_now`); the time of its first fragment and that of its last stand with each section.
+-- `data_of` are the sections of complete messages among all frames that landed, and none else: a message becomes complete only by
+-- fragments that landed and are stored together in one generation, which holds for as long as the configuration says (`data_sections`,
+-- `whole_now`); the time of its first fragment and that of its last are kept with each section.
 use Rattle.std.specs.Prelude.{◌≡◌, ℕ, ℤ, ◌-◌, ◌<◌, ◌≤ℤ◌, true, false, All, Contains, List, ◌∷◌, ◌++◌, Some, slice_get}
 use Rattle.fh_base.specs.Air.{air_of}
 use Rattle.bfp_codec.specs.declared.samples.Wide.{Wide}
@@ -40,7 +40,8 @@ use Rattle.air_source.specs.Units.{is_down}
 abbrev pub cell_shown : Side → ℕ → AirCell → Cell
 cell_shown side ep a = cell_at ep (is_down side) a.slot a.symbol a.prb
 
--- a message of data came within its window, of a symbol that starts then: before it at the radio unit, after it at the distributed unit
+-- a message of data was received within its window, of a symbol that starts then: before it at the radio unit, after it at the
+-- distributed unit
 abbrev pub IsInWindow : Side → Delays → ℤ → ℤ → ℤ → Type 0
 IsInWindow Ru d first last start = IsOnTime first last start (data_window_of d)
 IsInWindow Du d first last start = IsOnTimeUp first last start d.ta4
@@ -84,7 +85,7 @@ ElementIsGiven Ru c planned arrivals ep a re = GaveElement c arrivals ep a re
 ElementIsGiven Du c planned arrivals ep a re = PlannedElement planned ep a re
 
 -- a cell of the unit, of an endpoint of the configuration, at its symbol's start, whose elements were commanded in time or planned, and
--- whose samples, where it has some, came in time
+-- whose samples, where it has some, were received in time
 pub record IsInTime (side : Side) (c : Config) (planned : List Allocation) (arrivals : List Arrival) (a : AirCell) : Type 0 where
   pub side_is : a.side ≡ side
   pub ep : ℕ

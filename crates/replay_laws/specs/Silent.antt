@@ -1,5 +1,5 @@
--- A message of data that comes whole and says nothing changes no claim, no block and no uplink section, though its fragments keep their
--- places. A message that is only counted begins no generation of fragments (this project's profile).
+-- A message of data that becomes complete and says nothing changes no claim, no block and no uplink section, though its fragments keep
+-- their places. A message that is only counted begins no generation of fragments (this project's profile).
 use Rattle.std.specs.Prelude.{◌≡◌, ℤ, Bool, true, ◌&&◌, if◌then◌else◌, List, [], ◌∷◌, ◌++◌, Option, Some, None}
 use Rattle.air_source.specs.declared.events.Side.{Side}
 use Rattle.ecpri_fragments.specs.Generations.{Fragment, generations_of, is_of, is_within, start_in}
@@ -39,27 +39,28 @@ without those (Piece e g ∷ ms) = if those g then without those ms else Piece e
 
 -- among some arrivals at a unit, after the earlier messages and before the later ones
 pub record SilentChangesNothing (side : Side) (c : Config) (arrivals : List Arrival) : Type 0 where
-  -- the fragment that made a message whole that says nothing: without it, and without what comes later within its generation, the same
-  -- commands are decoded, so each claim and each uplink section stays, and the same sections of data, so each block stays
+  -- the fragment that made a message complete that says nothing: without it, and without what is received later within its generation,
+  -- the same commands are decoded, so each claim and each uplink section stays, and the same sections of data, so each block stays
   pub silent_rests :
       (later : List Meeting) (e : EndpointConfig) (f : Fragment) (earlier : List Meeting) → met side c arrivals ≡ later ++ Piece e f ∷ earlier
       → IsSilent (data_now side (hold_of side c.delays) e f (fragments earlier))
       → (commands (without (is_with (hold_of side c.delays) f (fragments earlier)) later ++ earlier) ≡ commands_of side c arrivals)
       × (data_sections side (hold_of side c.delays) (without (is_with (hold_of side c.delays) f (fragments earlier)) later ++ earlier) ≡ data_of side c arrivals)
-  -- whatever comes later: without that fragment alone the commands are the same, and as it comes no section of data is told
+  -- whatever is received later: without that fragment alone the commands are the same, and as it is received no section of data is told
   pub none_told :
       (later : List Meeting) (e : EndpointConfig) (f : Fragment) (earlier : List Meeting) → met side c arrivals ≡ later ++ Piece e f ∷ earlier
       → IsSilent (data_now side (hold_of side c.delays) e f (fragments earlier))
       → (commands (later ++ earlier) ≡ commands_of side c arrivals)
       × (data_sections side (hold_of side c.delays) (Piece e f ∷ earlier) ≡ data_sections side (hold_of side c.delays) earlier)
       × (verdict_on (hold_of side c.delays) f (fragments earlier) ≡ Whole)
-  -- the fragments of a message that came whole, whatever it says, keep their places: what comes later within their generation is a repeat
+  -- the fragments of a message that became complete, whatever it says, keep their places: what is received later within their generation
+  -- is a repeat
   pub places_kept :
       (later : List Meeting) (d : EndpointConfig) (g : Fragment) (between : List Meeting) (e : EndpointConfig) (f : Fragment) (earlier : List Meeting)
       → met side c arrivals ≡ later ++ Piece d g ∷ (between ++ Piece e f ∷ earlier)
       → verdict_on (hold_of side c.delays) f (fragments earlier) ≡ Whole → is_with (hold_of side c.delays) f (fragments earlier) g ≡ true
       → verdict_on (hold_of side c.delays) g (fragments (between ++ Piece e f ∷ earlier)) ≡ Repeat
-  -- a message that is counted and no more: without it the same fragments came, so the generations are the same
+  -- a message that is counted and no more: without it the same fragments were received, so the generations are the same
   pub counted_begins_none :
       (later : List Meeting) (k : Counter) (earlier : List Meeting) → met side c arrivals ≡ later ++ Ignored k ∷ earlier
       → fragments (later ++ earlier) ≡ fragments (met side c arrivals)

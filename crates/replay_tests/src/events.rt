@@ -52,7 +52,7 @@ const CELL_AT: Ticks = Ticks(15_360_000_000);
 
 const TAKEN_IN_AT: Ticks = Ticks(15_776_256_000);
 
-/// What came of a replay, and where both units stand then.
+/// What resulted from a replay, and the state of both units then.
 #[derive(Drop)]
 struct Outcome {
     result: Result<(), ReplayFault>,
@@ -61,7 +61,7 @@ struct Outcome {
     air: MemoryAir,
 }
 
-/// Where a unit stands: its clock, its next moment, and how many frames, sections of data and cells it has counted.
+/// The state of a unit: its clock, its next moment, and how many frames, sections of data and cells it has counted.
 #[derive(Clone, Copy, Debug, PartialEq, Eq)]
 struct Step {
     clock: Ticks,
@@ -191,7 +191,7 @@ fn standing(clock: Ticks, due: Option<Ticks>, frames: u64, taken: u64, cells: u6
     }
 }
 
-/// Replays a document to an air that fails at the call behind so many.
+/// Replays a document to an air that fails at the call after so many.
 fn stopped_behind(alloc: Global, document: &str, earlier: u64) -> Result<Option<Outcome>, Fail> {
     let mut fails = List::new(alloc);
     fails.push(earlier.saturating_add(1))?;
@@ -267,7 +267,7 @@ fn is_in_step(played: &Outcome) -> bool {
     frames && ru.cells == cells(air, Side::Ru) && du.cells == cells(air, Side::Du)
 }
 
-/// Whether both units are in step with the air that fails in each of so many events, and nothing fails behind them.
+/// Whether both units are in step with the air that fails in each of so many events, and nothing fails after them.
 fn is_in_step_throughout(alloc: Global, document: &str, events: u64) -> Result<bool, Fail> {
     for earlier in 0..events {
         let Some(played) = stopped_behind(alloc, document, earlier)? else {
@@ -324,7 +324,7 @@ fn type_at(event: Option<&Event>, time: Ticks) -> Option<u8> {
     }
 }
 
-/// The frames of one time come in the order in which they were sent, those of delay measurement behind the others.
+/// The frames of one time are received in the order in which they were sent, those of delay measurement after the others.
 #[test]
 fn requests_come_in_the_sent_order(rt: HostRuntime) {
     let at = Ticks(14_714_880_000);

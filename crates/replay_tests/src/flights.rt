@@ -31,7 +31,7 @@ fn send(
     })
 }
 
-/// The one byte of the next frame, or 0 where no frame comes.
+/// The one byte of the next frame, or 0 where no frame is received.
 fn mark_until(network: &mut Network, to: i64) -> u8 {
     match network.next_until(Ticks(to)) {
         None => 0,

@@ -1,9 +1,9 @@
 //! Tests of the replay of a document: what an air hears (`events`), sinks that fail (`sinks`), and some hundred messages of one
-//! endpoint (`many`). Documents and their reports, summaries and captures stand in the table of `run_vectors`.
+//! endpoint (`many`). Documents and their reports, summaries and captures are in the table of `run_vectors`.
 //!
-//! They stand beside `fronthaul_replay`, so that it is proved without them.
+//! They are beside `fronthaul_replay`, so that it is proved without them.
 //!
-//! Tests of what stands between both units, by the public calls of `frame_network`, `frame_ways`, `unit_meters`, `unit_moments`,
+//! Tests of what is between both units, by the public calls of `frame_network`, `frame_ways`, `unit_meters`, `unit_moments`,
 //! `delay_exchange` and `frame_deliveries`, which are proved without them.
 #![tactic(auto)]
 

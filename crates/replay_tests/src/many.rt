@@ -1,4 +1,4 @@
-// Sequence ids that come again twice: counters by hand.
+// Sequence ids that recur twice: counters by hand.
 use fh_base::PlainSink;
 use fh_document::read;
 use fronthaul_replay::{check_plan, report_document};
@@ -18,7 +18,7 @@ fn planned_slots(alloc: Global, slots: u16) -> Result<String, Fail> {
     Ok(text)
 }
 
-/// Sequence ids come again after 256 messages, some 9 ms later, which is far more than the hold.
+/// Sequence ids recur after 256 messages, some 9 ms later, which is far more than the hold.
 #[test]
 fn six_hundred_messages_of_one_endpoint(rt: HostRuntime) -> Result<(), Fail> {
     let alloc = rt.alloc();

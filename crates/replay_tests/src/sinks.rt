@@ -1,4 +1,4 @@
-// Reports, summaries and captures in sinks that fail, and behind what stands there.
+// Reports, summaries and captures in sinks that fail, and after what is there.
 use fh_base::{List, MemorySink, PlainSink};
 use fh_document::read;
 use fronthaul_replay::{

@@ -11,9 +11,9 @@ use frame_ways::{FramePool, Way, earlier_of};
 use std::alloc::Global;
 use std::test::Fail;
 
-/// The second frame of the U-plane to the radio unit comes three times, the first command not at all, the first frame of delay
-/// measurement twice, and the second frame of the U-plane to the distributed unit early. Of the injected frames four come at the times
-/// of others.
+/// The second frame of the U-plane to the radio unit is received three times, the first command not at all, the first frame of delay
+/// measurement twice, and the second frame of the U-plane to the distributed unit early. Of the injected frames four are received at the
+/// times of others.
 const TEXT: &[u8] = b"fronthaul 1\ntransit dl 40\ntransit ul 60\ntransit m 30\n\
     deliver dl u 2 7 5 7\ndeliver dl c 1\ndeliver ul u 2 9\ndeliver dl m 1 5 8\n\
     inject dl 49 a3\ninject ul 60 b1\ninject dl 40 a1\ninject dl 40 a2\n";

@@ -1,4 +1,4 @@
--- The lines of cells that come one by one are those of the runs that the whole list is cut into.
+-- The lines of cells that are given one by one are those of the runs that the complete list is cut into.
 use Rattle.std.proofs.Common.{◌≡◌, ℕ, pos, ◌+◌, ◌+ℤ◌, Bool, true, false, ◌&&◌, cond, nat_lt, List, [], ◌∷◌, ◌++◌, Option, None, Some, refl, sym, ap, subst, ◌∙◌, arith, append_assoc, append-nil}
 use Rattle.std.specs.Cmp.{second_so}
 use Rattle.std.specs.List.{flat_map}
@@ -135,7 +135,7 @@ from_run (c ∷ cells) = λ r before l h.
     let s = starts c cells in
     next (follows l c) r before l c cells s.run s.runs (from_run cells) h s.is refl
 
--- the lines of cells that come one by one, from none on
+-- the lines of cells that are given one by one, from none on
 pub lines_are : (cells : List AirCell) → lines_by None cells ≡ cells_text cells
 unfolding lines_by behind runs_of
 lines_are [] = refl

@@ -16,7 +16,7 @@ kept_again xs ys =
     let sum : k + (length (drop k (xs ++ ys)) - 16) ≡ length (xs ++ ys) - 16 = omega (arith, long, all) in
     ap (keep_last 16) front ∙ drop-drop (length (drop k (xs ++ ys)) - 16) k (xs ++ ys) ∙ ap (λ n. drop n (xs ++ ys)) sum
 
--- results that come one by one
+-- results that are given one by one
 kept_on : (xs zs : List ℤ) → fold one_more (keep_last 16 xs) zs ≡ keep_last 16 (xs ++ zs)
 kept_on xs [] = ap (keep_last 16) (sym (append-nil xs))
 kept_on xs (z ∷ zs) =

@@ -1,6 +1,6 @@
 pub mod Texts
 pub mod Captured
-mod Recording
+pub mod Recording
 pub mod Bounds
 pub mod Cut
 pub mod Elements

@@ -1,4 +1,4 @@
--- The summary by a state is that of the whole list of events, where counters stand last.
+-- The summary by a state is that of the complete list of events, where counters are last.
 use Rattle.std.proofs.Common.{◌≡◌, ℕ, ℤ, Bool, false, cond, List, [], ◌∷◌, ◌++◌, refl, sym, ap, ◌∙◌, append_assoc, append-nil, map}
 use Rattle.std.specs.List.{fold, AllByRecursion}
 use Rattle.std.proofs.lemmas.Grind.{flat_map-append}
@@ -32,7 +32,7 @@ IsCount (Delay at side id value) = ⊥
 IsCount (Arrival side at frame) = ⊥
 IsCount (Count side counter value) = Unit {0}
 
--- the counters stand behind all other events
+-- the counters are after all other events
 pub record CountsLast (events : List Event) : Type 0 where
   pub before : List Event
   pub counts : List Event
@@ -86,7 +86,7 @@ untold s (Delay at Ru id value ∷ events) h = untold (sum_next s (Delay at Ru i
 untold s (Arrival side at frame ∷ events) h = untold s events h.1
 untold s (Count side counter value ∷ events) h = absurd h.0
 
--- the results of each unit come one by one
+-- the results of each unit are given one by one
 du_results : (s : SumState) (events : List Event) → AllByRecursion IsEarlier events → (after s events).du ≡ fold one_more s.du (results_in Du events)
 du_results s [] h = refl
 du_results s (Cell c ∷ events) h = du_results (after_cell s c) events h.1 ∙ ap (fold one_more s.du) (sym (flat_map-cons (result_in Du) (Cell c) events))
@@ -185,7 +185,7 @@ by_state before counts h k =
     ∙ ap (λ bytes. bytes ++ end_text) (sym (append_assoc first (closing_text s) (counts_text counts)))
     ∙ ap (λ bytes. (bytes ++ counts_text counts) ++ end_text) (earlier before h)
 
--- the law: where counters stand last, both are one text
+-- the law: where counters are last, both are one text
 pub summary_is : (events : List Event) → CountsLast events → given_by sum_next sum_gives sum_start events ++ sum_ends (state_after sum_next sum_start events) ≡ whole_summary events
 summary_is events l =
     ap (λ es. bytes_from sum_start es ++ sum_ends (after sum_start es)) l.is

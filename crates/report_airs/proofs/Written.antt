@@ -54,11 +54,11 @@ writes_out fault written faults refusals owed sums fresh none start = record {
   };
 }
 
--- the lines begin the summary, where counters stand last
+-- the lines begin the summary, where counters are last
 pub summary_begins : (events : List Event) → CountsLast events → IsFront (summary_begun events) (whole_summary events)
 summary_begins events l = record { rest = sum_ends (state_after sum_next sum_start events); is = sym (summary_is events l) }
 
--- where it heard the events, and then wrote what it owed and what stands behind them, it wrote the summary
+-- where it heard the events, and then wrote what it owed and what is after them, it wrote the summary
 pub finished : (events : List Event) (s : SumState) (written : Option (List ℕ)) (owed : List ℕ) (s_now : SumState) (middle : Option (List ℕ)) (owed_now : List ℕ) (now : Option (List ℕ))
     → CountsLast events → owed ≡ [] → s ≡ sum_start → Heard s written owed events s_now middle owed_now → now ≡ append_known middle (owed_now ++ sum_ends s_now) → now ≡ append_known written (whole_summary events)
 finished events s written owed s_now middle owed_now now l none start h whole =

@@ -1,5 +1,5 @@
 -- The count lines of the events of a report (this project's profile): a line for each counter, none for any other event, and the line
--- `end` behind them.
+-- `end` after them.
 use Rattle.std.specs.Prelude.{ℕ, List, [], ◌++◌}
 use Rattle.std.specs.List.{flat_map}
 use Rattle.air_source.specs.declared.events.Event.{Event}

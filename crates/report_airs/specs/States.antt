@@ -33,7 +33,7 @@ grown r prb cell = record { place = r.place; prb = prb; totals = plus r.totals c
 abbrev pub with_cell : OpenRun → AirCell → OpenRun
 with_cell r c = grown r c.prb (cell_totals c)
 
--- the run that a cell ends, and the one that is open behind it
+-- the run that a cell ends, and the one that is open after it
 abbrev pub run_ended : Option OpenRun → AirCell → Option OpenRun
 run_ended None c = None
 run_ended (Some r) c = if goes_on_with r c then None else Some r
@@ -66,7 +66,7 @@ abbrev pub after_delay : SumState → Side → ℤ → SumState
 after_delay s Du z = record { run = s.run; du = one_more s.du z; ru = s.ru; told = s.told }
 after_delay s Ru z = record { run = s.run; du = s.du; ru = one_more s.ru z; told = s.told }
 
--- the lines that stand before the counters
+-- the lines that are before the counters
 abbrev pub delay_lines : SumState → List ℕ
 delay_lines s = if s.told then [] else delays_text Du s.du ++ delays_text Ru s.ru
 
@@ -91,6 +91,6 @@ sum_gives s (Delay at side id value) = []
 sum_gives s (Arrival side at frame) = []
 sum_gives s (Count side counter value) = closing_text s ++ count_text side counter value
 
--- what stands behind the last event
+-- what is after the last event
 abbrev pub sum_ends : SumState → List ℕ
 sum_ends s = closing_text s ++ end_text

@@ -1,4 +1,4 @@
--- The text of the events of a report (this project's profile): a line for each, none for an arrival, and the line `end` behind them.
+-- The text of the events of a report (this project's profile): a line for each, none for an arrival, and the line `end` after them.
 use Rattle.std.specs.Prelude.{ℕ, List, [], ◌++◌, codes}
 use Rattle.std.specs.List.{flat_map}
 use Rattle.air_source.specs.declared.events.Event.{Event}

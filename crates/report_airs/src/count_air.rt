@@ -23,7 +23,7 @@ use fh_base::{Line, OwedBytes, Sink, Ticks};
 pub struct CountAir<'a, K> {
     sink: &'a mut K,
     owed: OwedBytes,
-    // the line of the last event, which is written where it stands
+    // the line of the last event, which is written where it is
     line: Line,
 }
 
@@ -43,7 +43,7 @@ impl<'a, K: Sink> CountAir<'a, K> {
         }
     }
 
-    // Owes the line behind what is owed.
+    // Owes the line after what is owed.
     fn tell(&mut self) -> Result<(), AirFault>
         ensures reference { sink_name self.new ≡ sink_name self.old }
         ensures carried { OnOk result (Carried (K.written (sink_of self.old)) (owed_of self.old) (line_of self.old) (K.written (sink_of self.new)) (owed_of self.new)) }

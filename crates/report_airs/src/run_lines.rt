@@ -56,7 +56,7 @@ fn append_totals(totals: &Totals, line: &mut Line)
     line.spaced(totals.missing);
 }
 
-/// Writes the line of a run in place of what stood in the line: `sum WAY T ID F S L Y ELEMENTS I Q MISSING`.
+/// Writes the line of a run in place of what was in the line: `sum WAY T ID F S L Y ELEMENTS I Q MISSING`.
 ///
 /// WAY is `dl` for a run of the radio unit and `ul` for one of the distributed unit, T the start of the symbol in ticks, F the
 /// frame (both signed), S the subframe, L the slot, Y the symbol. ELEMENTS is the number of elements shown, I and Q are the

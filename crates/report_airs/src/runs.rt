@@ -63,7 +63,7 @@ impl Run {
         }
     }
 
-    /// The run with one more cell behind it.
+    /// The run with one more cell after it.
     pub fn with(&self, c: &AirCell) -> Run
         requires { IsTrue (goes_on_with self.now c.now) }
         ensures { result ≡ with_cell self.now c.now }

@@ -20,14 +20,14 @@ use std::alloc::Global;
 
 /// An air that writes a summary to a sink that it borrows.
 ///
-/// It owes up to 8,192 bytes to the sink. [`finish`](SumAir::finish) writes them and what stands behind the last event; where
+/// It owes up to 8,192 bytes to the sink. [`finish`](SumAir::finish) writes them and what is after the last event; where
 /// the air is let go without it, or stopped in an event, what is owed is not written. Who lent the sink ends with
 /// [`into_sink`](SumAir::into_sink), which says what became of it.
 #[derive(Drop)]
 pub struct SumAir<'a, K> {
     sink: &'a mut K,
     owed: OwedBytes,
-    // the line that is told next, which is written where it stands
+    // the line that is told next, which is written where it is
     line: Line,
     sums: Sums,
 }
@@ -66,7 +66,7 @@ impl<'a, K: Sink> SumAir<'a, K> {
         }
     }
 
-    // Owes the line behind what is owed.
+    // Owes the line after what is owed.
     fn owe(&mut self) -> Result<(), AirFault>
         ensures reference { sink_name self.new ≡ sink_name self.old }
         ensures sums { sums_of self.new ≡ sums_of self.old }
@@ -78,7 +78,7 @@ impl<'a, K: Sink> SumAir<'a, K> {
         tell(&mut self.owed, self.line.as_slice(), self.sink)
     }
 
-    // Owes the lines that stand before the counters, where they are not written yet.
+    // Owes the lines that are before the counters, where they are not written yet.
     fn close(&mut self) -> Result<(), AirFault>
         ensures reference { sink_name self.new ≡ sink_name self.old }
         ensures sums { OnOk result (sums_of self.new ≡ after_closing (sums_of self.old)) }
@@ -92,7 +92,7 @@ impl<'a, K: Sink> SumAir<'a, K> {
         self.owe()
     }
 
-    // Owes what stands before the counters, and the line of a counter.
+    // Owes what is before the counters, and the line of a counter.
     fn owe_count(&mut self, side: Side, counter: Counter, value: u64) -> Result<(), AirFault>
         ensures reference { sink_name self.new ≡ sink_name self.old }
         ensures sums { OnOk result (sums_of self.new ≡ after_closing (sums_of self.old)) }
@@ -105,7 +105,7 @@ impl<'a, K: Sink> SumAir<'a, K> {
         self.owe()
     }
 
-    /// Writes what is owed, what stands behind the last event and the line `end`, and then owes nothing. After an error a front
+    /// Writes what is owed, what is after the last event and the line `end`, and then owes nothing. After an error a front
     /// part of these was written and not all.
     ///
     /// # Errors
@@ -185,7 +185,7 @@ impl<'a, K: Sink> Air for SumAir<'a, K> {
         Ok(())
     }
 
-    /// Hears the value of a counter: what stands before the counters and its line are written or owed, at 0 too.
+    /// Hears the value of a counter: what is before the counters and its line are written or owed, at 0 too.
     fn count(&mut self, side: Side, counter: Counter, value: u64) -> Result<(), AirFault> {
         self.owe_count(side, counter, value)
     }

@@ -76,7 +76,7 @@ impl Sums {
         }
     }
 
-    /// Writes the lines that stand before the counters in place of what stood in the line: that of the run that is open, and
+    /// Writes the lines that are before the counters in place of what was in the line: that of the run that is open, and
     /// those of the delays where they were not written.
     pub(crate) fn put_closing(&self, line: &mut Line)
         ensures text { line.new ≡ closing_text self.now }

@@ -22,7 +22,7 @@ use fh_base::{OwedBytes, Sink, Ticks};
 pub struct TextAir<'a, K> {
     sink: &'a mut K,
     owed: OwedBytes,
-    // the line of the last event, which is written where it stands
+    // the line of the last event, which is written where it is
     line: ReportLine,
 }
 
@@ -42,7 +42,7 @@ impl<'a, K: Sink> TextAir<'a, K> {
         }
     }
 
-    // Owes the line behind what is owed.
+    // Owes the line after what is owed.
     fn tell(&mut self) -> Result<(), AirFault>
         ensures reference { sink_name self.new ≡ sink_name self.old }
         ensures carried { OnOk result (Carried (K.written (sink_of self.old)) (owed_of self.old) (line_of self.old) (K.written (sink_of self.new)) (owed_of self.new)) }

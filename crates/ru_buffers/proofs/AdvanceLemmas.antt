@@ -22,7 +22,7 @@ pub record Goes (c : Config) (m : UnitMemory) (clock : ℤ) (cursor : JobCursor)
   pub is : due_of c h to ≡ told ++ due_of c (heard h told) to
   pub stands : RadioStands c m clock cursor (heard h told)
 
--- and these came first of what was due
+-- and these were first of what was due
 pub record Begins (c : Config) (m : UnitMemory) (clock : ℤ) (cursor : JobCursor) (h : History) (to : ℤ) (told : List AirCell) (cell : AirCell) : Type 0 where
   pub rest : List AirCell
   pub is : due_of c h to ≡ told ++ cell ∷ rest

@@ -1,4 +1,4 @@
--- Frames without real-time control data: no command comes by them.
+-- Frames without real-time control data: no command is received with them.
 use Rattle.std.proofs.Common.{◌≡◌, ℕ, ℤ, Bool, true, false, ◌||◌, ◌==◌, not, List, [], ◌∷◌, length, map, refl, ap, ◌∙◌, Option, None, Some}
 use Rattle.std.specs.Prelude.{nat_lt, if◌then◌else◌}
 use Rattle.std.specs.List.{list_any}

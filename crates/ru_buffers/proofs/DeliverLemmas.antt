@@ -1,4 +1,4 @@
--- What comes next once a frame was delivered: without commands it is what was kept.
+-- What is next once a frame was delivered: without commands it is what was kept.
 use Rattle.std.proofs.Common.{◌≡◌, ℤ, Bool, true, false, List, ℕ, refl, sym, ◌∙◌, subst, inl, inr, Option}
 use Rattle.std.proofs.lemmas.Bool.{cases_Bool}
 use Rattle.window_config.specs.declared.config.Config.{Config}

@@ -190,7 +190,7 @@ ready_once_given first_is c m clock cursor next n h to keeps fit first given rea
 
 -- ---- as time passes
 
--- what begins with these and goes on is these and all behind them
+-- what begins with these and goes on is these and all after them
 goes_on : (given xs ys rest all : List UplinkJob) → given ++ xs ≡ ys → all ≡ ys ++ rest → given ++ drop (length given) all ≡ all
 goes_on given xs ys rest all e f =
     let whole : all ≡ given ++ (xs ++ rest) = f ∙ ap (λ (l : List UplinkJob). l ++ rest) (sym e) ∙ append_assoc given xs rest in

@@ -48,12 +48,12 @@ with_memory u m o = record { memory = m; clock = u.clock; cursor = u.cursor; sym
 pub standing : (c : Config) (u : Ru) (h : History) → StandsFor c u h → RadioStands c u.memory u.clock.0 u.cursor h
 standing c u h all = record { answers = all.answers; kept = all.kept }
 
--- and what comes next
+-- and what is next
 pub standing_with : (c : Config) (u : Ru) (h : History) → RadioStands c u.memory u.clock.0 u.cursor h → IsNextSymbol u.memory.cells u.clock.0 u.symbol
     → IsNextMessage u.memory.cells u.cursor u.message → StandsFor c u h
 standing_with c u h all symbol message = record { answers = all.answers; kept = all.kept; symbol = symbol; message = message }
 
--- where only what comes next may be another
+-- where only what is next may be another
 pub standing_next : (c : Config) (u : Ru) (m : UnitMemory) (clock : Ticks) (cursor : JobCursor) (h : History) → u.memory ≡ m → u.clock ≡ clock → u.cursor ≡ cursor
     → RadioStands c m clock.0 cursor h → IsNextSymbol m.cells clock.0 u.symbol → IsNextMessage m.cells cursor u.message → StandsFor c u h
 standing_next c u m clock cursor h same at stays all symbol message =
@@ -134,7 +134,7 @@ stands_settled_unit c u next h all ready settled =
 
 -- ---- one after the other
 
--- the last symbol that was reported: what is left is of symbols that come after it
+-- the last symbol that was reported: what is left is of symbols that are after it
 pub record IsLast (clock to : ℤ) (m : SymbolStart) (v : CellsValue) : Type 0 where
   pub ranked : IsRanked m
   pub by : m.start.0 ≤ℤ to
@@ -263,7 +263,7 @@ is_ranked v clock m few low left =
       symbol = small_symbol m.symbol _ is.symbol_is (symbols_few n).1;
     }
 
--- a symbol was reported behind the last one, so fewer places are left
+-- a symbol was reported after the last one, so fewer places are left
 rises_less : (a b top : ℕ) → a < b → b < top → top - b < top - a
 rises_less a b top h k = omega arith
 

@@ -1,4 +1,4 @@
--- What comes next of a unit is kept: it is what a search finds, as frames come, messages are given and time passes.
+-- What is next of a unit is kept: it is what a search finds, as frames are received, messages are given and time passes.
 use Rattle.std.proofs.Common.{◌≡◌, ℕ, zero, suc, ℤ, pos, ◌+◌, ◌<◌, ◌≤◌, ◌-ℤ◌, ◌≤ℤ◌, Bool, true, not, ◌&&◌, ◌||◌, ◌==◌, List, [], ◌∷◌, length, refl, sym, ap, ap₂, ◌∙◌, subst, inl, inr, arith, Option, None, Some}
 use Rattle.std.specs.Prelude.{◌^◌}
 use Rattle.std.specs.List.{list_any}

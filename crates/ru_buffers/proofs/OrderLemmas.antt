@@ -85,7 +85,7 @@ as_same v m x is_m is_x same =
     ∙ ap (λ (i : ℕ). due_at v m i x.slot x.symbol) same.ep ∙ ap (λ (s : Slot). due_at v m m.ep s x.symbol) same.slot_is
     ∙ ap (λ (y : ℕ). due_at v m m.ep m.slot y) same.symbol
 
--- what is left after the first symbol was reported is of symbols that come after it
+-- what is left after the first symbol was reported is of symbols that are after it
 pub rest_after : (clock : ℤ) (m : SymbolStart) (old new : CellsValue) → IsFirstLeft old clock m → ReportsTold m (left_at old m) old new
     → (x : SymbolStart) → IsLeftAfter new clock x → comes_before m x ≡ true
 rest_after clock m old new first reports x left =

@@ -40,7 +40,7 @@ no_earlier clock t to h k = omega (arith, ints)
 
 -- ---- lists and tests
 
--- what does not come before a symbol starts no earlier
+-- what is not before a symbol starts no earlier
 pub starts_no_earlier : (x s : SymbolStart) → comes_before x s ≡ false → s.start.0 ≤ℤ x.start.0
 starts_no_earlier x s h = not_under x.start.0 s.start.0 ((or_parts (int_lt x.start.0 s.start.0) _ h).0)
 

@@ -138,7 +138,7 @@ module _ (v : CellsValue) (cursor : JobCursor) (n : NextJob) (first : IsFirstJob
         nothing_left v next to (λ s is.
         given_before (to +ℤ pos 1) s is (earlier_comes s n.symbol (up_to_before s.start.0 to n.symbol.start.0 is.high early)))
 
-    -- what is left once it was given goes on behind it
+    -- what is left once it was given goes on after it
     pub left_first : (first_is : FirstIsFirst UplinkJob) (to : ℤ) → OffsetsFit n.symbol.endpoint.numerology → n.symbol.start.0 ≤ℤ to
         → left_up_to v cursor to ≡ n.job ∷ left_up_to v next to
     unfolding left_up_to

@@ -36,7 +36,7 @@ abbrev pub AfterReport : {A : Type 0} → (A → List Event → A → Type 0) �
 AfterReport grew c h to old new before after None = IsOver c h to old new before after
 AfterReport grew c h to old new before after (Some m) = GoesOn grew c h to new before after
 
--- a symbol was the first with something left, and what is left is of symbols that come after it
+-- a symbol was the first with something left, and what is left is of symbols that are after it
 pub record IsNextReport (clock to : ℤ) (m : SymbolStart) (old new : CellsValue) : Type 0 where
   pub was : IsLeftAfter old clock m
   pub by : m.start.0 ≤ℤ to
@@ -55,7 +55,7 @@ rank_of m =
 unfoldable pub rank_past : ℤ → ℕ
 rank_past to = (int_gap (neg_ℤ (pos (2 ^ 57))) to + 1) * (2 ^ 64 * 2 ^ 22 * 16 * 256 * 256)
 
--- so many places are left behind the last symbol that was reported
+-- so many places are left after the last symbol that was reported
 abbrev pub ranks_left : ℤ → Option SymbolStart → ℕ
 ranks_left to None = suc (rank_past to)
 ranks_left to (Some last) = rank_past to - rank_of last

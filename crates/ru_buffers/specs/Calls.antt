@@ -1,4 +1,4 @@
--- What the calls of a radio unit say of the histories for which it stands (this project's profile).
+-- What the calls of a radio unit say of the histories that it stands for (this project's profile).
 use Rattle.std.specs.Prelude.{◌≡◌, ℤ, ◌<ℤ◌, List, [], ◌∷◌, ◌++◌, map, Option, Some, None}
 use Rattle.air_source.specs.declared.events.AirCell.{AirCell}
 use Rattle.air_source.specs.declared.events.Event.{Event}
@@ -72,7 +72,7 @@ pub record IsQuietTo (c : Config) (h : History) (to : ℤ) : Type 0 where
   pub cells : due_of c h to ≡ []
   pub messages : owed_until c h to ≡ []
 
--- the least moment of a cell or a message that is still to come
+-- the least moment of a cell or a message that is still to follow
 pub record IsLeastMoment (c : Config) (h : History) (t : ℤ) : Type 0 where
   pub before : (to : ℤ) → to <ℤ t → IsQuietTo c h to
   pub at : IsQuietTo c h t → ⊥

@@ -1,5 +1,5 @@
--- What a radio unit is still to report, by what its memory holds: what the definitions tell over all that came is told by look-up of
--- the symbols that start after the clock (this project's profile).
+-- What a radio unit is still to report, by what its memory holds: what the definitions tell over all that was received is told by
+-- look-up of the symbols that start after the clock (this project's profile).
 use Rattle.std.specs.Prelude.{◌≡◌, ◌≢◌, ℤ, true, false, ◌<ℤ◌, ◌≤ℤ◌, List, [], ◌++◌}
 use Rattle.air_source.specs.declared.events.AirCell.{AirCell}
 use Rattle.air_source.specs.declared.events.Side.TheVariants.{Ru}
@@ -17,7 +17,7 @@ use Rattle.unit_symbols.specs.DueSymbols.{CountsTold, ReportsTold, is_left, left
 use Rattle.unit_symbols.specs.Symbols.{IsSymbol}
 use Rattle.ru_buffers.specs.Units.{RadioKeeps}
 
--- what is due up to a time, over all that came
+-- what is due up to a time, over all that was received
 abbrev pub due_of : Config → History → ℤ → List AirCell
 due_of c h to = due Ru c.delays c.endpoints (ru_known c h.arrivals) h.reported to
 
@@ -27,7 +27,7 @@ pub record IsLeftAfter (v : CellsValue) (clock : ℤ) (x : SymbolStart) : Type 0
   pub after : clock <ℤ x.start.0
   pub left : is_left v x ≡ true
 
--- a symbol that starts after a clock; something is left of none that comes before it
+-- a symbol that starts after a clock; something is left of none that is before it
 pub record IsFirstLeft (v : CellsValue) (clock : ℤ) (s : SymbolStart) : Type 0 where
   pub symbol : IsSymbol v s
   pub after : clock <ℤ s.start.0

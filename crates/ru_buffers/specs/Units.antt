@@ -1,4 +1,4 @@
--- What a radio unit keeps in fixed memory, and the histories for which it stands: it answers for the slots that are live (this
+-- What a radio unit keeps in fixed memory, and the histories that it stands for: it answers for the slots that are live (this
 -- project's profile).
 use Rattle.std.specs.Prelude.{◌≡◌, ℤ, pos, ◌<◌, ◌+ℤ◌, ◌-ℤ◌, ◌≤ℤ◌, true, All, List, [], ◌++◌, Some}
 use Rattle.std.specs.List.{list_any}
@@ -35,7 +35,7 @@ view_of m clock cursor = record {
   jobs = left_up_to m.cells cursor;
 }
 
--- a cursor does not stand behind a time
+-- a cursor is not after a time
 abbrev pub IsWithin : ℤ → JobCursor → Type 0
 IsWithin clock cursor = (m : SymbolStart) → cursor.last ≡ Some m → m.start.0 ≤ℤ clock
 
@@ -62,7 +62,7 @@ pub record RadioKeeps (c : Config) (m : UnitMemory) (clock : ℤ) (cursor : JobC
 abbrev pub IsReady : UnitMemory → ℤ → JobCursor → Type 0
 IsReady m clock cursor = left_up_to m.cells cursor (clock -ℤ pos 1) ≡ []
 
--- The unit stands for a history: it answers for the slots that are live as the definitions do over all that came.
+-- The unit stands for a history: it answers for the slots that are live as the definitions do over all that was received.
 pub record RadioStands (c : Config) (m : UnitMemory) (clock : ℤ) (cursor : JobCursor) (h : History) : Type 0 where
   pub answers : StandsBy (IsLiveAt c h.clock) c (view_of m clock cursor) h
   pub kept : RadioKeeps c m clock cursor h

@@ -1,4 +1,4 @@
-// What comes next in a unit's memory.
+// What is next in a unit's memory.
 ghost use Rattle.ru_buffers.specs.Calls.{IsNextMessage, IsNextSymbol};
 
 use fh_base::Ticks;

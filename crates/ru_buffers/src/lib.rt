@@ -2,8 +2,8 @@
 //!
 //! [`Ru`] takes all its memory when it is made. Frames are delivered at its clock; as the clock goes on, each downlink cell that is
 //! in use is reported once, at the start of its symbol, and each uplink message that accepted commands ask for is given once. The
-//! contracts of its calls say for which histories it stands (`specs/Units.antt`, `specs/Calls.antt`), by the definitions of
-//! `unit_model` over all that ever came: forgetting what can no longer be named changes no answer.
+//! contracts of its calls say which histories it stands for (`specs/Units.antt`, `specs/Calls.antt`), by the definitions of
+//! `unit_model` over all that was ever received: forgetting what can no longer be named changes no answer.
 //!
 //! Laws of what a radio unit keeps: its memory stands for a history after a command, after data, after a report of cells, after a
 //! message was given, and as its clock goes on.

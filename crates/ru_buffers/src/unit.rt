@@ -18,9 +18,9 @@ use window_config::Config;
 
 /// The radio unit of an open fronthaul, in memory that is taken when it is made.
 ///
-/// Its contracts say of each history for which it stands, for which it stands after a call. Of slots that are live at its clock it
-/// answers as the definitions do over all that ever came; what it keeps of other slots is never asked for again. The next symbol and
-/// the next message are kept: they are looked for after a report, after a message was given, and after a frame with a command.
+/// Its contracts say of each history that it stands for, which one it stands for after a call. Of slots that are live at its clock it
+/// answers as the definitions do over all that was ever received; what it keeps of other slots is never asked for again. The next
+/// symbol and the next message are kept: they are looked for after a report, after a message was given, and after a frame with a command.
 #[derive(Drop)]
 pub struct Ru {
     pub(crate) memory: UnitMemory,
@@ -40,7 +40,7 @@ impl Ru {
     ghost use Rattle.std.specs.Prelude.{◌++◌};
     ghost use Rattle.air_source.specs.declared.events.Side.TheVariants.{Ru as AtRu};
 
-    /// Takes all memory of the unit. Its clock stands one frame before 0.
+    /// Takes all memory of the unit. Its clock is one frame before 0.
     ///
     /// # Errors
     ///

@@ -21,7 +21,7 @@ pub enum Answer {
     NoEntry,
 }
 
-/// What comes of a line of the table.
+/// What results from a line of the table.
 pub fn answer_to(alloc: Global, case: &mut Case, line: &str) -> Result<Answer, NoMemory> {
     match read_entry(line) {
         Some(Entry::Remark) => return Ok(Answer::Text(String::from_str(alloc, line)?)),
@@ -88,7 +88,7 @@ fn bytes_of(alloc: Global, digits: &str) -> Result<Option<Vec<u8>>, NoMemory>
     }
 }
 
-/// The words of a run, which stand between blanks: each as it is, or behind a `=` as hexadecimal digits. None where one
+/// The words of a run, which are between blanks: each as it is, or after a `=` as hexadecimal digits. None where one
 /// is no such word.
 fn words_of(alloc: Global, text: &str) -> Result<Option<List<Bytes>>, NoMemory> {
     let mut words = List::new(alloc);

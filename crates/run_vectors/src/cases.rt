@@ -5,7 +5,7 @@ ghost use Rattle.run_vectors.specs.Inputs.{repeated, standing};
 use fh_base::{Bytes, NoMemory};
 use std::alloc::Global;
 
-/// The input of the next run, which a run leaves as it is: the first piece behind a run begins another.
+/// The input of the next run, which a run leaves as it is: the first piece after a run begins another.
 #[derive(Drop)]
 pub struct Case {
     input: Bytes,

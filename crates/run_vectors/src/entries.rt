@@ -52,7 +52,7 @@ pub enum Form {
     Digits,
 }
 
-/// The first word of a line, and what follows the blank behind it.
+/// The first word of a line, and what follows the blank after it.
 fn parted(line: &str) -> (&str, &str) {
     line.split_once(' ').unwrap_or((line, ""))
 }

@@ -50,7 +50,7 @@ fn a_sink_that_fails_keeps_a_front_part(rt: HostRuntime) -> Result<(), Fail> {
     Ok(())
 }
 
-// A verdict stands behind a whole text: a sink that fails in it is a fault of writing, whatever the verdict.
+// A verdict follows a complete text: a sink that fails in it is a fault of writing, whatever the verdict.
 #[test]
 fn a_verdict_needs_the_whole_text(rt: HostRuntime) -> Result<(), Fail> {
     let alloc = rt.alloc();

@@ -8,7 +8,7 @@ use crate::running::Ran;
 use sha2::{Digest, Sha256};
 use std::alloc::{AllocError, Global};
 
-/// How many bytes stand in a row of digits.
+/// How many bytes are in a row of digits.
 const ROW: usize = 32;
 
 /// A run's entry, its status, and what it wrote to both ends.

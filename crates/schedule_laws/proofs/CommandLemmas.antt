@@ -1,4 +1,4 @@
--- Commands that come within T12 are on time and name what their lines name; so each line's is accepted once.
+-- Commands that are received within T12 are on time and name what their lines name; so each line's is accepted once.
 use Rattle.std.proofs.Common.{◌≡◌, ℕ, ℤ, pos, neg_ℤ, ◌+◌, ◌*◌, ◌<◌, ◌≤◌, ◌+ℤ◌, ◌*ℤ◌, ◌-ℤ◌, ◌≤ℤ◌, ◌<ℤ◌, min, inl, inr, Bool, true, false, not, ◌&&◌, ◌==◌, List, [], ◌∷◌, map, refl, ap, ap₂, sym, ◌∙◌, subst, arith}
 use Rattle.std.specs.Prelude.{All}
 use Rattle.std.specs.Int.{int_rem_euclid}
@@ -77,7 +77,7 @@ late_enough s at most fast window h k = omega (arith, ints, h, k)
 soon_enough : (s at least slow window : ℤ) → (ticks_of_ns least -ℤ ticks_of_ns slow) ≤ℤ (s -ℤ at) → (window +ℤ slow) ≤ℤ least → ticks_of_ns window ≤ℤ (s -ℤ at)
 soon_enough s at least slow window h k = omega (arith, ints, h, k)
 
--- a copy of a frame that left in the window comes on time
+-- a copy of a frame that left in the window is received on time
 pub on_time : (sending awaited t12 : Range) (s at : ℤ) (wait : ℕ) → HasRoom sending awaited t12 → wait ≤ width_of sending
     → (((s +ℤ neg_ℤ (ticks_of_ns sending.max)) +ℤ pos wait) +ℤ ticks_of_ns t12.min) ≤ℤ at
     → at ≤ℤ (((s +ℤ neg_ℤ (ticks_of_ns sending.max)) +ℤ pos wait) +ℤ ticks_of_ns t12.max) → IsOnTime at at s awaited
@@ -89,7 +89,7 @@ on_time sending awaited t12 s at wait room few from to = record {
       (copy_from s (ticks_of_ns sending.max) (ticks_of_ns sending.min) (ticks_of_ns t12.min) at wait from) room.most;
 }
 
--- so it comes near to its frame
+-- so it is received near to its frame
 pub near_frame : (f s at least most : ℤ) → (f *ℤ FRAME) ≤ℤ s → s <ℤ (f *ℤ FRAME +ℤ pos 76800000000) → pos 0 ≤ℤ least → most ≤ℤ pos 4000000
     → (least *ℤ pos NANOSECOND) ≤ℤ (s -ℤ at) → (s -ℤ at) ≤ℤ (most *ℤ pos NANOSECOND)
     → ((at -ℤ HALF_CYCLE) ≤ℤ (f *ℤ FRAME)) × ((f *ℤ FRAME) <ℤ (at +ℤ HALF_CYCLE))
@@ -198,7 +198,8 @@ leaves UpData s c n sub = absurd s
 
 -- ---- all that arrives
 
--- what the commands need of the premise: each arrival is a copy of a frame that is sent, and of each command that is sent a copy came
+-- what the commands need of the premise: each arrival is a copy of a frame that is sent, and of each command that is sent a copy was
+-- received
 pub record CommandsArrive (c : Config) (lines : List PlanLine) (text : Texts) (arrivals : List Arrival) : Type 0 where
   pub config : IsConfig c
   pub lines_fit : All IsPlanLine lines
@@ -217,7 +218,7 @@ module _ (c : Config) (lines : List PlanLine) (text : Texts) (arrivals : List Ar
   limits : IsWithinLimits c.delays
   limits = h.config.delays
 
-  -- what is known of a command that came
+  -- what is known of a command that was received
   record Came (line : PlannedLine) (d : ControlSection) : Type 0 where
     there : IsIn line ps
     carries : IsCommandFor line d

@@ -35,7 +35,7 @@ fragments_piece c a earlier e x h = ap (λ (ms : List Meeting). fragments (onto 
 
 -- ---- all of them
 
--- a fragment that came is that of a copy
+-- a fragment that was received is that of a copy
 pub record HeardPiece (c : Config) (text : Texts) (frames : List SentFrame) (arrivals : List Arrival) (x : Fragment) : Type 0 where
   pub a : Arrival
   pub came : IsIn a arrivals
@@ -118,7 +118,7 @@ answers_there hold num (y ∷ later) earlier x = go ((y.ep == x.ep) && (number_o
     go true m = inr m
     go false m = m
 
--- one of them is that of a fragment behind others
+-- one of them is that of a fragment after others
 pub record IsAnswer (hold : ℤ) (num : Numbers) (ep j : ℕ) (all : List Fragment) (y : Answered) : Type 0 where
   pub later : List Fragment
   pub x : Fragment

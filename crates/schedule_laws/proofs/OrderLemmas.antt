@@ -1,4 +1,4 @@
--- The messages of a stream by their numbers: they stand in the order of their starts, each has one symbol and at most 16,384 bytes.
+-- The messages of a stream by their numbers: they are in the order of their starts, each has one symbol and at most 16,384 bytes.
 use Rattle.std.proofs.Common.{◌≡◌, ℕ, ℤ, zero, suc, ◌+◌, ◌≤◌, ◌≤ℤ◌, ◌⊎◌, inl, inr, Bool, true, false, if◌then◌else◌, List, [], ◌∷◌, length, Some, refl, ap, sym, ◌∙◌, subst, arith}
 use Rattle.std.specs.List.{slice_get}
 use Rattle.std.proofs.lemmas.Bool.{and_parts, and_from, eq-eqb}

@@ -1,4 +1,4 @@
--- The tests of lines by themselves, and those against earlier lines; lines that stand at endpoints of a list.
+-- The tests of lines by themselves, and those against earlier lines; lines that are at endpoints of a list.
 use Rattle.std.proofs.Common.{◌≡◌, ℕ, zero, suc, ◌+◌, ◌≤◌, Bool, true, false, if◌then◌else◌, List, [], ◌∷◌, ◌++◌, length, map, drop, append_assoc, Option, Some, None, Result, Ok, Err, refl, ap, ap₂, sym, ◌∙◌, arith, ◌<◌, get_or, subst}
 use Rattle.std.specs.Prelude.{slice_get, All}
 use Rattle.std.proofs.lemmas.List.{append-nil, drop_all}
@@ -26,7 +26,7 @@ use Rattle.std.proofs.lemmas.List.Elements.{recursion_from_All}
 use Rattle.fh_base.proofs.MemberLemmas.{all_in}
 use Rattle.unit_model.proofs.EndpointLemmas.{found_at}
 
--- a line that is refused by itself is refused whatever stands before it; else it goes by these
+-- a line that is refused by itself is refused whatever is before it; else it goes by these
 later_of : (k : ℕ) (w : Option PlanWhy) (x y : Option (ℕ × PlanWhy)) → or_else (refused_at k w x) y ≡ refused_at k w (or_else x y)
 later_of k None x y = refl
 later_of k (Some why) x y = refl

@@ -1,4 +1,4 @@
--- The lines of a plan at their endpoints, one after the other; those of a plan of which none is refused stand at their places.
+-- The lines of a plan at their endpoints, one after the other; those of a plan of which none is refused are at their places.
 use Rattle.std.proofs.Common.{◌≡◌, ℕ, ◌+◌, ◌≤◌, List, [], ◌∷◌, ◌++◌, length, drop, Option, Some, refl, ap, sym, ◌∙◌, append-nil, append_assoc, suc, map, inl, inr, None, ap₂, arith, zero-add}
 use Rattle.std.specs.List.{slice_get}
 use Rattle.std.specs.Option.{option_to_list, option_map}
@@ -23,7 +23,7 @@ use Rattle.fh_base.specs.Members.{IsIn}
 
 -- ---- one after the other
 
--- the lines so far, and those to come, are all
+-- the lines so far, and those to follow, are all
 abbrev pub Goes : List EndpointConfig → ℕ → List PlanLine → List PlannedLine → Type 0
 Goes es k lines so_far = so_far ++ planned_from es k (drop k lines) ≡ planned_from es 0 lines
 
@@ -118,11 +118,11 @@ line_place c lines valid p m =
 pub lines_kept : (c : Config) (lines : List PlanLine) → IsValid c lines → map (λ p. p.line) (planned c.endpoints lines) ≡ lines
 lines_kept c lines valid = kept c.endpoints [] 0 lines (none_first c lines valid)
 
--- the line of what stands there
+-- the line of what is there
 line_of_place : (ps : List PlannedLine) (k : ℕ) (o : Option PlannedLine) → slice_get ps k ≡ o → slice_get (map (λ (q : PlannedLine). q.line) ps) k ≡ option_map (λ (q : PlannedLine). q.line) o
 line_of_place ps k o at = slice_get-map (λ (q : PlannedLine). q.line) ps k ∙ ap (option_map (λ (q : PlannedLine). q.line)) at
 
--- what stands at a place of the lines
+-- what is at a place of the lines
 pub line_here : (c : Config) (lines : List PlanLine) (ps : List PlannedLine) (k : ℕ) (p : PlannedLine) → IsValid c lines → ps ≡ planned c.endpoints lines → slice_get ps k ≡ Some p → Some p.line ≡ slice_get lines k
 line_here c lines ps k p valid is at =
     sym (line_of_place ps k (Some p) at) ∙ ap (λ (qs : List PlannedLine). slice_get (map (λ (q : PlannedLine). q.line) qs) k) is ∙ ap (λ (ls : List PlanLine). slice_get ls k) (lines_kept c lines valid)

@@ -61,7 +61,7 @@ met_piece c a earlier e x h = ap (λ (ms : List Meeting). commands (onto (meetin
 
 -- ---- all of them
 
--- a command that came is that of a copy
+-- a command that was received is that of a copy
 pub record Heard (c : Config) (text : Texts) (frames : List SentFrame) (arrivals : List Arrival) (d : ControlSection) : Type 0 where
   pub a : Arrival
   pub came : IsIn a arrivals

@@ -34,7 +34,7 @@ slot_equal a b h =
     let same = exact_pairs int_cmp _ exact_signed (exact_pairs nat_cmp nat_cmp exact_unsigned exact_unsigned) (a.frame, (a.subframe, a.slot)) (b.frame, (b.subframe, b.slot)) h in
     same_slot_fields a b (ap (λ (x : ℤ × (ℕ × ℕ)). x.0) same) (ap (λ (x : ℤ × (ℕ × ℕ)). x.1.0) same) (ap (λ (x : ℤ × (ℕ × ℕ)). x.1.1) same)
 
--- neither comes first: they are of one slot
+-- neither is first: they are of one slot
 pub tie_is : (a b : Slot) → is_lt (slot_cmp a b) ≡ false → is_lt (slot_cmp b a) ≡ false → a ≡ b
 tie_is a b h g = slot_equal a b (go (slot_cmp a b) (slot_cmp b a) h g (slot_total.antisymm a b))
   where
@@ -47,12 +47,12 @@ tie_is a b h g = slot_equal a b (go (slot_cmp a b) (slot_cmp b a) h g (slot_tota
 
 -- ---- lines of one slot in front
 
--- a run, and the others behind it
+-- a run, and the others after it
 pub record IsRun (p : PlannedLine) (run others : List PlannedLine) : Type 0 where
   pub same : AllByRecursion (λ q. q.line.slot ≡ p.line.slot) run
   pub apart : (q : PlannedLine) → IsIn q others → q.line.slot ≡ p.line.slot → ⊥
 
--- what stands behind a line in order
+-- what is after a line in order
 behind_first : (p : PlannedLine) (xs : List PlannedLine) (others : List PlannedLine) → ArePlannedInOrder (p ∷ (xs ++ others)) → (q : PlannedLine) → IsIn q others → comes_first q p ≡ false
 behind_first p [] others h q m = all_in (λ q. comes_first q p ≡ false) others q h.0 m
 behind_first p (x ∷ xs) others h q m = behind_first p xs others (h.0.1, h.1.1) q m
@@ -154,7 +154,7 @@ least_of_run ps x p xs others eps slots =
 
 -- ---- the first slot of what is left
 
--- the first lines, all of one slot, and what is behind them
+-- the first lines, all of one slot, and what is after them
 pub record IsCut (lines run others : List PlannedLine) (p : PlannedLine) : Type 0 where
   pub run_is : IsRun p run others
   pub whole : run ++ others ≡ lines

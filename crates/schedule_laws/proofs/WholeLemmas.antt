@@ -294,7 +294,7 @@ module _ (c : Config) (lines : List PlanLine) (text : Texts) (blocks : Blocks) (
   room : HasRoom c.delays.t1a_up c.delays.t2a_up c.delays.t12
   room = record { order = h.config.delays.t1a_up.order; most = h.check.up_max; least = h.check.up_min }
 
-  -- a copy of the k-th frame of the message comes on time
+  -- a copy of the k-th frame of the message is received on time
   frame_on_time : (ep j k : ℕ) (a : IsHere ep j) (t : ℤ) → (flow_sent_at (flow ep) j k +ℤ b.fast) ≤ℤ t → t ≤ℤ (flow_sent_at (flow ep) j k +ℤ b.slow)
       → IsOnTime t t (start_of_part a.n.message.first) c.delays.t2a_up
   frame_on_time ep j k a t from to =

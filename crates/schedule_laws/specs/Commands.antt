@@ -21,7 +21,7 @@ use Rattle.fh_base.specs.Members.{IsIn}
 abbrev pub allocations_of : List PlannedLine → List Allocation
 allocations_of ps = map line_allocation ps
 
--- a command behind these carries one line, and is the first that names what the line names, and Accepted, or a further one and Repeat
+-- a command after these carries one line, and is the first that names what the line names, and Accepted, or a further one and Repeat
 pub record IsAnsweredOnce (delays : Delays) (ps : List PlannedLine) (d : ControlSection) (earlier : List ControlSection) : Type 0 where
   pub line : PlannedLine
   pub planned_is : IsIn line ps
@@ -30,15 +30,15 @@ pub record IsAnsweredOnce (delays : Delays) (ps : List PlannedLine) (d : Control
   pub first : ((x : ControlSection) → IsIn x earlier → named_by x ≢ line_allocation line) → command_verdict delays (accepted delays earlier) d ≡ Accepted
   pub further : (x : ControlSection) → IsIn x earlier → named_by x ≡ line_allocation line → command_verdict delays (accepted delays earlier) d ≡ Repeat
 
--- a command came for this line
+-- a command was received for this line
 pub record IsCommanded (p : PlannedLine) (cs : List ControlSection) : Type 0 where
   pub command : ControlSection
   pub came : IsIn command cs
   pub carries : IsCommandFor p command
   pub names : named_by command ≡ line_allocation p
 
--- Of the commands that came, the newest first, each is answered so; each line has one, and no two lines name the same; and what is
--- claimed is what the lines name, in each cell, also in those that no line names.
+-- Of the commands that were received, the newest first, each is answered so; each line has one, and no two lines name the same; and what
+-- is claimed is what the lines name, in each cell, also in those that no line names.
 pub record AreCommandedOnce (c : Config) (ps : List PlannedLine) (arrivals : List Arrival) : Type 0 where
   pub answers : (later earlier : List ControlSection) (d : ControlSection) → commands_of Ru c arrivals ≡ later ++ d ∷ earlier → IsAnsweredOnce c.delays ps d earlier
   pub every : (p : PlannedLine) → IsIn p ps → IsCommanded p (commands_of Ru c arrivals)

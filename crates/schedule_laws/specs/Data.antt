@@ -51,7 +51,7 @@ pub record IsDataFor (blocks : Blocks) (x : Part) (d : UserSection) : Type 0 whe
   pub samples : (n : ℕ) → is_from (first_prb (line_allocation x.planned)) (prb_count (line_allocation x.planned)) n ≡ true
       → slice_index_or d.blocks (n - first_prb (line_allocation x.planned)) [] ≡ blocks (cell_at x.planned.ep true x.planned.line.slot x.symbol n)
 
--- one section for each part, in this order, of a message whose first and last fragments came then
+-- one section for each part, in this order, of a message whose first and last fragments were received then
 abbrev pub AreSections : Blocks → ℤ → ℤ → List Part → List UserSection → Type 0
 AreSections blocks first last [] [] = ⊤
 AreSections blocks first last [] (d ∷ ds) = ⊥
@@ -83,7 +83,7 @@ planned_block blocks [] cell = None
 planned_block blocks (p ∷ ps) cell =
     if radiates_in p cell then Some (record { id = p.line.section; samples = blocks cell }) else planned_block blocks ps cell
 
--- a section came for a line in this symbol
+-- a section was received for a line in this symbol
 pub record IsDataSent (blocks : Blocks) (x : Part) (ds : List UserSection) : Type 0 where
   pub section : UserSection
   pub came : IsIn section ds

@@ -18,11 +18,11 @@ use Rattle.plan_model.specs.declared.lines.PlannedLine.{PlannedLine}
 use Rattle.schedule_laws.specs.Premise.{AllArrive, IsReadBy, Texts}
 use Rattle.fh_base.specs.Members.{IsIn}
 
--- the bytes of a frame, as it comes then
+-- the bytes of a frame, as it is received then
 abbrev pub least_arrival : (SentFrame → List ℕ) → SentFrame → ℤ → Arrival
 least_arrival bytes f at = record { at = at; frame = bytes f }
 
--- whenever a frame with these bytes comes, it is read as what the plan sends by it
+-- whenever a frame with these bytes is received, it is read as what the plan sends by it
 abbrev pub AreReadable : Config → List PlannedLine → Texts → (SentFrame → List ℕ) → Type 0
 AreReadable c ps text bytes =
     (f : SentFrame) → IsIn f (sent c ps) → (at : ℤ) → IsReadBy f.stream c text f (least_arrival bytes f at) (met_in Ru c.endpoints at (whole_messages (bytes f)))

@@ -72,7 +72,7 @@ IsReadBy UpCommands c text f a ms = IsReadAsCommand f a ms
 IsReadBy DownData c text f a ms = ms ≡ Piece f.endpoint (fragment_at c text f a.at) ∷ []
 IsReadBy UpData c text f a ms = ⊥
 
--- a copy of a frame that comes within T12 of its sending time
+-- a copy of a frame that is received within T12 of its sending time
 pub record IsCopyOf (c : Config) (text : Texts) (f : SentFrame) (a : Arrival) : Type 0 where
   pub from : (f.at +ℤ ticks_of_ns c.delays.t12.min) ≤ℤ a.at
   pub to : a.at ≤ℤ (f.at +ℤ ticks_of_ns c.delays.t12.max)
@@ -83,8 +83,8 @@ abbrev pub AreInOrder : List Arrival → Type 0
 AreInOrder [] = ⊤
 AreInOrder (a ∷ earlier) = ((b : Arrival) → IsIn b earlier → b.at ≤ℤ a.at) × AreInOrder earlier
 
--- A document's configuration and plan, and what came at its radio unit, the newest first: each arrival is a copy of a frame that is
--- sent, and of each frame that is sent a copy came.
+-- A document's configuration and plan, and what was received at its radio unit, the newest first: each arrival is a copy of a frame that
+-- is sent, and of each frame that is sent a copy was received.
 pub record AllArrive (c : Config) (lines : List PlanLine) (text : Texts) (arrivals : List Arrival) : Type 0 where
   pub config : IsConfig c
   pub lines_fit : All IsPlanLine lines

@@ -17,7 +17,7 @@ slot_cmp = then_cmp (on (λ s. s.frame) int_cmp) (then_cmp (on (λ s. s.subframe
 abbrev pub comes_first : PlannedLine → PlannedLine → Bool
 comes_first p q = is_lt (slot_cmp p.line.slot q.line.slot)
 
--- none comes behind one of a later slot
+-- none is after one of a later slot
 abbrev pub ArePlannedInOrder : List PlannedLine → Type 0
 ArePlannedInOrder = AreOrderedBy comes_first
 

@@ -31,7 +31,7 @@ why_judged earlier a =
     if repeats earlier a then Some Overlap
     else (if overlaps earlier a then Some Overlap else (if is_full earlier a then Some TooManySections else None))
 
--- the first of these, the first of which is number k, that is refused, where the earlier ones stand the newest first
+-- the first of these, the first of which is number k, that is refused, where the earlier ones are listed the newest first
 unfoldable pub refused_along : (List Allocation → Allocation → Option PlanWhy) → List Allocation → ℕ → List Allocation → Option (ℕ × PlanWhy)
 refused_along why earlier k [] = None
 refused_along why earlier k (a ∷ ls) = refused_at k (why earlier a) (refused_along why (a ∷ earlier) (k + 1) ls)
@@ -94,7 +94,7 @@ unfoldable pub least_along : List PlannedLine → Option (ℕ × PlanWhy) → Li
 least_along ps least [] = least
 least_along ps least (q ∷ qs) = least_along ps (lesser_refusal least (judged_in ps q)) qs
 
--- what lines name, the newest first, behind these
+-- what lines name, the newest first, after these
 abbrev pub behind : List Allocation → List PlannedLine → List Allocation
 behind earlier ps = onto earlier (map line_allocation ps)
 

@@ -77,7 +77,7 @@ pub record IsPart (c : Clock) (from : ℤ) (count : ℕ) (p : PartSymbol) : Type
   pub begun : from ≤ℤ p.start
   pub ended : p.start <ℤ (from +ℤ pos count)
 
--- one does not come after the other: by start, frame, subframe, slot and symbol
+-- one is not after the other: by start, frame, subframe, slot and symbol
 abbrev pub Precedes : PartSymbol → PartSymbol → Type 0
 Precedes p q = (p.start <ℤ q.start) ⊎ ((p.start ≡ q.start) × ((p.frame <ℤ q.frame) ⊎ ((p.frame ≡ q.frame)
     × ((p.subframe < q.subframe) ⊎ ((p.subframe ≡ q.subframe) × ((p.slot < q.slot) ⊎ ((p.slot ≡ q.slot) × (p.symbol ≤ q.symbol))))))))

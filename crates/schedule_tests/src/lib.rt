@@ -1,11 +1,11 @@
 //! Tests of the distributed unit's schedule: worked plans, whose frames and times are worked out by hand from the layout tables and the
 //! windows, by the public calls of `du_scheduler`; and tests of the crates below it that the schedule is made of.
 //!
-//! They stand beside these crates, so that these are proved without them. `steps` makes plans and compares what they give.
+//! They are beside these crates, so that these are proved without them. `steps` makes plans and compares what they give.
 //!
 //! Tests of the radio unit's uplink frames, by the public calls of `uplink_path`.
 //!
-//! They stand beside this crate, which is proved without them. `samples` makes what the tests need, and `steps` calls the unit and
+//! They are beside this crate, which is proved without them. `samples` makes what the tests need, and `steps` calls the unit and
 //! what sends its frames, and keeps what the calls require.
 #![tactic(auto)]
 

@@ -97,7 +97,7 @@ fn sent_in_turn(alloc: Global, config: &Config) -> Result<MemoryLink, NoMemory>
     Ok(link)
 }
 
-/// After sequence id 255 comes 0; each symbol begins its own gaps.
+/// Sequence id 0 follows 255; each symbol begins its own gaps.
 #[test]
 fn sequence_ids_wrap(rt: HostRuntime) -> Result<(), Fail> {
     let n = Numerology::ordinary(1).expect(&rt, "30 kHz");

@@ -11,7 +11,7 @@ const ALL_PRBS: [u8; 32] = [
     0x00, 0x50, 0x05, 0x00, 0xff, 0x01, 0x00, 0x00, 0x00, 0x50, 0x00, 0x01, 0x00, 0xf1, 0x00, 0x00,
 ];
 
-/// A section of all PRBs stands by the startPrbc that it carries, and its data carry it too.
+/// A section of all PRBs is ordered by the startPrbc that it carries, and its data carry it too.
 #[test]
 fn all_prbs_stand_by_their_first(rt: HostRuntime) -> Result<(), Fail> {
     let n = Numerology::ordinary(1).expect(&rt, "30 kHz");

@@ -1,4 +1,4 @@
-// The order of frames. At 30 kHz symbol 1 starts 1,112 Ts behind symbol 0, which are 55,600,000 ticks; a gap of 60,000 ns has
+// The order of frames. At 30 kHz symbol 1 starts 1,112 Ts after symbol 0, which are 55,600,000 ticks; a gap of 60,000 ns has
 // 92,160,000 ticks, one of 100,000 ns 153,600,000, and 111,000 ns, the width of T1a, 170,496,000.
 use crate::steps::{
     all_given, at_id, checked, command, config, data, endpoint, in_subframe, is_over, line,
@@ -176,7 +176,7 @@ fn a_message_carries_two_sections(rt: HostRuntime) -> Result<(), Fail> {
     Ok(())
 }
 
-/// At one time endpoints stand in the order of the document, and an endpoint's downlink command before its uplink one.
+/// At one time endpoints are in the order of the document, and an endpoint's downlink command before its uplink one.
 #[test]
 fn what_leaves_together_is_in_order(rt: HostRuntime) -> Result<(), Fail> {
     let n = Numerology::ordinary(1).expect(&rt, "30 kHz");
@@ -234,7 +234,7 @@ fn what_leaves_together_is_in_order(rt: HostRuntime) -> Result<(), Fail> {
     Ok(())
 }
 
-/// An offset endpoint at 15 kHz: with cpLength 512 a symbol has 2,560 Ts, and symbol 12 starts a millisecond behind symbol 0, with the
+/// An offset endpoint at 15 kHz: with cpLength 512 a symbol has 2,560 Ts, and symbol 12 starts a millisecond after symbol 0, with the
 /// next slot's. Their frames leave together, those of the earlier slot first; no gap lies between them.
 #[test]
 fn slots_overlap(rt: HostRuntime) -> Result<(), Fail> {

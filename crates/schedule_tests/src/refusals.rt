@@ -49,7 +49,7 @@ fn holding(e: EndpointConfig, widths: Widths, hold_dl: i64, pack: usize) -> Conf
     with_delays(config(e, widths, 1_000, 1_492, pack), held(hold_dl))
 }
 
-/// The same with a gap of 2 ms and no time in the network: what is behind a symbol's first frame leaves at the window's end.
+/// The same with a gap of 2 ms and no time in the network: what is after a symbol's first frame leaves at the window's end.
 fn slow(e: EndpointConfig, widths: Widths, hold_dl: i64) -> Config
     requires endpoint { IsEndpoint e }
     requires hold { IsTime hold_dl }
@@ -198,7 +198,7 @@ fn lines_are_tested_one_after_the_other(rt: HostRuntime) -> Result<(), Fail> {
         refused(1, PlanWhy::Overlap)
     );
     assert_eq!(rt; both(alloc, &c, one(0xfff, 1), up), Ok(()));
-    // 30 kHz has the slots 0 and 1; an unknown id is named before it, and behind a line that overlaps
+    // 30 kHz has the slots 0 and 1; an unknown id is named before it, and after a line that overlaps
     let slot_2 = in_slot(one(0xfff, 1), 2);
     let unknown = at_id(slot_2, 1);
     assert_eq!(rt;
@@ -237,7 +237,7 @@ fn messages_are_dense_at_an_edge(rt: HostRuntime) -> Result<(), Fail> {
     let widths = Widths::new(4, 4, 4, 4).expect(&rt, "16 bits");
     let alloc = rt.alloc();
     let lines = nineteen(alloc)?;
-    // symbols of 68,750 ns: message 256, the tenth of symbol 13, leaves 902,750 ns behind message 0
+    // symbols of 68,750 ns: message 256, the tenth of symbol 13, leaves 902,750 ns after message 0
     let offset = Numerology::offset(0, 0, 64).expect(&rt, "15 kHz");
     let e = endpoint(offset);
     assert_eq!(rt;
@@ -317,7 +317,7 @@ fn messages_are_numbered_symbol_by_symbol(rt: HostRuntime) -> Result<(), Fail> {
     let e = endpoint(n);
     let apart = holding(e, widths, 373_322, 1);
     let near = holding(e, widths, 373_323, 1);
-    // message 256 is the tenth of symbol 13, whose lines stand first
+    // message 256 is the tenth of symbol 13, whose lines are first
     let lines = backwards(alloc)?;
     assert_eq!(rt; tested(alloc, &apart, &lines), Ok(()));
     assert_eq!(rt;

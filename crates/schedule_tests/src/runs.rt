@@ -52,7 +52,7 @@ fn run(at: i64, last: i64, number: u32, left: u8) -> Run {
 
 #[test]
 fn parts_are_cut(rt: HostRuntime) -> Result<(), NoMemory> {
-    // Fragments of 1,000 bytes, 60 ticks apart and at most 111 behind the first, which leaves 300 before its symbol.
+    // Fragments of 1,000 bytes, 60 ticks apart and at most 111 after the first, which leaves 300 before its symbol.
     let limits = Limits {
         endpoint: 3,
         stream: Stream::DownData,
@@ -124,7 +124,7 @@ fn messages_take_turns(rt: HostRuntime) -> Result<(), NoMemory> {
         last: Ticks(146),
         left: 1,
     });
-    // Three frames whose last ones come at the end of the window, and an uplink command there.
+    // Three frames whose last ones are at the end of the window, and an uplink command there.
     queue.add(Run {
         turn: turn(Ticks(60), 1, Stream::DownData, 7, 0),
         last: Ticks(111),

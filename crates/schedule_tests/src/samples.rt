@@ -66,7 +66,7 @@ fn delays(most: i64) -> Delays
     }
 }
 
-/// A configuration of one endpoint, with this gap between frames, up to this time behind a symbol, and so many sections in a message.
+/// A configuration of one endpoint, with this gap between frames, up to this time after a symbol, and so many sections in a message.
 pub(crate) fn config_of(
     endpoint: EndpointConfig,
     widths: Widths,

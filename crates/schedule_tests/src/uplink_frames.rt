@@ -19,7 +19,7 @@ pub(crate) const FIRST: Ticks = Ticks(14_745_600_000);
 
 pub(crate) const START: Ticks = Ticks(15_360_000_000);
 
-/// What a unit to which a command came at a time sends at a later one, where element k answers (k, -k); it sends no more at that time.
+/// What a unit that received a command at a time sends at a later one, where element k answers (k, -k); it sends no more at that time.
 pub(crate) fn sent(
     alloc: Global,
     config: &Config,
@@ -120,7 +120,7 @@ fn messages_go_by_prb(rt: HostRuntime) -> Result<(), Fail> {
     Ok(())
 }
 
-/// Two messages of two frames: 50, 110, 161 and 161 us behind their symbol's start, the gap being 60 us and Ta3 up to 161 us.
+/// Two messages of two frames: 50, 110, 161 and 161 us after their symbol's start, the gap being 60 us and Ta3 up to 161 us.
 #[test]
 fn frames_of_a_symbol_keep_a_gap(rt: HostRuntime) -> Result<(), Fail> {
     let n = Numerology::ordinary(1).expect(&rt, "30 kHz");
@@ -166,7 +166,7 @@ const TWO_FILTERS: [u8; 56] = [
     0x00, 0x70, 0x01, 0x01, 0xff, 0xf1, 0x00, 0x00,
 ];
 
-/// A message has one filterIndex: of three sections of a symbol the last stands alone.
+/// A message has one filterIndex: of three sections of a symbol the last is alone.
 #[test]
 fn a_message_has_one_filter(rt: HostRuntime) -> Result<(), Fail> {
     let n = Numerology::ordinary(1).expect(&rt, "30 kHz");
@@ -193,7 +193,7 @@ const BEFORE_0: [u8; 24] = [
     0x00, 0x50, 0x00, 0x01, 0xff, 0xf1, 0x00, 0x00,
 ];
 
-/// frameId is 255 in frame -1, whose subframe 5 begins 5 ms before 0; the command comes 400 us before that.
+/// frameId is 255 in frame -1, whose subframe 5 begins 5 ms before 0; the command is received 400 us before that.
 #[test]
 fn a_frame_before_0(rt: HostRuntime) -> Result<(), Fail> {
     let n = Numerology::ordinary(1).expect(&rt, "30 kHz");

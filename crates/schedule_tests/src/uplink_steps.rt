@@ -20,7 +20,7 @@ use window_config::Config;
 /// No time is further from 0.
 const MOST: i64 = 9_007_199_254_740_992;
 
-/// A unit that nothing came to.
+/// A unit that received nothing.
 pub(crate) fn made(alloc: Global, config: &Config) -> Result<Ru, NoMemory>
     requires { IsConfig config.now }
     ensures { IfOk result (λ u. IsUnitOf config.now u) }
@@ -69,7 +69,7 @@ fn may_be_next(config: &Config, unit: &Ru, to: Ticks) -> bool
     clock.0 <= to.0 && -MOST <= to.0 && to.0 <= MOST
 }
 
-/// Whether a time comes by another.
+/// Whether a time is no later than another.
 fn is_by(a: Ticks, b: Ticks) -> bool
     ensures { result ≡ true → a.0 ≤ℤ b.0 }
 {
@@ -105,7 +105,7 @@ pub(crate) fn step(
     unit.advance(to, air)
 }
 
-/// A unit to which a frame came at a time, at the next time.
+/// A unit that received a frame at a time, at the next time.
 pub(crate) fn commanded(
     alloc: Global,
     config: &Config,

@@ -95,7 +95,7 @@ module _ (c : Config) (lines : List PlanLine) (config : IsConfig c) (fit : All I
   unfolding messages_of
   got_number ep e k n h = number_is part_fields (frames_in c DownData) (packs part_fields c.pack (parts_in ps DownData ep e)) k n h
 
-  -- a message stands at its number
+  -- a message is at its number
   pub got_message : (ep : ℕ) (e : EndpointConfig) (n : Numbered Part) → IsAt c.endpoints ep e → IsIn n (messages_of c ps DownData ep e) → slice_get (messages_at c ps ep) n.number ≡ Some n
   got_message ep e n at m =
       let w = get_in n (messages_of c ps DownData ep e) m in

@@ -45,7 +45,7 @@ last_is : (ms : List Mixed) (m e : Mixed) → get_or (ms ++ m ∷ []) (length ms
 last_is [] m e = refl
 last_is (x ∷ xs) m e = last_is xs m e
 
--- a combined cell of a new place comes to the end
+-- a combined cell of a new place is added at the end
 pub apart_pushed : (ms : List Mixed) (m : Mixed) → AreApart ms → index_of (place_in m) ms ≡ None → AreApart (ms ++ m ∷ [])
 apart_pushed ms m apart new j e within = elim (cases_eq j (length ms)) [
   | inl same ↦

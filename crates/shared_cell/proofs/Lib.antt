@@ -1,5 +1,5 @@
 pub mod Same
-mod Found
+pub mod Found
 mod Apart
 mod Bounds
 mod Finders

@@ -27,7 +27,7 @@ at_same q c x h = sym (ap (is_same q) (same_is (place_of c) (place_of x) h))
 
 -- ---- the firsts of their places
 
--- the list with a cell behind it, where no other is at its place
+-- the list with a cell after it, where no other is at its place
 abbrev put_first : AirCell → List AirCell → List AirCell
 put_first c [] = c ∷ []
 put_first c (x ∷ xs) = cond (is_at (place_of c) x) (x ∷ xs) (x ∷ put_first c xs)

@@ -63,7 +63,7 @@ pub record AgreeIn (c d : AirCell) : Type 0 where
   pub section : c.section ≡ d.section
   pub mask : c.mask ≡ d.mask
 
--- the cell may be added behind these: it is the distributed unit's, fewer than 8 have its place, and it agrees with them
+-- the cell may be added after these: it is the distributed unit's, fewer than 8 have its place, and it agrees with them
 pub record Follows (cells : List AirCell) (c : AirCell) : Type 0 where
   pub side : c.side ≡ Du
   pub room : count_by (is_at (place_of c)) cells < 8

@@ -11,13 +11,13 @@ use fh_base::NoMemory;
 use std::alloc::Global;
 use std::collections::BTreeMap;
 
-/// Finds combined cells by their places. As long as places come in their order, each one is beyond the greatest so far, so it is new
+/// Finds combined cells by their places. As long as places are given in their order, each one is beyond the greatest so far, so it is new
 /// and nothing is kept of it; a map is filled at the first place that is not.
 #[derive(Drop)]
 pub struct Finder {
     // the greatest place of all combined cells
     greatest: Option<CellPlace>,
-    // where each of the first `mapped` combined cells stands
+    // where each of the first `mapped` combined cells is
     map: BTreeMap<CellPlace, usize>,
     mapped: usize,
 }
@@ -49,7 +49,7 @@ impl Finder {
         }
     }
 
-    /// Says that a combined cell of a new place comes to the end.
+    /// Says that a combined cell of a new place is added at the end.
     pub fn add(&mut self, place: CellPlace)
         ensures { (ms : List Mixed) (m : Mixed) → Finds self.old ms → place_in m ≡ place → index_of place ms ≡ None → Finds self.new (ms ++ m ∷ []) }
     {

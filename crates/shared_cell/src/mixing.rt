@@ -14,8 +14,8 @@ use fh_base::NoMemory;
 use std::alloc::Global;
 use std::marker::Model;
 
-/// Adds up the cells of units that share a cell. Contracts see the list of its combined cells, and say by `Stands` for which
-/// cells it stands, in the order in which they were added.
+/// Adds up the cells of units that share a cell. Contracts see the list of its combined cells, and say by `Stands` which
+/// cells it stands for, in the order in which they were added.
 #[derive(Drop)]
 pub struct Mixer {
     mixed: Vec<Mixed>,
@@ -54,7 +54,7 @@ impl Mixer {
     /// Adds a unit's cell: one of the distributed unit. At most 8 cells have the same place (endpoint, slot, symbol and
     /// PRB), and cells of one place have the same time, section and mask.
     ///
-    /// After `NoMemory` all is as before. It comes only at the first cell of a place.
+    /// After `NoMemory` all is as before. It occurs only at the first cell of a place.
     pub fn add(&mut self, c: &AirCell) -> Result<(), NoMemory>
         requires { MayAdd self.old c.now }
         ensures ok { OnOk result ((cells : List AirCell) → Stands self.old cells → Stands self.new (cells ++ c.now ∷ [])) }
@@ -67,7 +67,7 @@ impl Mixer {
     /// Adds a cell where [`add`](Mixer::add) may be called, and changes nothing where it is the radio unit's, where 8 units have samples
     /// at its place, or where its time, section or mask is not that of its place.
     ///
-    /// After `NoMemory` all is as before. It comes only at the first cell of a place.
+    /// After `NoMemory` all is as before. It occurs only at the first cell of a place.
     pub fn try_add(&mut self, c: &AirCell) -> Result<(), NoMemory>
         ensures ok { OnOk result (self.new ≡ taken c.now self.old) }
         ensures follows { (cells : List AirCell) → Stands self.old cells → Follows cells c.now → OnOk result (Stands self.new (cells ++ c.now ∷ [])) }

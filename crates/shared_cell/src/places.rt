@@ -1,11 +1,11 @@
-// Where cells stand.
+// Where cells are.
 ghost use Rattle.std.specs.Prelude.{◌≡◌};
 ghost use Rattle.shared_cell.specs.Places.{is_mixed_at, place_in, place_of};
 
 use crate::Mixed;
 use air_source::AirCell;
 
-/// Where a cell stands: a slot, a symbol, an endpoint and a PRB. Of endpoints of one numerology whose ids rise, a unit reports its
+/// Where a cell is: a slot, a symbol, an endpoint and a PRB. Of endpoints of one numerology whose ids rise, a unit reports its
 /// cells in this order.
 #[derive(Clone, Copy, Debug, PartialEq, Eq, PartialOrd, Ord)]
 pub struct CellPlace {
@@ -45,7 +45,7 @@ pub fn place_in(mixed: &Mixed) -> CellPlace
     }
 }
 
-/// Whether a combined cell stands at a place.
+/// Whether a combined cell is at a place.
 pub fn is_at(mixed: &Mixed, place: &CellPlace) -> bool
     ensures { result ≡ is_mixed_at place.now mixed.now }
 {

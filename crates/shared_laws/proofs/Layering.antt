@@ -34,7 +34,7 @@ pub still_there : (o : Option (List Wide)) (m : Mixed) → place_in (joined_bloc
 still_there None m = refl
 still_there (Some b) m = refl
 
--- none of these cells stands at the combined cell's place
+-- none of these cells is at the combined cell's place
 abbrev NoneAt : List AirCell → Mixed → Type 0
 NoneAt cells m = AllByRecursion (λ c. is_mixed_at (place_of c) m ≡ false) cells
 
@@ -45,7 +45,7 @@ passes (c ∷ cells) m ms h =
     ap (added_all cells) (ap (λ (b : Bool). let xs : List Mixed = if b then joined c m ∷ ms else m ∷ added c ms in xs) h.0)
     ∙ passes cells m (added c ms) h.1
 
--- the combined cells stand at these cells' places
+-- the combined cells are at these cells' places
 abbrev StandAt : List AirCell → List Mixed → Type 0
 StandAt cells ms = map place_in ms ≡ map place_of cells
 

@@ -13,7 +13,7 @@ use Rattle.unit_model.specs.declared.cells.Claim.{Claim}
 abbrev pub bare : AirCell → AirCell
 bare c = record { side = c.side; at = c.at; id = c.id; slot = c.slot; symbol = c.symbol; prb = c.prb; section = c.section; mask = c.mask; block = None }
 
--- which cells a unit reports, in which order, and all but their samples, is told by the claims alone, whatever data came
+-- which cells a unit reports, in which order, and all but their samples, is told by the claims alone, whatever data were received
 abbrev pub PlacesAreOfClaims : Type 0
 PlacesAreOfClaims =
     (side : Side) (d : Delays) (es : List EndpointConfig) (claims : Cell → ℕ → Option Claim) (blocks others : Cell → Option Block) (to : ℤ)

@@ -77,7 +77,7 @@ blank_reported old new from count k here others claims blank = blank_flag (get_o
       (λ none. here (k - from) (omega (arith, low, from_high from count k inside)) ∙ ap (λ (m : CellClaims). m.reported || is_in_use (claim_in m)) none ∙ never_used) blank
 ])
 
--- a PRB behind the first so many is none of them
+-- a PRB after the first so many is none of them
 pub prb_behind : (count n : ℕ) → count ≤ n → is_from 0 count n ≡ false
 prb_behind count n h = grind (arith, nat_tests)
 

@@ -33,7 +33,7 @@ written_before prbs symbol k count spans is out written within = elim (cases_eq 
       absurd (both_ways (is_from (symbol * prbs + span.first) count k) (is_in (symbol * prbs + span.first) count k (omega (arith, at, row, parts.0)) (omega (arith, at, row, parts, is))) out)
 ]
 
--- behind the last symbol none is
+-- after the last symbol none is
 pub written_within : (prbs k : ℕ) (spans : List Span) → is_written prbs spans k ≡ true → k / prbs < length spans
 written_within prbs k spans written = elim (cases_lt (k / prbs) (length spans)) [
   | inl within ↦ within

@@ -1,5 +1,5 @@
--- The blocks of a slot's cells. They stand in the order in which they came; each cell has the number of its block, 1 for the first, or 0
--- where it has none: this project's means.
+-- The blocks of a slot's cells. They are in the order in which they were received; each cell has the number of its block, 1 for the
+-- first, or 0 where it has none: this project's means.
 use Rattle.std.specs.Prelude.{◌≡◌, ℕ, zero, suc, ◌<◌, ◌≤◌, ◌^◌, List, [], ◌∷◌, length, map, get_or, slice_get, Option, None}
 use Rattle.unit_model.specs.declared.cells.Block.{Block}
 use Rattle.slot_rings.specs.declared.blocks.LentBlocks.{LentBlocks}

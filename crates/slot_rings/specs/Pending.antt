@@ -8,7 +8,7 @@ use Rattle.slot_rings.specs.Rings.{RingValue}
 abbrev pub due_in : ℕ → PlaceValue → ℕ → Bool
 due_in prbs p symbol = some 0 prbs (λ n. is_due (claim_in (get_or p.down (cell_number prbs symbol 0 + n) no_claims)) (is_reported p.down (cell_number prbs symbol 0 + n)))
 
--- the flag of a symbol of the place with an index: one that stands nowhere is as set
+-- the flag of a symbol of the place with an index: one that is not listed is as set
 abbrev pub flag_at : List (List Bool) → ℕ → ℕ → Bool
 flag_at flags i symbol = get_or (get_or flags i []) symbol true
 

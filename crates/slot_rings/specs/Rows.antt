@@ -49,11 +49,11 @@ row_at rows symbol = if nat_lt symbol SLOT_SYMBOLS then get_or rows symbol empty
 pub record AreRows (prbs : ℕ) (claims : List CellClaims) (rows : List Row) : Type 0 where
   pub each : (symbol : ℕ) → IsRow prbs claims symbol (row_at rows symbol)
 
--- the ids of a cell, where those of a run came to what stood there
+-- the ids of a cell, where those of a run were added to what was there
 abbrev pub id_with : Run → ℕ → ℕ → Option ℕ → Option ℕ
 id_with more n re old = if is_from more.first more.count n && in_mask more.claimed re then Some more.id else old
 
--- what is known of a symbol after the claims of a run came to it
+-- what is known of a symbol after the claims of a run were added to it
 abbrev pub Grows : Run → Row → Row → Type 0
 Grows more (Known old) (Known new) = (n re : ℕ) → re < 12 → claim_id (claim_in (row_claims new n) re) ≡ id_with more n re (claim_id (claim_in (row_claims old n) re))
 Grows more Mixed (Known new) = ⊥

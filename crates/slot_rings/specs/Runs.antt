@@ -1,4 +1,4 @@
--- PRBs that are packed one behind the other (O-RAN.WG4.CUS, U-plane section: the PRBs stand without gaps), and their cells.
+-- PRBs that are packed one after the other (O-RAN.WG4.CUS, U-plane section: the PRBs are without gaps), and their cells.
 use Rattle.std.specs.Prelude.{ℕ, zero, suc, List, [], ◌∷◌, take, drop, get_or}
 use Rattle.bfp_codec.specs.declared.methods.Method.{Method}
 use Rattle.bfp_codec.specs.declared.samples.Wide.{Wide}

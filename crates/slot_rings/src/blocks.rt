@@ -18,9 +18,9 @@ use unit_model::Block;
 #[derive(Clone, Copy)]
 pub struct LentBlocks<'a> {
     /// Of each cell the number of its block, 1 for the first of the list, and 0 where it has none. Where they end, the cells
-    /// behind have none.
+    /// after them have none.
     pub numbers: &'a [u16],
-    /// The blocks, in the order in which they came.
+    /// The blocks, in the order in which they were received.
     pub list: &'a [Block],
 }
 
@@ -100,8 +100,8 @@ fn push_packed(list: &mut Vec<Block>, id: u16, method: Method, packed: &[u8])
     unpack_into(method, packed, &mut list[last].samples);
 }
 
-/// The blocks of the cells of a slot. Its memory is taken when it is made, for a block of each cell. A block is kept behind those
-/// that came before it, so what is written is as much as came.
+/// The blocks of the cells of a slot. Its memory is taken when it is made, for a block of each cell. A block is kept after those
+/// that were received before it, so as much is written as was received.
 #[derive(Drop)]
 pub(crate) struct Blocks {
     // for so many there is room

@@ -1,4 +1,4 @@
-//! The memory of one endpoint of a radio unit: what sections claim of the cells of its slots, the blocks that came for
+//! The memory of one endpoint of a radio unit: what sections claim of the cells of its slots, the blocks that were received for
 //! them, which cells were reported, and the accepted uplink sections.
 //!
 //! A `SlotRing` takes all its memory when it is made, and no other call asks for any. It is a ring of places, each that of

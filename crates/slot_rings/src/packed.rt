@@ -1,10 +1,10 @@
-// Packed PRBs, as they stand in a message.
+// Packed PRBs, as they are in a message.
 ghost use Rattle.std.specs.Prelude.{◌≡◌, ◌*◌, ◌<◌, length, take, drop};
 ghost use Rattle.bfp_codec.specs.Layout.{HasWidth, length_of};
 
 use bfp_codec::{Method, block_len};
 
-/// Packed PRBs of a section, one behind the other.
+/// Packed PRBs of a section, one after the other.
 #[derive(Clone, Copy)]
 pub struct PackedRun<'a> {
     /// The section's id.

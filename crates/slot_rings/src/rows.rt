@@ -114,7 +114,7 @@ impl Run {
         self.meets(first, count) && self.claims().clashes(id, mask)
     }
 
-    /// One run of two with the same claims, where they stand side by side.
+    /// One run of two with the same claims, where they are side by side.
     fn joined(self, more: Run) -> Row
         requires id { more.id ≡ self.id }
         requires claimed { more.claimed ≡ self.claimed }

@@ -11,7 +11,7 @@ use unit_model::Block;
 /// What a report needs of a downlink cell besides its block.
 #[derive(Clone, Copy, Debug, PartialEq, Eq)]
 pub struct Use {
-    /// The elements in use: claimed, and not as idle. Element 0 stands in the most significant of 12 bits.
+    /// The elements in use: claimed, and not as idle. Element 0 is in the most significant of 12 bits.
     pub mask: u16,
     /// The section id of its claims, 0 where it has none.
     pub section: u16,
@@ -20,12 +20,12 @@ pub struct Use {
 }
 
 /// The downlink cells of a slot from the first one of a symbol on, as its place keeps them. Where a list ends, nothing is known of
-/// the cells behind.
+/// the cells after it.
 #[derive(Clone, Copy)]
 pub struct SymbolCells<'a> {
     /// What is claimed of them, and which were reported.
     pub claims: &'a [CellClaims],
-    /// The blocks that came for them.
+    /// The blocks that were received for them.
     pub blocks: LentBlocks<'a>,
     /// The PRBs of the symbol outside of which no cell is in use.
     pub span: Span,

@@ -45,7 +45,7 @@ fn all_agree(cells: &[AirCell], c: &AirCell) -> bool
     true
 }
 
-// The cell may be added behind these.
+// The cell may be added after these.
 fn follows(cells: &[AirCell], c: &AirCell) -> bool
     ensures { IsTrue result → Follows cells.now c.now }
 {

@@ -1,7 +1,7 @@
 //! Tests of documents, airs, pictures and neighbours, by the public calls of other crates, which are proved without them.
 //!
-//! Tests of what [`fh_document`] says of the documents that it reads. They stand beside it, so that the library is proved
-//! without them. What it refuses stands in the table of `run_vectors`.
+//! Tests of what [`fh_document`] says of the documents that it reads. They are beside it, so that the library is proved
+//! without them. What it refuses is in the table of `run_vectors`.
 //!
 //! Tests of airs and of what they write, by the public calls of `air_source` and `report_airs`, which are proved without them.
 //!
@@ -10,7 +10,7 @@
 //!
 //! Tests of pictures: worked ones, texts that are refused, and sinks that fail.
 //!
-//! They stand beside `grid_picture` and `window_picture`, so that these are proved without them.
+//! They are beside `grid_picture` and `window_picture`, so that these are proved without them.
 //!
 //! Tests of the neighbours by the public calls of `shared_cell`, `idle_spans` and `window_plan`, which are proved without them.
 //!

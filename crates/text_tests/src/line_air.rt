@@ -1,4 +1,4 @@
-// An air that writes a line for each event to a sink that it borrows, one line behind, which shows that
+// An air that writes a line for each event to a sink that it borrows, with a lag of one line, which shows that
 // the form of airs with a state closes.
 ghost use Rattle.std.specs.Prelude.{◌≡◌, [], ◌∷◌, ◌++◌, false, map, not, if◌then◌else◌, refl, OnOk, OnErr};
 ghost use Rattle.std.proofs.Common.{◌∙◌};

@@ -1,4 +1,4 @@
-// What the configuration lines set, and what holds where none stands.
+// What the configuration lines set, and what holds where none is given.
 use air_source::Side;
 use bfp_codec::{Format, Method};
 use fh_base::Numerology;

@@ -131,7 +131,7 @@ fn without_a_mark_all_symbols_are_one_span(rt: HostRuntime) -> Result<(), Fail> 
     assert_eq!(rt; one.next(0, None, 280), whole);
     assert_eq!(rt; one.next(0, None, 281), None);
     assert_eq!(rt; next_after(&one, 1, 0), None);
-    // places of frames before and behind
+    // places of frames before and after
     assert_eq!(rt; next_after(&one, 0, 9), whole);
     assert_eq!(rt; next_after(&one, 2, 0), None);
     let n = Numerology::ordinary(1).expect(&rt, "30 kHz");

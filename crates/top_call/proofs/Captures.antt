@@ -26,7 +26,7 @@ refuses place why old new before now same still = record {
   faults = still;
 }
 
--- a refusal came, and so no other answer
+-- a refusal was given, and so no other answer
 abbrev Refuses : CaptureRefusal → Result (Unit {0}) ShowFault → Option (List ℕ) → Option (List ℕ) → Type 0
 Refuses r result old new = (result ≡ Err (show.BadCapture r.place r.why)) × (new ≡ old)
 

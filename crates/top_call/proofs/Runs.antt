@@ -197,7 +197,7 @@ made words command left s old new before now status is none p few =
 
 -- ---- a command that read all
 
--- what came is all that was left, where the source is at its end
+-- what was received is all that was left, where the source is at its end
 front_read : (came : List ℕ) (left_old left_new old new : Option (List ℕ)) (command : Command) → left_old ≡ prepend_known came left_new → IsAtEnd left_new
     → WritesFront old new (answer_of command came).text → IfSome left_old (λ bytes. WritesFront old new (answer_of command bytes).text)
 front_read came left_old left_new old new command taken ended front =

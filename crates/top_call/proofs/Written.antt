@@ -1,4 +1,4 @@
--- A whole text that was to be written, and the status behind it.
+-- A complete text that was to be written, and the status after it.
 use Rattle.std.proofs.Common.{◌≡◌, ◌∙◌, ℕ, List, Option, Result, Ok, Err, OnOk, OnErr, false, refl, ap, sym, subst}
 use Rattle.std.specs.Io.KnownBytes.{append_known}
 use Rattle.fh_base.specs.Causes.{Counts, HasSinkCause, has_failed}

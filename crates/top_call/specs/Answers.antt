@@ -60,7 +60,7 @@ abbrev pub of_plan : (Document → Answer) → Document → Option (ℕ × PlanW
 of_plan answer d None = answer d
 of_plan answer d (Some (index, why)) = refused (BadDocument (slice_index d.plan_lines index) (Plan why))
 
--- a document that is replayed is refused where its plan is: the plan is tested behind the whole grammar
+-- a document that is replayed is refused where its plan is: the plan is tested after the complete grammar
 unfoldable pub of_planned : (Document → Answer) → Document → Answer
 of_planned answer d = of_plan answer d (plan_refusal d.config d.plan)
 

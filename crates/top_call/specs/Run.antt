@@ -40,7 +40,7 @@ IsRefusal (BadPcap refusal) = Unit {0}
 IsRefusal (BadText line why) = Unit {0}
 IsRefusal status = ⊥
 
--- the statuses that stand behind a whole text
+-- the statuses that follow a complete text
 abbrev pub IsVerdict : Status → Type 0
 IsVerdict Done = Unit {0}
 IsVerdict (CheckFails failing) = Unit {0}
@@ -80,7 +80,7 @@ pub record Performs (a : Answer) (written_old written_new : Option (List ℕ)) (
   pub answers : AnswersCommand a.status status
   pub faults : Counts (has_write_fault status) before now
 
--- where this status is wanted by the words over what came, what a run may answer
+-- where this status is wanted by the words over what was received, what a run may answer
 abbrev pub AnswersRun : Status → Status → Type 0
 AnswersRun wanted ReadFault = Unit {0}
 AnswersRun wanted WriteFault = IsRefusal wanted → ⊥
@@ -111,13 +111,13 @@ IsIdlePlan first last min d = IsValid d.config d.plan → IsIdle d first last mi
 
 -- what a run did, but for its line on standard error
 pub record Outcome (words : List (List ℕ)) (left_old left_new : Option (List ℕ)) (source_before source_now : ℕ) (written_old written_new : Option (List ℕ)) (out_before out_now : ℕ) (status : Status) : Type 0 where
-  -- the bytes that came
+  -- the bytes that were received
   pub came : List ℕ
   pub taken : left_old ≡ prepend_known came left_new
-  -- whatever the status, a front part was written of the one text of all that was left, which is that of what came
+  -- whatever the status, a front part was written of the one text of all that was left, which is that of what was received
   pub front : IfSome left_old (λ bytes. WritesFront written_old written_new (asked (command_of words) bytes).text)
   pub front_came : WritesFront written_old written_new (asked (command_of words) came).text
-  -- a status that words and input decide: it is the wanted one, all was read that is read, and the one text stands whole
+  -- a status that words and input decide: it is the wanted one, all was read that is read, and the one text is complete
   pub answers : AnswersRun (asked (command_of words) came).status status
   pub ended : IsDecided status → is_reading (command_of words) ≡ true → IsAtEnd left_new
   pub whole : IsDecided status → written_new ≡ append_known written_old (asked (command_of words) came).text
@@ -136,9 +136,9 @@ pub record Outcome (words : List (List ℕ)) (left_old left_new : Option (List �
       → (is_reading (command_of words) ≡ true → (Rose source_before source_now → ⊥) × (left_old ≡ Some bytes) × (length bytes ≤ INPUT_LIMIT))
       → (Rose out_before out_now → ⊥) ⊎ IsRefusal (asked (command_of words) bytes).status
       → (status ≡ (asked (command_of words) bytes).status) ⊎ (status ≡ NoMemory)
-  -- of the events of the document that the bytes spell, where its plan is valid: no cell is reported twice, what is shown came and was
+  -- of the events of the document that the bytes spell, where its plan is valid: no cell is reported twice, what is shown was received and
   -- commanded in time, the counters add up, the frames that arrive are those that are listed, and what is refused changes nothing but
-  -- counters; each delay stands behind the frame that gave it, and is that of the one request of its id where no injected frame has a
+  -- counters; each delay is after the frame that gave it, and is that of the one request of its id where no injected frame has a
   -- message of delay measurement; and where nothing disturbs its schedule, each scheduled element radiates once
   pub sound : IfOk (document_of came) IsSoundPlan
   -- and of the frames that such a document's plan sends: each has its line, once and in the sent order, and their copies are, with the injected

@@ -38,7 +38,7 @@ pub enum Status {
     WriteFault,
     /// Memory was refused. A front part of the text was written.
     NoMemory,
-    /// More bytes came than the limit. Nothing was written.
+    /// More bytes were received than the limit. Nothing was written.
     TooLong,
     /// A relation of the document's windows fails, the first that does. The whole text was written.
     CheckFails(Failing),

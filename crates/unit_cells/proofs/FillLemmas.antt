@@ -159,7 +159,7 @@ fill_keeps side c clock h blocks run prb before after old new acc ds step fills 
 pub slot_is : (h : DataHeading) → IsSoundHeading h → IsSlot h.endpoint.numerology (slot_of h)
 slot_is h is = let frame = absolute_near h.head.frame_id h.last.0 is.last in record { low = frame.0; high = frame.1; subframe = is.subframe; slot_is = is.slot }
 
--- what is on time at either unit names a slot that is live when the last of it comes
+-- what is on time at either unit names a slot that is live when the last of it is received
 pub live_is : (side : Side) (d : Delays) (h : DataHeading) → IsWithinLimits d → IsSoundHeading h → h.first.0 ≤ℤ h.last.0 → data_class side d (data_under h []) ≡ class.OnTime
     → IsLiveOn side d h.endpoint h.last.0 (slot_of h)
 live_is side d h limits is order on_time = data_live side d (data_under h []) limits is.symbol order on_time

@@ -88,7 +88,7 @@ module _ (h : DataHeading) (blocks run : List (List Wide)) (cell : Cell) where
       let at : get_or (blocks ++ run) reach [] ≡ get_or run k [] = ap (λ (n : ℕ). get_or (blocks ++ run) n []) e ∙ get_or-append-add blocks run k [] in
       rw (covers, here) (ap (λ (s : List Wide). Some (record { id = h.section.id; samples = s })) at)
 
-  -- the cells at the PRBs that come next
+  -- the cells at the PRBs that are next
   pub told_next : (k : ℕ) (earlier : List UserSection) → data_covers (data_under h blocks) cell ≡ true → cell.prb - first_data_prb (data_under h blocks) ≡ length blocks + k → k < length run
       → told_block_at (data_under h (blocks ++ run) ∷ earlier) cell
       ≡ or_else (told_block_at (data_under h blocks ∷ earlier) cell) (Some (packed_block h.section.id run k))

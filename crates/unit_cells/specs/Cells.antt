@@ -87,7 +87,7 @@ cells_index v ep slot = index_from (ring_of v ep) slot
 
 -- ---- what they always are
 
--- slots that are live at one time stand less than all places apart
+-- slots that are live at one time are less than all places apart
 abbrev pub HoldsLive : Side → Delays → RingValue → Type 0
 HoldsLive side d r =
     (clock : ℤ) (a b : Slot) → IsSlotOf r.endpoint.numerology a → IsSlotOf r.endpoint.numerology b

@@ -1,4 +1,4 @@
--- How the rings stand to what a unit makes of its arrivals: they answer for slots that are live, and hold nothing of slots
+-- How the rings relate to what a unit makes of its arrivals: they answer for slots that are live, and hold nothing of slots
 -- that no message can name yet.
 use Rattle.std.specs.Prelude.{◌≡◌, ℕ, ℤ, ◌<◌, true, List, All}
 use Rattle.fh_base.specs.declared.values.Slot.{Slot}
@@ -16,8 +16,8 @@ use Rattle.unit_cells.specs.Cells.{CellsValue, IsOf, cells_block, cells_claim, c
 use Rattle.unit_model.specs.Sides.{IsLiveFor, reach_of}
 use Rattle.unit_cells.specs.Told.{told_block_at}
 
--- The rings keep what these accepted allocations claim and these data on time give, the newest of both first, which came by the
--- clock.
+-- The rings keep what these accepted allocations claim and these data on time give, the newest of both first, which were received by
+-- the clock.
 pub record Keeps (side : Side) (c : Config) (clock : ℤ) (v : CellsValue) (acc : List Allocation) (ds : List UserSection) : Type 0 where
   pub claims : (e : EndpointConfig) (cell : Cell) (re : ℕ) → IsCell c e cell → IsLiveFor side c clock cell.ep cell.slot → re < 12
       → cells_claim v cell re ≡ claim_at acc cell re

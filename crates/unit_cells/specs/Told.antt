@@ -13,7 +13,7 @@ reaches d cell = nat_lt (cell.prb - first_data_prb d) (length d.blocks)
 abbrev pub told_block_in : UserSection → Cell → Option Block
 told_block_in d cell = if data_covers d cell && reaches d cell then Some (block_of d cell) else None
 
--- The block of a cell, where these came on time, the newest first: that of the first of them that covers it and reaches it.
+-- The block of a cell, where these were received on time, the newest first: that of the first of them that covers it and reaches it.
 unfoldable pub told_block_at : List UserSection → Cell → Option Block
 told_block_at [] cell = None
 told_block_at (d ∷ earlier) cell = or_else (told_block_at earlier cell) (told_block_in d cell)

@@ -121,7 +121,7 @@ impl UnitCells {
         set_used_reported(&mut self.rings[ep], slot, symbol, count);
     }
 
-    /// Judges a section of a command that comes at the clock, and claims what it names where it is accepted (O-RAN.WG4.CUS for
+    /// Judges a section of a command that is received at the clock, and claims what it names where it is accepted (O-RAN.WG4.CUS for
     /// the fields and the windows; the verdicts are this project's profile).
     pub fn command(&mut self, command: &ControlSection) -> CommandVerdict
         requires { IsProperCommand (endpoints_of self.old) command.now }
@@ -144,7 +144,7 @@ impl UnitCells {
         }
     }
 
-    /// The verdict on a section of data whose message becomes whole at the clock. Its PRBs come after, by `fill` and `fill_run`.
+    /// The verdict on a section of data whose message becomes complete at the clock. Its PRBs follow, by `fill` and `fill_run`.
     pub fn begin(&self, heading: &DataHeading) -> DataVerdict
         requires { IsProperHeading self.now.side (endpoints_of self.now) heading.now }
         ensures verdict { (side : SpecSide) (c : Config) (acc : List Allocation) (ds : List UserSection) (blocks : List (List Wide)) → IsOf side c self.now
@@ -177,7 +177,7 @@ impl UnitCells {
     }
 
     /// Gives a cell the samples of the PRB with number `k` of a section of data, 0 for its first one, where the section is on time
-    /// and the cell has none. The PRBs of a section come in their order, after `begin` and before anything else.
+    /// and the cell has none. The PRBs of a section are given in their order, after `begin` and before anything else.
     pub fn fill(&mut self, heading: &DataHeading, k: u16, samples: &[Wide; 12])
         requires heading { IsProperHeading self.old.side (endpoints_of self.old) heading.now }
         requires within { k < data_prb_count (data_under heading.now []) }
@@ -201,8 +201,8 @@ impl UnitCells {
         }
     }
 
-    /// Gives cells the samples of the PRBs of a section of data from number `k` on, which stand packed in these bytes, one behind
-    /// the other: each cell where the section is on time and the cell has no block. It stands for so many calls of `fill`.
+    /// Gives cells the samples of the PRBs of a section of data from number `k` on, which are packed in these bytes, one after
+    /// the other: each cell where the section is on time and the cell has no block. It amounts to so many calls of `fill`.
     pub fn fill_run(
         &mut self,
         heading: &DataHeading,

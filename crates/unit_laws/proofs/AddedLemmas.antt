@@ -1,4 +1,4 @@
--- What one more arrival adds to the sections that were read: new ones in front of the others, which came with it.
+-- What one more arrival adds to the sections that were read: new ones in front of the others, which were received with it.
 use Rattle.std.proofs.Common.{◌≡◌, ℕ, ℤ, Bool, true, false, List, [], ◌∷◌, ◌++◌, Option, Some, None, Result, Ok, Err, refl, sym, ap, ◌∙◌, subst, append_assoc}
 use Rattle.std.specs.Prelude.{All, ◌==◌, ◌||◌, not, nat_lt, length, map, cond, if◌then◌else◌}
 use Rattle.std.proofs.lemmas.List.Elements.{All-nil, All-cons, All-head, All-tail, All-append}
@@ -31,7 +31,7 @@ use Rattle.ecpri_fragments.specs.Pieces.{joined}
 
 -- ---- lists that grow at the front
 
--- some of which this holds stand in front of the earlier ones
+-- some of which this holds are in front of the earlier ones
 pub record IsAdded {A : Type 0} (P : A → Type 0) (earlier now : List A) : Type 0 where
   pub front : List A
   pub is : now ≡ front ++ earlier
@@ -68,7 +68,7 @@ pub all_leave : {A X : Type 0} (P : A → Type 0) (f : List A → X) → ((x : A
 all_leave P f one [] earlier h = refl
 all_leave P f one (x ∷ front) earlier h = one x (front ++ earlier) (All-head P x front h) ∙ all_leave P f one front earlier (All-tail P x front h)
 
--- ---- what a message that came then was met as
+-- ---- what a message that was received then was met as
 
 abbrev pub CommandCame : ℤ → ControlSection → Type 0
 CommandCame at c = c.at.0 ≡ at

@@ -57,7 +57,7 @@ own_before a b start ep h =
     (or_right (nat_lt a.ep b.ep) _
     (and_from (a.ep == b.ep) (symbol_before a.slot a.symbol b.slot b.symbol) (eq-eqb a.ep b.ep ep) h)))
 
--- ---- neither of two comes before the other
+-- ---- neither of two precedes the other
 
 symbol_cases : (a b : Slot) (x y : ℕ) → symbol_before a x b y ≡ false → symbol_before b y a x ≡ false → (same_slot a b ≡ true) × (x ≡ y)
 symbol_cases a b x y h k =
@@ -77,7 +77,7 @@ symbol_cases a b x y h k =
     no_other : (m n : ℕ) → nat_lt m n ≡ false → nat_lt n m ≡ false → m ≡ n
     no_other m n e f = grind (arith, nat_tests)
 
--- two symbols of which neither comes before the other
+-- two symbols of which neither precedes the other
 pub record IsSamePlace (a b : SymbolStart) : Type 0 where
   pub ep : a.ep ≡ b.ep
   pub slot_is : a.slot ≡ b.slot

@@ -40,7 +40,7 @@ pub block-cons : (x : UserSection) (earlier : List UserSection) (cell : Cell) �
 unfolding block_at
 block-cons x earlier cell = refl
 
--- what is accepted of one more command: it changes nothing, or it is accepted and stands first
+-- what is accepted of one more command: it changes nothing, or it is accepted and is first
 pub accepted_more : (d : Delays) (c : ControlSection) (earlier : List ControlSection)
     → (accepted d (c ∷ earlier) ≡ accepted d earlier)
     ⊎ ((command_verdict d (accepted d earlier) c ≡ Accepted) × (accepted d (c ∷ earlier) ≡ allocation_of c ∷ accepted d earlier))

@@ -59,7 +59,7 @@ no_jobs_later c clock arrivals tick limits came later =
 after_end : (mid tick : ℤ) → mid ≡ end_of_time +ℤ pos 1 → mid ≤ℤ tick → (last_landing +ℤ pos 1536000000000) ≤ℤ tick
 after_end mid tick e h = omega (arith, ints)
 
--- a sweep that has nothing behind a tick ends there
+-- a sweep that has nothing after a tick ends there
 ends : {A : Type 0} (g : OfSymbol A) (es : List EndpointConfig) (from mid end : ℤ) → from ≤ℤ mid → mid ≤ℤ end
     → ((tick : ℤ) → mid ≤ℤ tick → at_tick g es tick ≡ []) → sweep g es from end ≡ sweep g es from mid
 ends {A} g es from mid end a b none =

@@ -1,4 +1,4 @@
--- The order of ticks, and of what stands next to them.
+-- The order of ticks, and of what is next to them.
 use Rattle.std.proofs.Common.{◌≡◌, ℤ, pos, ◌+ℤ◌, ◌-ℤ◌, ◌≤ℤ◌, ◌<ℤ◌, arith}
 use Rattle.std.proofs.lemmas.Int.{ints}
 use Rattle.unit_model.specs.Radiated.{first_clock}

@@ -48,7 +48,7 @@ window_some : (d : Delays) (down : Bool) → IsWithinLimits d → pos 1 ≤ℤ (
 window_some d true limits = sum_some d.t2a_up.min d.advance limits.t2a_up.low limits.advance.low
 window_some d false limits = limits.t2a_cp_ul.low
 
--- so what is on time comes before its symbol
+-- so what is on time is before its symbol
 pub command_before : (d : Delays) (c : ControlSection) → IsWithinLimits d → command_class d c ≡ class.OnTime → c.at.0 <ℤ command_start c
 command_before d c limits h =
     let is = (class_on_time c.at.0 c.at.0 (command_start c) (command_window_of d c.head.down)).0 h in
@@ -59,7 +59,7 @@ data_before d x limits h =
     let is = (class_on_time x.first.0 x.last.0 (data_start x) (data_window_of d)).0 h in
     later d.t2a_up.min (data_start x) x.last.0 limits.t2a_up.low is.soon_enough
 
--- the symbols of an accepted section start after it came
+-- the symbols of an accepted section start after it was received
 pub section_before : (d : Delays) (c : ControlSection) (symbol : ℕ) → IsWithinLimits d → IsInOrder c → command_class d c ≡ class.OnTime
     → is_from c.section.symbol c.section.num_symbol symbol ≡ true → c.at.0 <ℤ air_of c.endpoint.numerology (command_slot c) symbol
 section_before d c symbol limits order on_time within =

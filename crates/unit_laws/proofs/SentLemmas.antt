@@ -58,7 +58,7 @@ still_same : (side : Side) (k m : Known) (heard : List AirCell) (ep : ℕ) (e : 
 unfolding still_reported
 still_same side k m heard ep e slot symbol same = ap (filter (unheard heard)) same
 
--- where two knowledges report the same of each symbol whose moment comes by a time, they report the same up to it, and the same is due
+-- where two knowledges report the same of each symbol whose moment is reached by a time, they report the same up to it, and the same is due
 pub reported-same : (side : Side) (d : Delays) (es : List EndpointConfig) (k m : Known) (to : ℤ)
     → ((ep : ℕ) (e : EndpointConfig) (slot : Slot) (symbol : ℕ) → IsAt es ep e → air_of e.numerology slot symbol ≤ℤ (to -ℤ wait_of side d)
     → symbol_report side k ep e slot symbol ≡ symbol_report side m ep e slot symbol)

@@ -1,4 +1,4 @@
--- What the radio unit tells at ticks that come after its clock.
+-- What the radio unit tells at ticks that are after its clock.
 use Rattle.std.proofs.Common.{◌≡◌, ℕ, ℤ, pos, ◌<◌, ◌+ℤ◌, ◌-ℤ◌, ◌≤ℤ◌, ◌⊎◌, inl, inr, List, [], ◌++◌, length, drop, refl, sym, ap, ◌∙◌, subst, arith, length-append}
 use Rattle.std.specs.Prelude.{filter}
 use Rattle.std.proofs.lemmas.Int.{ints, by_lt_z}
@@ -41,7 +41,7 @@ pub starts_later : LaterSymbolsAreAhead
 starts_later n r clock slot symbol after small order =
     live_or_far n r clock slot (in_reach clock (air_of n slot symbol) (air_of n slot 0 +ℤ pos (span_of n)) r.after order (symbol_in_span n slot symbol small) after)
 
--- at the radio unit, of a symbol that starts at a tick that does not come before the clock
+-- at the radio unit, of a symbol that starts at a tick that is not before the clock
 pub starts_at : (d : Delays) (e : EndpointConfig) (clock tick : ℤ) (slot : Slot) (symbol : ℕ) → IsWithinLimits d → clock ≤ℤ tick → symbol < symbols_of e.numerology
     → air_of e.numerology slot symbol ≡ tick → IsLiveSlot d e clock slot ⊎ IsFar e.numerology (ru_reach_of d) clock slot
 starts_at d e clock tick slot symbol limits order small starts =

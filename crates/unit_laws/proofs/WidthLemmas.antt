@@ -242,7 +242,7 @@ module _ (side : Side) (c : Config) where
       let x = meet side c.endpoints at m in
       all_both (HasWidths side) (judged_message side c at ms m) (judged_in side c at (x ∷ ms) rest) (tt, meeting_judged ms x (meet_widths side c.endpoints at m)) (all_judged at (x ∷ ms) rest)
 
--- of any frame, whatever came before it
+-- of any frame, whatever was received before it
 pub have_widths : (side : Side) (c : Config) (earlier : List Arrival) (a : Arrival) → AllByRecursion (HasWidths side) (judgements side c earlier a)
 have_widths side c earlier a = all_judged side c a.at (met side c earlier) (whole_messages a.frame)
 

@@ -1,5 +1,5 @@
--- What one more arrival at a unit leaves as it was: all whose moment is past when it comes; and at the radio unit all that is sent by then,
--- and every claim (this project's profile).
+-- What one more arrival at a unit leaves as it was: all whose moment is past when it is received; and at the radio unit all that is sent
+-- by then, and every claim (this project's profile).
 use Rattle.std.specs.Prelude.{◌≡◌, ℕ, ℤ, ◌<◌, ◌≤ℤ◌, List, ◌∷◌, All, Some}
 use Rattle.fh_base.specs.Air.{air_of}
 use Rattle.fh_base.specs.declared.values.Slot.{Slot}
@@ -20,7 +20,7 @@ use Rattle.unit_model.specs.declared.allocations.Allocation.{Allocation}
 use Rattle.unit_model.specs.declared.cells.Cell.{Cell}
 use Rattle.unit_model.specs.declared.cells.Claim.{Claim}
 
--- an arrival that comes behind these, at a time that a unit may be given
+-- an arrival that follows these, at a time that a unit may be given
 pub record IsNextArrival (c : Config) (a : Arrival) (arrivals : List Arrival) : Type 0 where
   pub limits : IsWithinLimits c.delays
   pub came : AreInTime a.at arrivals

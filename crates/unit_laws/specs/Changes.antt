@@ -19,7 +19,7 @@ OnlyAcceptedClaims =
     → (claim_at (accepted d (c ∷ earlier)) cell re ≡ claim_at (accepted d earlier) cell re)
     ⊎ ((command_verdict d (accepted d earlier) c ≡ Accepted) × (names (allocation_of c) cell re ≡ true))
 
--- a claim that is there stays as it is, whatever commands come later
+-- a claim that is there stays as it is, whatever commands are received later
 abbrev pub ClaimsStay : Type 0
 ClaimsStay =
     (d : Delays) (later earlier : List ControlSection) (cell : Cell) (re : ℕ) (claim : Claim) → re < 12

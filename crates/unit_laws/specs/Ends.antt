@@ -11,7 +11,7 @@ use Rattle.unit_model.specs.Times.{end_of_time, last_landing}
 use Rattle.unit_model.specs.Uplink.{jobs, symbol_jobs}
 use Rattle.unit_model.specs.Terms.{Ru}
 
--- where all arrivals came by a time, no cell and no uplink message is told of a tick that is a second later
+-- where all arrivals were received by a time, no cell and no uplink message is told of a tick that is a second later
 abbrev pub NoCellsLater : Type 0
 NoCellsLater =
     (c : Config) (clock : ℤ) (arrivals : List Arrival) (tick : ℤ) → IsWithinLimits c.delays → AreInTime clock arrivals

@@ -20,7 +20,7 @@ use Rattle.unit_model.specs.declared.cells.Cell.{Cell}
 use Rattle.unit_model.specs.declared.decoded.ControlSection.{ControlSection}
 use Rattle.unit_model.specs.declared.decoded.UserSection.{UserSection}
 
--- the slot was live at a time that has come
+-- the slot was live at a time that is reached
 pub record WasLive (n : Numerology) (r : Reach) (clock : ℤ) (slot : Slot) : Type 0 where
   pub when : ℤ
   pub come : when ≤ℤ clock
@@ -39,7 +39,7 @@ pub record IsReachedData (es : List EndpointConfig) (r : Reach) (clock : ℤ) (x
   pub endpoint : IsAt es x.ep x.endpoint
   pub live : WasLive x.endpoint.numerology r clock (data_slot x)
 
--- sections that were read, and that came by a time
+-- sections that were read, and that were received by a time
 pub record IsHeard (es : List EndpointConfig) (clock : ℤ) (c : ControlSection) : Type 0 where
   pub endpoint : IsAt es c.ep c.endpoint
   pub start_symbol : c.head.start_symbol < symbols_of c.endpoint.numerology
@@ -51,7 +51,7 @@ pub record IsHeardData (es : List EndpointConfig) (clock : ℤ) (x : UserSection
   pub order : x.first.0 ≤ℤ x.last.0
   pub come : x.last.0 ≤ℤ clock
 
--- all that was accepted named slots that were live when it came, and so did all data on time
+-- all that was accepted named slots that were live when it was received, and so did all data on time
 abbrev pub AcceptedAreReached : Type 0
 AcceptedAreReached =
     (es : List EndpointConfig) (d : Delays) (clock : ℤ) (cs : List ControlSection) → IsWithinLimits d → All (IsHeard es clock) cs

@@ -1,4 +1,4 @@
--- What stands first in a sweep over symbols (this project's profile).
+-- What is first in a sweep over symbols (this project's profile).
 use Rattle.std.specs.Prelude.{◌≡◌, ℤ, true, ◌<ℤ◌, ◌≤ℤ◌, List, [], ◌++◌}
 use Rattle.window_config.specs.declared.endpoints.EndpointConfig.{EndpointConfig}
 use Rattle.unit_model.specs.Order.{comes_before}
@@ -16,11 +16,11 @@ pub record IsSweptIn (es : List EndpointConfig) (from end : ℤ) (m : SymbolStar
   pub low : from ≤ℤ m.start.0
   pub high : m.start.0 <ℤ end
 
--- nothing is told of the symbols that come before one
+-- nothing is told of the symbols that precede one
 abbrev pub IsQuietBefore : {A : Type 0} → OfSymbol A → List EndpointConfig → ℤ → ℤ → SymbolStart → Type 0
 IsQuietBefore g es from end first = (m : SymbolStart) → IsSweptIn es from end m → comes_before m first ≡ true → told_of g m ≡ []
 
--- the same is told of the symbols that come after one
+-- the same is told of the symbols that follow one
 abbrev pub IsSameAfter : {A : Type 0} → OfSymbol A → OfSymbol A → List EndpointConfig → ℤ → ℤ → SymbolStart → Type 0
 IsSameAfter g h es from end first = (m : SymbolStart) → IsSweptIn es from end m → comes_before first m ≡ true → told_of h m ≡ told_of g m
 

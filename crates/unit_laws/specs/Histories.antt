@@ -16,7 +16,7 @@ use Rattle.unit_model.specs.Uplink.{symbol_jobs}
 use Rattle.unit_model.specs.declared.cells.Cell.{Cell}
 use Rattle.unit_laws.specs.Far.{IsFar, IsHeard, IsHeardData}
 
--- all sections came by the clock, from endpoints of the configuration
+-- all sections were received by the clock, from endpoints of the configuration
 abbrev pub CommandsAreHeard : Type 0
 CommandsAreHeard = (side : Side) (c : Config) (clock : ℤ) (arrivals : List Arrival) → AreInTime clock arrivals → All (IsHeard c.endpoints clock) (commands_of side c arrivals)
 

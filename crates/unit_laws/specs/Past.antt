@@ -34,8 +34,8 @@ CommandLeavesPast =
     → IsWithinLimits d → IsProperCommand es c → IsInOrder c → IsAt es cell.ep e → air_of e.numerology cell.slot cell.symbol ≤ℤ c.at.0
     → claim_at (accepted d (c ∷ earlier)) cell re ≡ claim_at (accepted d earlier) cell re
 
--- the moment of a symbol that starts then is past when data come: it starts by then at the radio unit; at the distributed unit, whose
--- arrivals of a tick come before its cells, its wait is over
+-- the moment of a symbol that starts then is past when data are received: it starts by then at the radio unit; at the distributed unit,
+-- whose arrivals of a tick precede its cells, its wait is over
 abbrev pub IsPast : Side → Delays → ℤ → ℤ → Type 0
 IsPast Ru d start at = start ≤ℤ at
 IsPast Du d start at = (start +ℤ wait_of Du d) <ℤ at

@@ -5,7 +5,7 @@ use Rattle.unit_model.specs.Judgements.{Judgement, Met, Commanded, Fragmented, U
 use Rattle.unit_model.specs.Proper.{IsAt, IsProperCommand, IsTime}
 use Rattle.window_config.specs.declared.endpoints.EndpointConfig.{EndpointConfig}
 
--- it is of one of these endpoints, and came at a time
+-- it is of one of these endpoints, and was received at a time
 abbrev pub CameTo : List EndpointConfig → ℕ → EndpointConfig → ℤ → Type 0
 CameTo es ep e at = IsAt es ep e × IsTime at
 

@@ -1,4 +1,4 @@
--- What a unit tells at ticks that come after its clock: at the radio unit only live slots tell anything.
+-- What a unit tells at ticks that are after its clock: at the radio unit only live slots tell anything.
 use Rattle.std.specs.Prelude.{◌≡◌, ℕ, ℤ, pos, ◌<◌, ◌+ℤ◌, ◌-ℤ◌, ◌≤ℤ◌, List, [], ◌++◌, ◌⊎◌}
 use Rattle.fh_base.specs.Air.{air_of}
 use Rattle.fh_base.specs.Numbering.{symbols_of}
@@ -33,7 +33,7 @@ LaterSymbolsAreAhead =
 abbrev pub IsLiveSlot : Delays → EndpointConfig → ℤ → Slot → Type 0
 IsLiveSlot d e clock slot = IsLive e.numerology (ru_reach_of d).before (ru_reach_of d).after clock slot
 
--- where nothing is due at a time, what is due later is told of the symbols whose moments come after it
+-- where nothing is due at a time, what is due later is told of the symbols whose moments are after it
 abbrev pub DueAfterClock : Type 0
 DueAfterClock =
     (side : Side) (d : Delays) (es : List EndpointConfig) (k : Known) (heard : List AirCell) (clock to : ℤ) → first_clock ≤ℤ clock → clock ≤ℤ to

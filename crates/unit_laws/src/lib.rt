@@ -4,7 +4,7 @@
 //! There are no functions: a law is stated in `specs/` and proved as a lemma in `proofs/`. All rest on this project's profile of
 //! O-RAN.WG4.CUS.
 //!
-//! What a unit judges is sound: each section names a slot and a symbol of its endpoint, and each fragment and message came at a time.
+//! What a unit judges is sound: each section names a slot and a symbol of its endpoint; each fragment and message is received at a time.
 //!
 //! There are no functions: the law is a lemma of `proofs/`, in the words of `specs/`.
 //!

@@ -1,4 +1,4 @@
--- What holds of the cells and the counters behind some sections of a message, and behind a message.
+-- What holds of the cells and the counters after some sections of a message, and after a message.
 use Rattle.std.proofs.Common.{◌≡◌, ℕ, ℤ, ◌+◌, Bool, true, false, List, [], ◌∷◌, ◌++◌, map, sym, ap, ◌∙◌, subst, arith}
 use Rattle.std.proofs.lemmas.Bool.{not-true}
 use Rattle.std.specs.Prelude.{Option, Some, None, MatchOption, if◌then◌else◌}
@@ -29,7 +29,7 @@ use Rattle.unit_memory.proofs.DataHoldLemmas.{Stays, stays_none, stays_on}
 use Rattle.unit_memory.proofs.WalkLemmas.{behind_head, gathered_all, gathered_head, gathered_section, gathering, same_head}
 use Rattle.air_source.specs.Units.{is_down}
 
--- the section of a message whose fragments came then
+-- the section of a message whose fragments were received then
 abbrev pub heading_of : ℕ → EndpointConfig → Ticks → Ticks → UHead → USection → DataHeading
 heading_of ep e first last head s = record { ep = ep; endpoint = e; first = first; last = last; head = head; section = s }
 
@@ -37,7 +37,7 @@ module _ (ep : ℕ) (e : EndpointConfig) (first last : Ticks) (head : UHead) whe
   abbrev pub sections_with : List SectionBlocks → List UserSection
   sections_with parts = map (data_with ep e first.0 last.0 head) parts
 
-  -- some sections of a message were told, and came
+  -- some sections of a message were told, and were received
   pub record Treated (items left : List Item) (old new : CellsValue) (before after : List ℕ) : Type 0 where
     pub parts : List SectionBlocks
     pub told : gathered nothing_told items ≡ gathered (gathering head parts) left
@@ -86,7 +86,7 @@ not_counted : (x n b : ℕ) → x ≡ capped (n + b) → x ≡ capped ((n + 0) +
 not_counted x n b h = omega arith
 
 module _ (side : Side) (c : Config) (clock : ℤ) (n : Counter → ℕ) (acc : List Allocation) (ds : List UserSection) where
-  -- what holds behind a message that says this
+  -- what holds after a message that says this
   abbrev pub HoldsAfter : Decoded → CellsValue → List ℕ → Type 0
   HoldsAfter d v numbers = HoldsData side c clock (λ k. n k + times (decoded_counted (Some d)) k) acc (sections_of d ++ ds) v numbers
 
@@ -122,7 +122,7 @@ whole_head e head items whole =
     ap (λ (g : Gathering). g.head) (gathered_head items whole.rest head whole.first)
     ∙ same_head e.prbs (shape_of e.numerology) whole.rest 0 0 (gathering head []) whole.sections
 
--- a message that comes to the unit has its direction
+-- a message that is received by the unit has its direction
 pub way_is : (side : Side) (head : UHead) → has_way side head ≡ true → head.down ≡ is_down side
 way_is Ru head is = is
 way_is Du head is = not-true head.down is

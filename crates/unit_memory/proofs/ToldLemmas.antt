@@ -72,7 +72,7 @@ pub record CommandsHeard {L : Type 0} (heard : L → List Judgement → L → Ty
 
 -- ---- sections of data
 
--- some sections of a message came, and were told
+-- some sections of a message were received, and were told
 pub record TreatedHeard {L : Type 0} (heard : L → List Judgement → L → Type 0) (ep : ℕ) (e : EndpointConfig) (first last : Ticks) (head : UHead) (items left : List Item) (old new : CellsValue) (before after : List ℕ) (a b : L) : Type 0 where
   pub treated : Treated ep e first last head items left old new before after
   pub told : (side : Side) (c : Config) (n : Counter → ℕ) (acc : List Allocation) (ds : List UserSection)

@@ -1,4 +1,4 @@
-// What a unit keeps of the frames that came.
+// What a unit keeps of the frames that were received.
 ghost use Rattle.std.specs.Prelude.{◌≡◌, ℤ, ◌-◌, ◌^◌, ◌≤ℤ◌, pos, List, [], ◌∷◌, IfOk, length, min, false};
 ghost use Rattle.std.specs.List.{list_any};
 ghost use Rattle.air_source.specs.declared.events.Side.{Side as SpecSide};
@@ -50,12 +50,12 @@ fn hold(side: Side, config: &Config) -> Ticks
     }
 }
 
-/// All memory of a unit: what it keeps of the frames that came. It is taken when it is made; no other call asks for any.
+/// All memory of a unit: what it keeps of the frames that were received. It is taken when it is made; no other call asks for any.
 #[derive(Drop)]
 pub struct UnitMemory {
     /// The endpoints in the configuration's order.
     pub endpoints: Vec<EndpointConfig>,
-    /// What is claimed of the cells, and the blocks that came for them.
+    /// What is claimed of the cells, and the blocks that were received for them.
     pub cells: UnitCells,
     /// The fragments of U-plane messages.
     pub assembly: Assembly,
@@ -69,7 +69,7 @@ impl UnitMemory {
     ghost use Rattle.unit_memory.specs.Memory.{Holds, HoldsSome, arrival_at};
     ghost use Rattle.unit_memory.specs.Parts.{LeavesReported, MemoryStands, MemoryStandsForSome};
 
-    /// Takes all memory for a unit and a configuration. Nothing came.
+    /// Takes all memory for a unit and a configuration. Nothing was received.
     pub fn make(alloc: Global, side: Side, config: &Config) -> Result<UnitMemory, NoMemory>
         requires { IsConfig config.now }
         ensures holds { IfOk result (λ m. (clock : ℤ) → Holds side config.now clock m [] []) }
@@ -121,8 +121,8 @@ impl UnitMemory {
     }
 
     /// Treats a frame that arrives at a time, in ticks (eCPRI 2.0; O-RAN.WG4.CUS for the messages; what a unit makes of them is this
-    /// project's profile). The frame is gone over once: its whole messages are treated in their order; the frame and its refusal, if
-    /// it has one, which stands at the end of the walk, are counted behind them. A listener hears what is judged.
+    /// project's profile). The frame is gone over once: its complete messages are treated in their order; the frame and its refusal, if
+    /// it has one, which is at the end of the walk, are counted after them. A listener hears what is judged.
     pub fn arrive_told<L: Listener>(&mut self, listener: &mut L, at: Ticks, frame: &[u8]) -> Arrived
         requires unit { HoldsSome at.0 self.old }
         requires time { IsTime at.0 }
@@ -148,8 +148,8 @@ impl UnitMemory {
     }
 
     /// Treats a frame that arrives at a time, in ticks (eCPRI 2.0; O-RAN.WG4.CUS for the messages; what a unit makes of them is this
-    /// project's profile). The frame is gone over once: its whole messages are treated in their order; the frame and its refusal, if
-    /// it has one, which stands at the end of the walk, are counted behind them.
+    /// project's profile). The frame is gone over once: its complete messages are treated in their order; the frame and its refusal, if
+    /// it has one, which is at the end of the walk, are counted after them.
     pub fn arrive(&mut self, at: Ticks, frame: &[u8]) -> Arrived
         requires unit { HoldsSome at.0 self.old }
         requires time { IsTime at.0 }

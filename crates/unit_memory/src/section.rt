@@ -1,4 +1,4 @@
-// One section of a message: its verdict, and its blocks, which the walk tells behind its header.
+// One section of a message: its verdict, and its blocks, which the walk tells after its header.
 ghost use Rattle.std.specs.Prelude.{◌≡◌, ℕ, ◌<◌, List, [], ◌∷◌};
 ghost use Rattle.air_source.specs.declared.events.Side.{Side as SpecSide};
 ghost use Rattle.window_config.specs.declared.config.Config.{Config};
@@ -21,7 +21,7 @@ use unit_cells::UnitCells;
 use unit_model::{DataHeading, Listener, data_counter};
 use uplane_messages::DataWalk;
 
-/// Gives the cell of PRB number `k` of a section its block, which comes next and which the pieces cut.
+/// Gives the cell of PRB number `k` of a section its block, which is next and which the pieces cut.
 fn fill_one(cells: &mut UnitCells, heading: &DataHeading, k: u16, walk: &mut DataWalk<'_>)
     requires heading { IsProperHeading cells.old.side (endpoints_of cells.old) heading.now }
     requires within { k < data_prb_count (data_under heading.now []) }
@@ -38,7 +38,7 @@ fn fill_one(cells: &mut UnitCells, heading: &DataHeading, k: u16, walk: &mut Dat
     }
 }
 
-/// Gives the cells of a section, from its PRB number `k` on, the blocks that come next, and says how many they are: those of a run of
+/// Gives the cells of a section, from its PRB number `k` on, the blocks that are next, and says how many they are: those of a run of
 /// packed PRBs, or that of a PRB which the pieces cut.
 fn fill_next(cells: &mut UnitCells, heading: &DataHeading, k: u16, walk: &mut DataWalk<'_>) -> u16
     requires heading { IsProperHeading cells.old.side (endpoints_of cells.old) heading.now }

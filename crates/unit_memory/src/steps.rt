@@ -57,7 +57,7 @@ impl UnitMemory {
         }
     }
 
-    /// Treats a section of a command that comes at the clock.
+    /// Treats a section of a command that is received at the clock.
     fn section<L: Listener>(&mut self, listener: &mut L, command: &ControlSection)
         requires side { self.old.cells.side ≡ Ru }
         requires proper { IsProperCommand (endpoints_of self.old.cells) command.now }

@@ -32,7 +32,7 @@ use uplane_messages::{DataWalk, tested};
 use uplane_sections::{UFeed, UHead};
 use window_config::EndpointConfig;
 
-/// Whether a message of this direction comes to the unit.
+/// Whether the unit receives a message of this direction.
 fn has_way(side: Side, head: &UHead) -> bool
     ensures { result ≡ has_way side head.now }
 {

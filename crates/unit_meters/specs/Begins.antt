@@ -1,4 +1,4 @@
--- The measurements that have still to begin, and how both units' meters stand at a tick (this project's profile).
+-- The measurements that have still to begin, and the state of both units' meters at a tick (this project's profile).
 use Rattle.std.specs.Prelude.{◌≡◌, ℕ, ℤ, ◌<◌, ◌≤ℤ◌, List, [], ◌∷◌, All, filter, length, map, slice_get}
 use Rattle.std.specs.List.{flat_map}
 use Rattle.std.specs.Option.{option_to_list}

@@ -1,4 +1,4 @@
--- Blocks that are found before others, the window of uplink data, and what holds of the data that came on time.
+-- Blocks that are found before others, the window of uplink data, and what holds of the data that were received on time.
 use Rattle.std.proofs.Common.{◌≡◌, All, ◌∷◌, true, false, List, [], refl, arith}
 use Rattle.std.specs.Prelude.{Option, Some, None, is_some}
 use Rattle.std.proofs.lemmas.Int.{ints}

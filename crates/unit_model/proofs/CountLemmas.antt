@@ -48,7 +48,7 @@ one_time n o = omega arith
 pub no_time : (n : ℕ) → n ≡ n + 0
 no_time n = omega arith
 
--- of no arrivals nothing is counted, and no fragment came
+-- of no arrivals nothing is counted, and no fragment was received
 pub nothing_counted : (side : Side) (c : Config) → arrivals_counted side c [] ≡ []
 unfolding frames_counted messages_counted meetings commands command_verdicts data_sections data_verdicts
 nothing_counted side c = refl

@@ -1,4 +1,4 @@
--- The sections of a message that is not refused: each test was passed, and each PRB came.
+-- The sections of a message that is not refused: each test was passed, and each PRB was received.
 use Rattle.std.proofs.Common.{◌≡◌, ℕ, ℤ, zero, suc, ◌+◌, ◌-◌, ◌*◌, ◌<◌, ◌≤◌, Bool, true, false, cond, List, [], ◌∷◌, ◌++◌, length, take, drop, map, Option, Some, None, refl, arith, length-append, length-drop}
 use Rattle.std.specs.Prelude.{All, nat_lt, nat_le, not, ◌&&◌, ◌||◌, ◌==◌}
 use Rattle.std.proofs.lemmas.List.Elements.{All-map, All-cons, All-nil, All-weaker}
@@ -71,7 +71,7 @@ whole_part prbs shape s q e below within b = record {
 }
 
 module _ (format : Format) (prbs : ℕ) (shape : Shape) where
-  -- what comes behind a section adds whole sections to whole ones
+  -- what follows a section adds complete sections to complete ones
   abbrev pub GoesOn : Telling → Type 0
   GoesOn next = (g : Gathering) → next.refusal ≡ None → All (IsWholePart prbs shape) g.parts → IsWholeAfter prbs shape g.head (gathered g next.items)
 

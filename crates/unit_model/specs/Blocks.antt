@@ -51,7 +51,7 @@ block_of d cell = record { id = d.section.id; samples = slice_index_or d.blocks 
 abbrev pub block_in : UserSection → Cell → Option Block
 block_in d cell = if data_covers d cell then Some (block_of d cell) else None
 
--- The block of a cell, where these came on time, the newest first: that of the first of them that covers it. A later one
+-- The block of a cell, where these were received on time, the newest first: that of the first of them that covers it. A later one
 -- changes nothing.
 unfoldable pub block_at : List UserSection → Cell → Option Block
 block_at [] cell = None
@@ -80,7 +80,7 @@ with_timely class.OnTime d ds = d ∷ ds
 with_timely class.Late d ds = ds
 with_timely class.Early d ds = ds
 
--- those that came on time
+-- those that were received on time
 unfoldable pub timely : Side → Delays → List UserSection → List UserSection
 timely side delays [] = []
 timely side delays (d ∷ earlier) = with_timely (data_class side delays d) d (timely side delays earlier)

@@ -26,7 +26,7 @@ first_prb a = first_of a.start_prb a.num_prb
 abbrev pub prb_count : Allocation → ℕ
 prb_count a = count_of a.endpoint.prbs a.num_prb
 
--- the cell stands in its symbols and PRBs
+-- the cell is in its symbols and PRBs
 abbrev pub covers : Allocation → Cell → Bool
 covers a cell =
     (a.ep == cell.ep) && (same_way a.down cell.down && (same_slot a.slot cell.slot

@@ -49,7 +49,7 @@ decoded_counted (Some Refused) = counter.URefused ∷ []
 decoded_counted (Some Backwards) = counter.WrongWay ∷ []
 decoded_counted (Some (Sections ds)) = []
 
--- a fragment behind these, and what the message says that it makes whole, if it does
+-- a fragment after these, and what the message says that it makes complete, if it does
 abbrev pub piece_counted : ℤ → Fragment → List Fragment → Option Decoded → List Counter
 piece_counted hold f earlier told = decoded_counted told ++ fragment_counter (verdict_on hold f earlier) ∷ []
 
@@ -87,7 +87,7 @@ commands_counted vs = map command_counter vs
 abbrev pub data_counted : List DataVerdict → List Counter
 data_counted vs = map data_counter vs
 
--- each counter stands at the number of what was counted, at most the greatest u64
+-- each counter is at the number of what was counted, at most the greatest u64
 abbrev pub StandAt : List ℕ → List Counter → Type 0
 StandAt counts counted = (c : Counter) → count_of counts c ≡ capped (times counted c)
 

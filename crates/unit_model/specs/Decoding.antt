@@ -81,7 +81,7 @@ abbrev pub decoded_from : Side → ℕ → EndpointConfig → ℤ → ℤ → Ga
 decoded_from side ep e first last g (Some r) = Refused
 decoded_from side ep e first last g None = decoded_with side ep e first last g.parts g.head
 
--- what all the bytes of a message say, whose first and last fragments came then
+-- what all the bytes of a message say, whose first and last fragments were received then
 unfoldable pub decode : Side → ℕ → EndpointConfig → ℤ → ℤ → List ℕ → Decoded
 decode side ep e first last bytes =
     decoded_from side ep e first last (gathered nothing_told (told e.format e.prbs (shape_of e.numerology) bytes).items)

@@ -1,4 +1,4 @@
--- A section of data whose header is read, and whose PRBs come one by one.
+-- A section of data whose header is read, and whose PRBs are given one by one.
 use Rattle.std.specs.Prelude.{◌≡◌, ◌<◌, ◌≤ℤ◌, List, false}
 use Rattle.fh_base.specs.Numbering.{slots_of, symbols_of}
 use Rattle.bfp_codec.specs.declared.samples.Wide.{Wide}
@@ -32,7 +32,7 @@ pub record IsSoundHeading (h : DataHeading) : Type 0 where
   pub symbol : h.section.symbol < symbols_of h.endpoint.numerology
   pub within : is_outside h.endpoint.prbs h.section.start_prb h.section.num_prb ≡ false
 
--- and it is one of these endpoints', of the unit's direction, whose first fragment came no later than its last
+-- and it is one of these endpoints', of the unit's direction, whose first fragment was received no later than its last
 pub record IsProperHeading (side : Side) (es : List EndpointConfig) (h : DataHeading) : Type 0 where
   pub endpoint : IsAt es h.ep h.endpoint
   pub sound : IsSoundHeading h

@@ -1,4 +1,4 @@
--- What a unit judges of a frame, in the order of its messages and of their sections, over all that came before (this project's
+-- What a unit judges of a frame, in the order of its messages and of their sections, over all that was received before (this project's
 -- profile; the verdicts are those of `unit_model`).
 use Rattle.std.specs.Prelude.{ℕ, ℤ, List, [], ◌∷◌, ◌++◌, Option, Some, None}
 use Rattle.fh_base.specs.Numbering.{shape_of}
@@ -25,8 +25,8 @@ use Rattle.unit_model.specs.declared.verdicts.CommandVerdict.{CommandVerdict}
 use Rattle.unit_model.specs.declared.verdicts.DataVerdict.{DataVerdict}
 use Rattle.unit_model.specs.declared.heading.DataHeading.{DataHeading}
 
--- a whole message of a frame came; a section of a command has a verdict; a fragment of data to an endpoint has one; a whole message of
--- data is refused, or has the other unit's direction; a section of data has a verdict
+-- a complete message of a frame was received; a section of a command has a verdict; a fragment of data to an endpoint has one; a complete
+-- message of data is refused, or has the other unit's direction; a section of data has a verdict
 pub data Judgement : Type 0 where
   Met : Message → Judgement
   Commanded : ControlSection → CommandVerdict → Judgement
@@ -37,7 +37,7 @@ pub data Judgement : Type 0 where
 
 -- ---- commands
 
--- the sections of a command, in its order, where these came before
+-- the sections of a command, in its order, where these were received before
 unfoldable pub judged_commands : Delays → List ControlSection → List ControlSection → List Judgement
 judged_commands d earlier [] = []
 judged_commands d earlier (c ∷ cs) = Commanded c (command_verdict d (accepted d earlier) c) ∷ judged_commands d (c ∷ earlier) cs
@@ -48,7 +48,7 @@ judged_commands d earlier (c ∷ cs) = Commanded c (command_verdict d (accepted 
 abbrev pub heading_of : UserSection → DataHeading
 heading_of s = record { ep = s.ep; endpoint = s.endpoint; first = s.first; last = s.last; head = s.head; section = s.section }
 
--- the sections of a message, of which the last one stands first here, where these came before: they are judged in the message's order
+-- the sections of a message, of which the last one is first here, where these were received before: they are judged in the message's order
 unfoldable pub judged_data : Side → Delays → List UserSection → List UserSection → List Judgement
 judged_data side d earlier [] = []
 judged_data side d earlier (s ∷ ss) = judged_data side d earlier ss ++ Given (heading_of s) (data_verdict side d (timely side d (ss ++ earlier)) s) ∷ []

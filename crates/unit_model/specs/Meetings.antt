@@ -21,7 +21,7 @@ use Rattle.fh_base.specs.Lists.{onto}
 use Rattle.unit_model.specs.declared.decoded.ControlSection.{ControlSection}
 use Rattle.ecpri_frames.specs.declared.heads.TheConstants.{ONE_WAY_DELAY, REAL_TIME_CONTROL, IQ_DATA}
 
--- a frame, and when it came, in ticks
+-- a frame, and when it was received, in ticks
 pub record Arrival : Type 0 where
   pub at : ℤ
   pub frame : List ℕ

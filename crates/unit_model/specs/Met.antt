@@ -1,4 +1,4 @@
--- A whole message with its tests behind it, as the definitions see it.
+-- A complete message with its tests after it, as the definitions see it.
 use Rattle.std.specs.Prelude.{ℕ, ℤ, List, ◌<◌}
 use Rattle.fh_base.specs.Numbering.{shape_of}
 use Rattle.cplane_sections.specs.declared.values.CHead.{CHead}

@@ -47,7 +47,7 @@ id_from claims from (suc n) = id_or (claims from) (id_from claims (from + 1) n)
 abbrev pub cell_id : (ℕ → Option Claim) → ℕ
 cell_id claims = id_from claims 0 12
 
--- the samples that came under the section id; None is missing
+-- the samples that were received under the section id; None is missing
 abbrev pub samples_under : ℕ → Option Block → Option (List Wide)
 samples_under id None = None
 samples_under id (Some b) = if b.id == id then Some b.samples else None

@@ -1,5 +1,5 @@
--- What a unit has to know, and the histories for which it stands (this project's profile). A unit in fixed memory answers for slots that
--- are live, one that keeps whole lists for all.
+-- What a unit has to know, and the histories that it stands for (this project's profile). A unit in fixed memory answers for slots that
+-- are live, one that keeps complete lists for all.
 use Rattle.std.specs.Prelude.{◌≡◌, ℕ, ℤ, pos, ◌<◌, ◌+ℤ◌, ◌-ℤ◌, ◌≤ℤ◌, ◌==◌, Bool, true, false, not, ◌&&◌, All, List, [], ◌∷◌, ◌++◌, length, drop, filter}
 use Rattle.std.specs.List.{list_any}
 use Rattle.fh_base.specs.declared.values.Slot.{Slot}
@@ -38,7 +38,7 @@ pub record History : Type 0 where
 abbrev pub nothing_yet : History
 nothing_yet = record { clock = first_clock; arrivals = []; reported = []; given = [] }
 
--- ---- what is still to come
+-- ---- what is still to follow
 
 -- both are reports of one cell: one unit's, of one direction
 abbrev pub same_cell : AirCell → AirCell → Bool
@@ -158,10 +158,10 @@ pub record IsHistory (side : Side) (c : Config) (k : Known) (h : History) : Type
   pub later : List UplinkJob
   pub given : asked_jobs side c h.arrivals h.clock ≡ h.given ++ later
 
--- ---- the histories for which a unit stands
+-- ---- the histories that a unit stands for
 
--- the time up to which all is reported at a clock: the clock at the radio unit, whose cells of a tick come before its arrivals; one
--- tick before it at the distributed unit, whose arrivals come before its cells
+-- the time up to which all is reported at a clock: the clock at the radio unit, whose cells of a tick precede its arrivals; one
+-- tick before it at the distributed unit, whose arrivals precede its cells
 abbrev pub past_of : Side → ℤ → ℤ
 past_of Ru clock = clock
 past_of Du clock = clock -ℤ pos 1

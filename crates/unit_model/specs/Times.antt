@@ -4,7 +4,7 @@ use Rattle.fh_base.specs.declared.nanoseconds.TheConstants.{END_OF_TIME}
 use Rattle.std.specs.Int.{int_gap}
 use Rattle.unit_model.specs.Radiated.{first_clock}
 
--- 1,100 s in ticks: frames are sent in the first 1,000 s, and what follows from one comes within seconds
+-- 1,100 s in ticks: frames are sent in the first 1,000 s, and what follows from one occurs within seconds
 abbrev pub end_of_time : ℤ
 end_of_time = pos END_OF_TIME
 

@@ -17,7 +17,7 @@ sends_in ep slot symbol a =
     is_uplink a && ((a.ep == ep) && (same_slot a.slot slot && is_from a.symbol a.num_symbol symbol))
 
 -- the order of the messages of one symbol: by startPrbc, numPrbc, sectionId and filterIndex, as the commands carried them;
--- those that tie stand in the order in which they were accepted
+-- those that tie are in the order in which they were accepted
 abbrev pub is_before : Allocation → Allocation → Bool
 is_before a b =
     nat_lt a.start_prb b.start_prb || ((a.start_prb == b.start_prb)

@@ -48,7 +48,7 @@ pub fn fragment_counter(verdict: Verdict) -> Counter
     }
 }
 
-/// The counter of a cell that is reported, by whether its samples came.
+/// The counter of a cell that is reported, by whether its samples were received.
 pub fn block_counter(block: Option<[Wide; 12]>) -> Counter
     ensures { result ≡ block_counter block }
 {

@@ -7,7 +7,7 @@ use fh_base::{PrbSpan, Ticks};
 use uplane_sections::{UHead, USection};
 use window_config::EndpointConfig;
 
-/// One section of a U-plane message that became whole, without the samples of its PRBs, which come one by one.
+/// One section of a U-plane message that became complete, without the samples of its PRBs, which are given one by one.
 #[derive(Clone, Copy, Debug, PartialEq, Eq)]
 pub struct DataHeading {
     /// The endpoint's index in the configuration.

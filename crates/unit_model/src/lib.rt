@@ -1,7 +1,7 @@
 //! What both units of an open fronthaul make of the frames that arrive: the verdicts on sections, the claims that
 //! commands leave, the blocks that data give, what radiates and what the uplink is to send.
 //!
-//! The definitions stand in `specs/`, in the terms of O-RAN.WG4.CUS and eCPRI, over whole lists of arrivals with the
+//! The definitions are in `specs/`, in the terms of O-RAN.WG4.CUS and eCPRI, over complete lists of arrivals with the
 //! newest first; nothing in them is forgotten. The code has the types that they speak of, and the steps that every unit takes,
 //! each exactly its definition.
 #![tactic(auto)]

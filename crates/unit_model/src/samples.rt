@@ -5,7 +5,7 @@ ghost use Rattle.unit_model.specs.Radiated.{samples_under};
 use crate::cells::Block;
 use bfp_codec::Wide;
 
-/// The samples of a block, if it came under a section id.
+/// The samples of a block, if it was received under a section id.
 pub fn samples_under(id: u16, block: Option<Block>) -> Option<[Wide; 12]>
     ensures { result ≡ samples_under id block }
 {

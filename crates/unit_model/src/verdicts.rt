@@ -5,9 +5,9 @@
 pub enum CommandVerdict {
     /// Its section type, timeOffset, spacing or cpLength is not the endpoint's.
     Mismatch,
-    /// Its message came after the window of the symbol startSymbolId.
+    /// Its message was received after the window of the symbol startSymbolId.
     Late,
-    /// Its message came before that window.
+    /// Its message was received before that window.
     Early,
     /// It names PRBs that the carrier does not have.
     Range,
@@ -24,9 +24,9 @@ pub enum CommandVerdict {
 /// The verdict on a section of a U-plane message: the first that holds, in this order.
 #[derive(Clone, Copy, Debug, PartialEq, Eq)]
 pub enum DataVerdict {
-    /// Its message came after the window of its symbol.
+    /// Its message was received after the window of its symbol.
     Late,
-    /// Its message came before that window.
+    /// Its message was received before that window.
     Early,
     /// Each of its cells has a block already.
     Repeat,

@@ -66,7 +66,8 @@ landed_next tick h xs frame =
 
 -- ---- the frames so far
 
--- some of those that come to a unit at a tick were told, each with its delays, the unit took them, its meter was told them, and the rest is on its way
+-- some of those that are received at a unit at a tick were told, each with its delays, the unit took them, its meter was told them, and
+-- the rest is on its way
 pub record AreTold {A : Type 0} (grew : A → List Event → A → Type 0) (side : Side) (v : OnWay) (tick : ℤ) (c : Compensation)
     (x : Doings) (takes_old takes_now : Config → List Allocation → History → Type 0) (m : UnitMeter) (now : Way) (before after : A) : Type 0 where
   pub gone : List Arrival
@@ -135,7 +136,7 @@ module _ {A : Type 0} (grew : A → List Event → A → Type 0) (side : Side) (
         sym (ap (told_of_frames side c tick x) next.there ∙ told-append side c tick x so_far.gone (one ∷ next.comes)
         ∙ ap (λ (es : List Event). first ++ es) (told_next side has_then.results (results_of c tick has_then next.comes) one next.comes))
 
-    -- what was taken of this frame was taken behind those before it
+    -- what was taken of this frame was taken after those before it
     taken_behind : (stands : History → Type 0) (h : History) (told : List Event) → HasTaken stands side (landed tick h so_far.gone) told → HasTaken stands side h (first ++ told)
     taken_behind stands h told t = record {
       history = t.history;

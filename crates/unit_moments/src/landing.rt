@@ -44,7 +44,7 @@ fn take_in<U: TakesFrames>(
     }
 }
 
-/// Tells the air of a frame that arrives, and then gives it to the unit and to its meter; the delays that it makes known are told behind it.
+/// Tells the air of a frame that arrives, and then gives it to the unit and to its meter; the delays that it makes known are told after it.
 fn hear<U: TakesFrames, A: Air>(
     side: Side,
     at: Ticks,
@@ -74,7 +74,7 @@ fn hear<U: TakesFrames, A: Air>(
     tell_results(side, at, meter.results(), out)
 }
 
-/// Lets all frames land that come to a unit at a tick: those that were sent, and behind them the document's.
+/// Lets all frames land that are received at a unit at a tick: those that were sent, and after them the document's.
 ///
 /// # Errors
 ///

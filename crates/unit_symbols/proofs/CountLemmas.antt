@@ -47,7 +47,7 @@ capped_stand x y t n s p q r = omega (arith, p, q, r)
 sum_told : (all before both reported told : ℕ) → all ≡ before + both → both ≡ reported + told → all ≡ (before + reported) + told
 sum_told all before both reported told p q = omega (arith, p, q)
 
--- counters that stand at what was counted, of what came and of the cells that were reported, stand at that and the cells that were told
+-- counters that hold what was counted, of what was received and of the cells that were reported, hold that and the cells that were told
 pub stand_told : (old new : List ℕ) (before : List Counter) (reported told : List AirCell) → StandAt old (before ++ cells_counted reported) → CountsTold told old new
     → StandAt new (before ++ cells_counted (reported ++ told))
 stand_told old new before reported told stand counts k =

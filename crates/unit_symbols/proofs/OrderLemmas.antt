@@ -72,7 +72,7 @@ turn_between a b c =
 pub not_after : (a b : SymbolStart) → comes_before a b ≡ true → comes_before b a ≡ false
 not_after a b h = told_in_turn b a ∙ turn_asym a b (sym (told_in_turn a b) ∙ h)
 
--- a is not after b, and b comes before c
+-- a is not after b, and b is before c
 pub before_third : (a b c : SymbolStart) → comes_before b a ≡ false → comes_before b c ≡ true → comes_before a c ≡ true
 before_third a b c h k = told_in_turn a c ∙ turn_between a b c (sym (told_in_turn b a) ∙ h) (sym (told_in_turn b c) ∙ k)
 
@@ -82,11 +82,11 @@ comes_trans a b c h k = before_third a b c (not_after a b h) k
 pub not_before_itself : (a : SymbolStart) → comes_before a a ≡ false
 not_before_itself a = false_from_ne_true (comes_before a a) (λ h. let k = not_after a a h in cc)
 
--- what does not come before one symbol comes before none that is earlier
+-- what is not before one symbol is before none that is earlier
 pub not_before_earlier : (a b c : SymbolStart) → comes_before a c ≡ false → comes_before b c ≡ true → comes_before a b ≡ false
 not_before_earlier a b c p q = false_from_ne_true (comes_before a b) (λ h. let t = comes_trans a b c h q in cc)
 
--- what comes behind one symbol comes before none that is not behind it
+-- what is after one symbol is before none that is not after it
 pub not_before_later : (a b c : SymbolStart) → comes_before a b ≡ true → comes_before a c ≡ false → comes_before b c ≡ false
 not_before_later a b c p q = false_from_ne_true (comes_before b c) (λ h. let t = comes_trans a b c p h in cc)
 
@@ -99,7 +99,7 @@ or_rest false e r p q = let h = p refl in rw (h, q) refl
 at_once : (x y : ℤ) → x ≤ℤ y → int_lt x y ≡ false → int_eq x y ≡ true
 at_once x y h e = grind (arith, ints, Decides-int_eq)
 
--- of two symbols of a slot the one with the lesser number comes first
+-- of two symbols of a slot the one with the lesser number is first
 pub earlier_symbol : (a b : SymbolStart) → a.ep ≡ b.ep → a.slot ≡ b.slot → a.symbol < b.symbol → a.start.0 ≤ℤ b.start.0 → comes_before a b ≡ true
 earlier_symbol a b ep slot lt order =
     or_rest (int_lt a.start.0 b.start.0) (int_eq a.start.0 b.start.0) _ (at_once a.start.0 b.start.0 order)

@@ -30,7 +30,7 @@ later_not_before : (m x : SymbolStart) (found : Option SymbolStart) → comes_be
 later_not_before m x None p n = absurd n
 later_not_before m x (Some f) p n = not_before_later m x f p n
 
--- what comes before what was found, or is found first
+-- what is before what was found, or is found first
 earlier_keeps : (m x : SymbolStart) (found : Option SymbolStart) → is_earlier m found ≡ true → IsNotBefore x found → IsNotBefore x (Some m)
 earlier_keeps m x None e n = absurd n
 earlier_keeps m x (Some f) e n = not_before_earlier x m f n e
@@ -39,7 +39,7 @@ not_earlier : (m : SymbolStart) (found : Option SymbolStart) → is_earlier m fo
 not_earlier m None e = absurd (cc)
 not_earlier m (Some f) e = e
 
--- nothing that fits of these symbols comes before what was found
+-- nothing that fits of these symbols is before what was found
 pub searched_passed : (v : CellsValue) (fits : SymbolStart → Bool) (Over : SymbolStart → Type 0) (found : Option SymbolStart)
     → ((m : SymbolStart) → IsFitting v fits m → Over m → IsNotBefore m found) → Searched v fits Over found found
 searched_passed v fits Over found none = record {
@@ -53,7 +53,7 @@ passed_turn : (a b t : ℤ) (p q r : Bool) → t ≤ℤ a → (p ≡ true → q 
 passed_turn a b t true q r le h k e = let x = h refl in let y = k refl in rw (x, y) (grind (arith, ints, Decides-int_eq))
 passed_turn a b t false q r le h k e = grind (arith, ints, Decides-int_eq)
 
--- what starts at a tick that is passed does not come before it
+-- what starts at a tick that is passed is not before it
 not_before_passed : (m : SymbolStart) (found : Option SymbolStart) (ep : ℕ) (t : ℤ) → ep ≤ m.ep → t ≤ℤ m.start.0 → is_passed found ep t ≡ true → IsNotBefore m found
 not_before_passed m None ep t own le e = absurd (cc)
 not_before_passed m (Some f) ep t own le e =
@@ -107,7 +107,7 @@ module _ (v : CellsValue) (fits : SymbolStart → Bool) (p : SlotPlace) (place :
       subst (λ (y : SymbolStart). comes_before (start_in p n) y ≡ true) (sym (one x.symbol x s o refl))
       (earlier_symbol (start_in p n) (start_in p x.symbol) refl refl lt (symbols_in_order p.ring.now.endpoint.numerology p.slot n x.symbol (omega (arith, lt))))
 
-  -- none before a symbol fits, and it does not come before what was found: so does none of the slot's that fits
+  -- none before a symbol fits, and it is not before what was found: nor is any of the slot's that fits
   from_number : (n : ℕ) (found : Option SymbolStart) → NoneBelow v fits p.ep p.slot n → IsNotBefore (start_in p n) found
       → (x : SymbolStart) → IsFitting v fits x → InSlot p.ep p.slot x → IsNotBefore x found
   from_number n found none not x w o = elim (cases_lt x.symbol n) [
@@ -118,13 +118,13 @@ module _ (v : CellsValue) (fits : SymbolStart → Bool) (p : SlotPlace) (place :
     ]
   ]
 
-  -- a symbol does not come before what was found
+  -- a symbol is not before what was found
   pub searched_ended : (n : ℕ) (m : SymbolStart) (best : Option SymbolStart) → m ≡ start_in p n → NoneBelow v fits p.ep p.slot n → is_earlier m best ≡ false
       → Searched v fits (InSlot p.ep p.slot) best best
   searched_ended n m best is none e =
       searched_passed v fits (InSlot p.ep p.slot) best (from_number n best none (subst (λ (y : SymbolStart). IsNotBefore y best) is (not_earlier m best e)))
 
-  -- one fits, and none before it: it comes first of the slot's
+  -- one fits, and none before it: it is the first of the slot's
   pub searched_first : (n : ℕ) (m : SymbolStart) (best : Option SymbolStart) → m ≡ start_in p n → n < symbols_of p.ring.now.endpoint.numerology → NoneBelow v fits p.ep p.slot n
       → is_earlier m best ≡ true → fits m ≡ true → Searched v fits (InSlot p.ep p.slot) best (Some m)
   searched_first n m best is below none e fit = record {
@@ -148,14 +148,14 @@ passed_later : (found : Option SymbolStart) (a b : ℕ) (t s : ℤ) → is_passe
 passed_later None a b t s e lt = absurd (cc)
 passed_later (Some f) a b t s e lt = grind (arith, ints, Decides-int_eq)
 
--- what another endpoint has that does not come before the tick that leads
+-- what another endpoint has that is not before the tick that leads
 other_passed : (m : SymbolStart) (found : Option SymbolStart) (l : Lead) → (m.ep ≡ l.ep → ⊥) → IsNotAhead m l → is_passed found (l.ep + 1) l.start.0 ≡ true → IsNotBefore m found
 other_passed m found l other is passed = elim (cases_lt m.ep l.ep) [
   | inl below ↦ not_before_passed m found m.ep m.start.0 (omega arith) (omega (arith, ints)) (passed_later found (l.ep + 1) m.ep l.start.0 m.start.0 passed (grind (arith, ints, nat_tests, Decides-int_eq)))
   | inr past ↦ not_before_passed m found (l.ep + 1) l.start.0 (omega (arith, past, other)) (grind (arith, ints, Decides-int_eq)) passed
 ]
 
--- where the endpoint that leads has one that none of another endpoint comes before
+-- where the endpoint that leads has one that none of another endpoint precedes
 pub first_of_lead : (v : CellsValue) (fits : SymbolStart → Bool) (l : Lead) (found : Option SymbolStart) → IsLead v fits (length (endpoints_of v)) l
     → Searched v fits (OfEndpoint l.ep) None found → is_passed found (l.ep + 1) l.start.0 ≡ true → IsFirst v fits found
 first_of_lead v fits l found is s passed = first_by v fits found (s.fitting tt) (λ m w. elim (cases_eq m.ep l.ep) [

@@ -53,7 +53,7 @@ by_order_same true late given jobs h k = absurd (cc)
 by_order_same false true given jobs h k = absurd (cc)
 by_order_same false false given jobs h k = refl
 
--- ---- behind the message that was given
+-- ---- after the message that was given
 
 abbrev passed : JobCursor → NextJob → ℕ → JobCursor
 passed old n given = record { since = old.since; last = Some n.symbol; given = given }
@@ -64,7 +64,7 @@ nothing_before old n given m jobs h =
     (by_order_early (comes_before m n.symbol) (comes_before n.symbol m) given jobs h)
     ∙ nil_both (int_lt m.start.0 old.since.0)
 
--- all is left of a symbol that comes after one of which something is
+-- all is left of a symbol that follows one of which something is
 all_behind : (old : JobCursor) (last : Option SymbolStart) (given : ℕ) (n m : SymbolStart) (jobs rest some : List UplinkJob) (job : UplinkJob) → left_behind given last n some ≡ job ∷ rest
     → comes_before n m ≡ true → left_behind given last m jobs ≡ jobs
 all_behind old None given n m jobs rest some job h k = refl

@@ -59,7 +59,7 @@ pub record IsFirstJob (v : CellsValue) (cursor : JobCursor) (n : NextJob) : Type
   pub few : length (cells_uplink v n.symbol.ep n.symbol.slot) ≤ SLOT_SECTIONS
   pub before : (m : SymbolStart) → IsSymbol v m → comes_before m n.symbol ≡ true → left_in (cells_uplink v) cursor m ≡ []
 
--- what is left once it was given: the rest of its symbol, and the same of all that come after
+-- what is left once it was given: the rest of its symbol, and the same of all that follow
 pub record GivenOne (v : CellsValue) (old : JobCursor) (n : NextJob) (new : JobCursor) : Type 0 where
   pub since : new.since ≡ old.since
   pub last : new.last ≡ Some n.symbol

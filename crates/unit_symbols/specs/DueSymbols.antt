@@ -59,7 +59,7 @@ pub record ReportsTold (m : SymbolStart) (told : List AirCell) (old new : CellsV
   pub delays : new.delays ≡ old.delays
   pub endpoints : endpoints_of new ≡ endpoints_of old
 
--- and counted, by whether their samples came: each counter, which is a number of 64 bits
+-- and counted, by whether their samples were received: each counter, which is a number of 64 bits
 abbrev pub CountsTold : List AirCell → List ℕ → List ℕ → Type 0
 CountsTold told old new = (k : Counter) → count_of old k < 2 ^ 64 → count_of new k ≡ capped (count_of old k + times (cells_counted told) k)
 

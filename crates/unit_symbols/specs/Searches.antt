@@ -7,17 +7,17 @@ use Rattle.unit_cells.specs.Cells.{CellsValue, cells_index}
 use Rattle.unit_symbols.specs.Symbols.{HasNone, IsFitting, IsFound}
 use Rattle.unit_symbols.specs.declared.finding.Lead.{Lead}
 
--- a symbol comes before what was found, or nothing was
+-- a symbol is before what was found, or nothing was
 abbrev pub is_earlier : SymbolStart → Option SymbolStart → Bool
 is_earlier m None = true
 is_earlier m (Some found) = comes_before m found
 
--- something was found, and no symbol of an endpoint that starts at this tick or later comes before it
+-- something was found, and no symbol of an endpoint that starts at this tick or later is before it
 abbrev pub is_passed : Option SymbolStart → ℕ → ℤ → Bool
 is_passed None ep t = false
 is_passed (Some found) ep t = int_lt found.start.0 t || (int_eq found.start.0 t && nat_lt found.ep ep)
 
--- something is found, and this symbol does not come before it
+-- something is found, and this symbol is not before it
 abbrev pub IsNotBefore : SymbolStart → Option SymbolStart → Type 0
 IsNotBefore m found = IsFound (λ f. comes_before m f ≡ false) found
 

@@ -3,7 +3,7 @@ use fh_base::Ticks;
 use unit_model::{SymbolStart, UplinkJob};
 
 /// How far the uplink messages that a radio unit is to send were given: all of symbols that start before `since`, all of the
-/// symbols that come before `last`, and `given` of `last`.
+/// symbols that are before `last`, and `given` of `last`.
 #[derive(Clone, Copy, Debug, PartialEq, Eq)]
 pub struct JobCursor {
     pub since: Ticks,

@@ -12,7 +12,7 @@ use slot_rings::SlotRing;
 use unit_cells::UnitCells;
 use unit_model::{SymbolStart, comes_before};
 
-/// Whether a symbol comes before what was found, or nothing was.
+/// Whether a symbol is before what was found, or nothing was.
 fn is_earlier(m: &SymbolStart, found: &Option<SymbolStart>) -> bool
     ensures { result ≡ is_earlier m.now found.now }
 {
@@ -22,7 +22,7 @@ fn is_earlier(m: &SymbolStart, found: &Option<SymbolStart>) -> bool
     }
 }
 
-/// Whether no symbol of an endpoint that starts at this tick or later comes before what was found.
+/// Whether no symbol of an endpoint that starts at this tick or later is before what was found.
 fn is_passed(found: &Option<SymbolStart>, ep: usize, start: Ticks) -> bool
     ensures { result ≡ is_passed found.now ep start.0 }
 {
@@ -32,7 +32,7 @@ fn is_passed(found: &Option<SymbolStart>, ep: usize, start: Ticks) -> bool
     }
 }
 
-/// The first of the best symbol so far and those of a slot that fit. After the first one of the slot, or one that comes after the
+/// The first of the best symbol so far and those of a slot that fit. After the first one of the slot, or one that is after the
 /// best, none is looked at, since symbols start one after the other.
 fn first_in_slot<'c, T: SymbolTest<'c>>(
     cells: &'c UnitCells,
@@ -106,7 +106,7 @@ fn first_in_places<'c, T: SymbolTest<'c>>(
     }
 }
 
-/// The same, by a look at no place where none of the endpoint's symbols comes before the best one.
+/// The same, by a look at no place where none of the endpoint's symbols is before the best one.
 fn first_in_ring<'c, T: SymbolTest<'c>>(
     cells: &'c UnitCells,
     test: &T,

@@ -84,10 +84,10 @@ const SECOND: Ticks = Ticks(14_899_200_000);
 
 const THIRD: Ticks = Ticks(14_976_000_000);
 
-/// 10.1 ms, which is 0.1 ms behind the start of frame 1.
+/// 10.1 ms, which is 0.1 ms after the start of frame 1.
 const BEHIND: Ticks = Ticks(15_513_600_000);
 
-/// A unit that nothing came to.
+/// A unit that received nothing.
 fn made(alloc: Global, side: Side, config: &Config) -> Result<UnitMemory, NoMemory>
     requires { IsConfig config.now }
     ensures { IfOk result (λ m. (at : SpecSide) × (arrivals : List Arrival) × Holds at config.now (pos 14745600000) m arrivals []) }
@@ -95,7 +95,7 @@ fn made(alloc: Global, side: Side, config: &Config) -> Result<UnitMemory, NoMemo
     UnitMemory::make(alloc, side, config)
 }
 
-/// What becomes of a frame that comes after all that came by `before`.
+/// What becomes of a frame that is received after all that was received by `before`.
 fn deliver(
     memory: &mut UnitMemory,
     config: &Config,
@@ -112,7 +112,7 @@ fn deliver(
     memory.arrive(at, frame).delivered
 }
 
-/// Whether these counters alone stand above 0, at these values.
+/// Whether these counters alone are above 0, at these values.
 fn has_counted(counters: &Counters, wanted: &[(Counter, u64)]) -> bool {
     for counter in Counter::all() {
         let mut value = 0;
@@ -293,7 +293,7 @@ fn uplink_data_come_to_the_du(rt: HostRuntime) -> Result<(), Fail> {
         read(1)
     );
     assert_eq!(rt; second_sample(&memory.cells, &e), None);
-    // the same in another message, 0.1 ms behind the symbol's start
+    // the same in another message, 0.1 ms after the symbol's start
     let mut later = UPLINK_DATA;
     later[6] = 1;
     assert_eq!(rt;

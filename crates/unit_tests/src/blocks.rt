@@ -1,5 +1,5 @@
 // Messages written out by hand from the layout tables. One endpoint of 4 PRBs at 30 kHz, whose frame 1 begins at 10 ms: data are on time
-// from 345 to 134 us before their symbol, and symbol 1 begins 36.2 us behind symbol 0.
+// from 345 to 134 us before their symbol, and symbol 1 begins 36.2 us after symbol 0.
 ghost use Rattle.std.specs.Prelude.{◌≡◌, ◌<◌, List, [], ◌∷◌};
 ghost use Rattle.fh_base.specs.Numbering.{slots_of};
 ghost use Rattle.unit_cells.specs.Cells.{endpoints_of};

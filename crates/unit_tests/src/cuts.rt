@@ -87,7 +87,7 @@ fn of_both() -> [Option<Block>; 8] {
     blocks
 }
 
-/// Every place behind a byte.
+/// Every place after a byte.
 fn each_byte() -> [usize; 112] {
     let mut ends = [0; 112];
     for k in 0..112usize {
@@ -118,7 +118,7 @@ fn claimed(alloc: Global, config: &Config, e: EndpointConfig) -> Result<UnitCell
     Ok(cells)
 }
 
-/// How the cells stand.
+/// The state of the cells.
 fn outcome_of(cells: &UnitCells, counters: &Counters, e: &EndpointConfig) -> Outcome
     requires listed { endpoints_of cells.now ≡ e.now ∷ [] }
     requires slots { 0 < slots_of e.now.numerology }
@@ -136,7 +136,7 @@ fn outcome_of(cells: &UnitCells, counters: &Counters, e: &EndpointConfig) -> Out
     }
 }
 
-/// What becomes of a message whose pieces end at these places, and come so many nanoseconds behind 9 ms.
+/// What becomes of a message whose pieces end at these places, and are received so many nanoseconds after 9 ms.
 fn taken(
     alloc: Global,
     config: &Config,
@@ -192,7 +192,7 @@ fn see(
     Ok(())
 }
 
-/// Both sections are taken, in whichever pieces they come.
+/// Both sections are taken, in whichever pieces they are received.
 #[test]
 fn sections_fill_the_same_cells(rt: HostRuntime) -> Result<(), Fail> {
     let n = Numerology::ordinary(1).expect(&rt, "30 kHz");
@@ -214,7 +214,8 @@ fn sections_fill_the_same_cells(rt: HostRuntime) -> Result<(), Fail> {
     Ok(())
 }
 
-/// The message comes 310 us before symbol 0, and 346.2 us before symbol 1: the second section is early, in whichever pieces it comes.
+/// The message is received 310 us before symbol 0, and 346.2 us before symbol 1: the second section is early, in whichever pieces
+/// it is received.
 #[test]
 fn each_section_has_its_own_class(rt: HostRuntime) -> Result<(), Fail> {
     let n = Numerology::ordinary(1).expect(&rt, "30 kHz");
@@ -232,7 +233,7 @@ fn each_section_has_its_own_class(rt: HostRuntime) -> Result<(), Fail> {
 }
 
 /// A message that ends a byte early, and one whose second section has every other PRB (rb 1): each is refused in whichever pieces it
-/// comes, and no cell has a block.
+/// is received, and no cell has a block.
 #[test]
 fn a_refused_message_fills_no_cell(rt: HostRuntime) -> Result<(), Fail> {
     let n = Numerology::ordinary(1).expect(&rt, "30 kHz");

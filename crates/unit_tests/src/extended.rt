@@ -56,7 +56,7 @@ fn command_of(prb: u8) -> [u8; 24] {
     frame
 }
 
-/// A PRB of the symbol for which nothing came.
+/// A PRB of the symbol for which nothing was received.
 fn missing(prb: u16) -> AirCell {
     AirCell {
         prb,

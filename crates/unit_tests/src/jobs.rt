@@ -27,7 +27,7 @@ fn job(symbol: u8, section: u16, start_prb: u16) -> UplinkJob {
     }
 }
 
-/// By startPrbc, and those that tie each once, though the later PRB came first.
+/// By startPrbc, and those that tie each once, though the later PRB was accepted first.
 #[test]
 fn messages_of_a_symbol(rt: HostRuntime) -> Result<(), Fail> {
     let n = Numerology::ordinary(1).expect(&rt, "30 kHz");

@@ -1,6 +1,6 @@
 //! Tests of the radio unit in fixed memory, by the public calls of `ru_buffers` and `unit_symbols`.
 //!
-//! They stand beside these crates, which are proved without them. `samples` makes what the tests need, and `steps` calls the unit and
+//! They are beside these crates, which are proved without them. `samples` makes what the tests need, and `steps` calls the unit and
 //! keeps what its calls require.
 //!
 //! Tests of the memory of units by the public calls of `unit_model`, `slot_rings`, `unit_memory` and `unit_symbols`, which are proved

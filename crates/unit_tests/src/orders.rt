@@ -1,5 +1,5 @@
 // One endpoint of 4 PRBs at 30 kHz, and six frames of one cell in each of their 720 orders: the unit in fixed memory agrees with the
-// plain program of `plain_units`, which keeps all that came.
+// plain program of `plain_units`, which keeps all that was received.
 ghost use Rattle.std.specs.Prelude.{◌≡◌, ◌<◌, IfOk, All};
 ghost use Rattle.window_config.specs.Configs.{IsConfig};
 ghost use Rattle.unit_model.specs.Proper.{IsTime};
@@ -35,7 +35,7 @@ const UPLINK: [u8; 24] = [
     0x00, 0x50, 0x01, 0x01, 0xff, 0xf2, 0x00, 0x00,
 ];
 
-/// When the six frames come: the first five on time, the last too late.
+/// When the six frames are received: the first five on time, the last too late.
 fn time_of(place: usize) -> Ticks
     ensures { IsTime result.0 }
 {
@@ -121,7 +121,7 @@ fn frames(alloc: Global, number: u32) -> Result<Vec<TimedFrame>, NoMemory>
     Ok(frames)
 }
 
-/// Lets the unit's clock come to a frame, and delivers it.
+/// Lets the unit's clock reach a frame, and delivers it.
 fn one_frame(unit: &mut Ru, f: &TimedFrame, air: &mut MemoryAir) -> Result<(), AirFault>
     requires unit { StandsForSome unit.old }
     requires given { HasGivenPast unit.old }
@@ -133,7 +133,7 @@ fn one_frame(unit: &mut Ru, f: &TimedFrame, air: &mut MemoryAir) -> Result<(), A
     Ok(())
 }
 
-/// Delivers frames, each when the unit's clock comes to it.
+/// Delivers frames, each when the unit's clock reaches it.
 fn all_frames(unit: &mut Ru, frames: &[TimedFrame], air: &mut MemoryAir) -> Result<(), AirFault>
     requires unit { StandsForSome unit.old }
     requires given { HasGivenPast unit.old }

@@ -96,7 +96,7 @@ fn orders_uplink_sections(rt: HostRuntime) -> Result<(), Fail> {
     let n = Numerology::ordinary(1).expect(&rt, "30 kHz");
     let e = wide(n);
     let sorted = [uplink(e, 2, 1), uplink(e, 5, 1)];
-    // one that ties came before those that stand, so it stands before its like
+    // one that ties was before those in the list, so it is before its like
     assert_eq!(rt; place_of(&uplink(e, 5, 1), &sorted), 1);
     assert_eq!(rt; place_of(&uplink(e, 2, 0), &sorted), 0);
     assert_eq!(rt; place_of(&uplink(e, 9, 0), &sorted), 2);

@@ -194,7 +194,7 @@ fn cell(side: Side, section: u16) -> AirCell {
     }
 }
 
-/// Whether these counters alone stand above 0, at these values.
+/// Whether these counters alone are above 0, at these values.
 fn has_counted(counters: &Counters, wanted: &[(Counter, u64)]) -> bool {
     for counter in Counter::all() {
         let mut value = 0;

@@ -1,4 +1,4 @@
-// Fragments that come to cells: what `take_message` requires holds after the calls before it.
+// Fragments that are received for cells: what `take_message` requires holds after the calls before it.
 ghost use Rattle.std.specs.Prelude.{◌≡◌, ◌<◌, List, [], ◌∷◌};
 ghost use Rattle.bfp_codec.specs.Layout.{HasWidth};
 ghost use Rattle.ecpri_fragments.specs.Assemblies.{endpoints_of as assembly_endpoints};
@@ -11,7 +11,7 @@ use unit_cells::UnitCells;
 use unit_memory::take_message;
 use window_config::EndpointConfig;
 
-/// Treats a message whose fragments came at times that a unit may be given.
+/// Treats a message whose fragments were received at times that a unit may be given.
 fn treat(cells: &mut UnitCells, counters: &mut Counters, e: &EndpointConfig, lease: &Lease<'_>)
     requires listed { endpoints_of cells.old ≡ e.now ∷ [] }
     requires width { HasWidth e.now.format.method }
@@ -24,7 +24,7 @@ fn treat(cells: &mut UnitCells, counters: &mut Counters, e: &EndpointConfig, lea
     }
 }
 
-/// Takes a fragment that comes so many nanoseconds behind 9 ms, and treats the message that it makes whole.
+/// Takes a fragment that is received so many nanoseconds after 9 ms, and treats the message that it makes complete.
 pub(crate) fn receive(
     assembly: &mut Assembly,
     cells: &mut UnitCells,

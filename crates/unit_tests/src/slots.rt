@@ -130,7 +130,7 @@ fn in_turn(unit: &mut Ru, many: u32, air: &mut MemoryAir) -> Result<(), AirFault
     Ok(())
 }
 
-/// A slot at 240 kHz begins: the command of the 48th after it comes, 3 ms before its slot, and the data of the 16th, 1 ms before.
+/// A slot at 240 kHz begins: the command of the 48th after it is received, 3 ms before its slot, and the data of the 16th, 1 ms before.
 fn one_short_slot(unit: &mut Ru, k: u32, air: &mut MemoryAir) -> Result<(), AirFault>
     requires unit { StandsForSome unit.old }
     requires given { HasGivenPast unit.old }
@@ -155,7 +155,7 @@ fn short_in_turn(unit: &mut Ru, many: u32, air: &mut MemoryAir) -> Result<(), Ai
     Ok(())
 }
 
-/// A slot passes at 30 kHz, and in each hundredth a command for the next one comes.
+/// A slot passes at 30 kHz, and in each hundredth a command for the next one is received.
 fn one_of_many(unit: &mut Ru, k: u32, air: &mut MemoryAir) -> Result<(), AirFault>
     requires unit { StandsForSome unit.old }
     requires given { HasGivenPast unit.old }

@@ -22,7 +22,7 @@ pub(crate) const READ: Delivered = Delivered {
     refusal: None,
 };
 
-/// A unit that nothing came to.
+/// A unit that received nothing.
 pub(crate) fn made(alloc: Global, config: &Config) -> Result<Ru, NoMemory>
     requires { IsConfig config.now }
     ensures unit { IfOk result (λ u. StandsForSome u) }
@@ -85,7 +85,7 @@ pub(crate) fn stops(unit: &mut Ru, to: Ticks, air: &mut MemoryAir) -> bool
     }
 }
 
-/// Whether a time comes by another.
+/// Whether a time is not after another.
 fn is_by(a: Ticks, b: Ticks) -> bool
     ensures { result ≡ true → a.0 ≤ℤ b.0 }
 {
@@ -136,7 +136,7 @@ pub(crate) fn cell_heard(air: &MemoryAir, place: usize) -> Option<AirCell> {
     }
 }
 
-/// Whether these counters alone stand above 0, at these values.
+/// Whether these counters alone are above 0, at these values.
 pub(crate) fn has_counted(counters: &Counters, wanted: &[(Counter, u64)]) -> bool {
     for counter in Counter::all() {
         let mut value = 0;

@@ -1,5 +1,5 @@
 // One endpoint of 4 PRBs at 30 kHz, whose frame 1 begins at 10 ms. A downlink command is on time from 470 to 259 us before its
-// symbol. Commands name PRBs 0 and 1 in symbols 0 and 2 of frame 1; data come for PRB 0 of symbol 0.
+// symbol. Commands name PRBs 0 and 1 in symbols 0 and 2 of frame 1; data are received for PRB 0 of symbol 0.
 ghost use Rattle.std.specs.Prelude.{◌≡◌, ◌<◌, ◌≤ℤ◌, pos, List, [], ◌∷◌, true, IfSome};
 ghost use Rattle.fh_base.specs.Numbering.{slots_of, symbols_of};
 ghost use Rattle.air_source.specs.declared.events.Side.TheVariants.{Ru};
@@ -20,7 +20,7 @@ use unit_symbols::{first_left, report};
 use uplane_sections::{UHead, USection};
 use window_config::{Delays, EndpointConfig};
 
-/// A downlink command for PRBs 0 and 1 in one symbol of frame 1, under section 5, that comes at 9.65 ms.
+/// A downlink command for PRBs 0 and 1 in one symbol of frame 1, under section 5, that is received at 9.65 ms.
 fn command(e: EndpointConfig, symbol: u8, mask: u16) -> ControlSection
     requires { symbol < 14 }
     ensures ep { result.ep ≡ 0 }

@@ -1,4 +1,4 @@
--- The bytes of a message that stands in pieces, from a place on, and a walker that is fed the rest of a piece.
+-- The bytes of a message that is in pieces, from a place on, and a walker that is fed the rest of a piece.
 use Rattle.std.proofs.Common.{◌≡◌, ◌≢◌, subst, ℕ, zero, suc, ◌+◌, ◌-◌, ◌*◌, ◌<◌, ◌≤◌, ◌⊎◌, inl, inr, List, [], ◌++◌, length, take, drop, min, refl, sym, ap, ◌∙◌, arith, add-one, append_assoc, length-append, length-drop}
 use Rattle.std.proofs.lemmas.List.{take-append-drop, take_all, drop-drop, length-take, get_or_past}
 use Rattle.std.proofs.Math.Seq.{drop-cons}
@@ -40,17 +40,17 @@ joined_from ps k =
       | inr h ↦ rw (drop_of_length-le ps h, no_piece ps k h, drop_of_length-le ps (let b : length ps ≤ k + 1 = omega arith in b)) refl
     ]
 
--- at the start of the first piece all bytes are to come
+-- at the start of the first piece all bytes are to follow
 pub from_start : (ps : List (List ℕ)) → bytes_from ps 0 0 ≡ joined ps
 from_start ps = sym (joined_from ps 0)
 
--- behind the last piece nothing comes
+-- after the last piece nothing follows
 pub at_end : (ps : List (List ℕ)) (k at : ℕ) → length ps ≤ k → bytes_from ps k at ≡ []
 at_end ps k at h =
     let none : length (piece_of ps k) ≤ at = rw (no_piece ps k h) (omega arith) in
     rw (drop_of_length-le (piece_of ps k) none, drop_of_length-le ps (let b : length ps ≤ k + 1 = omega arith in b)) refl
 
--- what is used of the rest of a piece, and what comes behind it
+-- what is used of the rest of a piece, and what is after it
 pub used_of : (ps : List (List ℕ)) (k at used : ℕ) →
     bytes_from ps k at ≡ take used (take (length (piece_of ps k) - at) (drop at (piece_of ps k))) ++ bytes_from ps k (at + used)
 used_of ps k at used =
@@ -62,7 +62,7 @@ used_of ps k at used =
     ∙ ap (λ (xs : List ℕ). take used (drop at p) ++ (xs ++ behind)) (drop-drop used at p)
     ∙ ap (λ (xs : List ℕ). take used xs ++ bytes_from ps k (at + used)) (sym all)
 
--- where all of a piece is used, what comes is what begins with the next one
+-- where all of a piece is used, what follows is what begins with the next one
 pub skipped : (ps : List (List ℕ)) (k at : ℕ) → length (piece_of ps k) ≤ at → bytes_from ps (k + 1) 0 ≡ bytes_from ps k at
 skipped ps k at h =
     sym (joined_from ps (k + 1)) ∙ ap (λ (xs : List ℕ). xs ++ joined (drop (k + 1) ps)) (sym (drop_of_length-le (piece_of ps k) h))
@@ -81,7 +81,7 @@ part_skipped ps k at h =
 
 -- ---- the walker
 
--- of the bytes from a place on a walker tells what it tells of the rest of the piece, and then what it tells behind that
+-- of the bytes from a place on a walker tells what it tells of the rest of the piece, and then what it tells after that
 pub fed : (old new : UWalker) (ps : List (List ℕ)) (k at used : ℕ) (items : List Item) →
     Tells old new (take used (take (length (piece_of ps k) - at) (drop at (piece_of ps k)))) items →
     tells old (bytes_from ps k at) ≡ after items (tells new (bytes_from ps k (at + used)))
@@ -103,7 +103,7 @@ at_most p at =
       | inr h ↦ rw (drop_of_length-le p h, drop_of_length-le p (let b : length p ≤ min at (length p) = omega (arith, h) in b)) refl
     ]
 
--- the rest of a piece, and what begins behind it
+-- the rest of a piece, and what begins after it
 pub passed_of : (ps : List (List ℕ)) (k at from : ℕ) (p : List ℕ) → p ≡ piece_of ps k → from ≡ min at (length p) →
     bytes_from ps k at ≡ take (length p - from) (drop from p) ++ bytes_from ps (k + 1) 0
 passed_of ps k at from p e is =
@@ -114,7 +114,7 @@ passed_of ps k at from p e is =
     ∙ ap (λ (xs : List ℕ). xs ++ behind) (sym (all ∙ same))
     ∙ ap (λ (xs : List ℕ). take (length p - from) (drop from p) ++ xs) (joined_from ps (k + 1))
 
--- a walker that passed the rest of a piece tells behind it the refusal that it told before
+-- a walker that passed the rest of a piece tells after it the refusal that it told before
 pub passed : (old new : UWalker) (ps : List (List ℕ)) (k at from : ℕ) (p : List ℕ) → p ≡ piece_of ps k → from ≡ min at (length p) →
     ((rest : List ℕ) → (tells new rest).refusal ≡ (tells old (take (length p - from) (drop from p) ++ rest)).refusal) →
     (tells new (bytes_from ps (k + 1) 0)).refusal ≡ (tells old (bytes_from ps k at)).refusal

@@ -1,4 +1,4 @@
--- The items of a message that is not refused: each test was passed, and each PRB came.
+-- The items of a message that is not refused: each test was passed, and each PRB was received.
 use Rattle.std.proofs.Common.{◌≡◌, ℕ, zero, suc, ◌+◌, ◌-◌, ◌*◌, ◌≤◌, Bool, false, cond, List, [], ◌∷◌, ◌++◌, length, drop, None, refl, sym, ap, subst, ◌∙◌, arith, length-drop}
 use Rattle.std.specs.Prelude.{nat_lt, nat_le, not, ◌&&◌, ◌||◌, ◌==◌}
 use Rattle.std.proofs.lemmas.Bool.Decides.{nat_tests}
@@ -19,7 +19,7 @@ use Rattle.uplane_messages.specs.Whole.{AreSections, IsWhole}
 use Rattle.fh_base.proofs.Orders.{not_lt, not_le, neither_le}
 use Rattle.uplane_sections.proofs.Refusing.{passes, refusal_at}
 
--- where no block is to come, the number of the next one says nothing
+-- where no block is to follow, the number of the next one says nothing
 any_number : (prbs : ℕ) (shape : Shape) (p q : ℕ) (items : List Item) → AreSections prbs shape p 0 items → AreSections prbs shape q 0 items
 any_number prbs shape p q [] h = h
 any_number prbs shape p q (Head head ∷ items) h = h

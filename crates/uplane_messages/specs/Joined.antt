@@ -1,4 +1,4 @@
--- The bytes of a message that stands in pieces.
+-- The bytes of a message that is in pieces.
 use Rattle.std.specs.Prelude.{ℕ, ◌+◌, List, [], ◌++◌, drop, slice_index_or}
 use Rattle.ecpri_fragments.specs.declared.assembly.Lease.{Lease}
 use Rattle.ecpri_fragments.specs.Assemblies.{message_of}

@@ -23,7 +23,7 @@ telling_of walk = tells walk.walker (bytes_from (pieces_of (lease_of walk)) walk
 abbrev pub left_of : DataWalk → List Item
 left_of walk = (telling_of walk).items
 
--- the refusal that stands behind them
+-- the refusal that follows them
 abbrev pub refusal_of : DataWalk → Option URefusal
 refusal_of walk = (telling_of walk).refusal
 
@@ -44,7 +44,7 @@ GivesItem s r t =
     MatchOption r (NothingLeft (left_of s) (left_of t)) (TellsFirst (left_of s) (left_of t))
     × (refusal_of t ≡ refusal_of s) × (lease_of t ≡ lease_of s)
 
--- the message ends here, or is refused already: what comes changes nothing
+-- the message ends here, or is refused already: what follows changes nothing
 abbrev pub IsAtEnd : DataWalk → Type 0
 IsAtEnd walk = telling_of walk ≡ tells walk.walker []
 
@@ -54,11 +54,11 @@ first_of_pieces [] [] = []
 first_of_pieces [] (p ∷ ps) = first_of_pieces p ps
 first_of_pieces (b ∷ bytes) ps = b ∷ bytes
 
--- the bytes that come next and stand in one piece
+-- the bytes that are next and are in one piece
 abbrev pub next_part : DataWalk → List ℕ
 next_part walk = first_of_pieces (drop walk.at (piece_of (pieces_of (lease_of walk)) walk.piece)) (drop (walk.piece + 1) (pieces_of (lease_of walk)))
 
--- how many packed PRBs come next that lie whole in that piece
+-- how many packed PRBs are next that lie completely in that piece
 abbrev pub run_in : DataWalk → ℕ
 run_in walk = run_of walk.walker (length (next_part walk))
 

@@ -12,7 +12,7 @@ pub record IsSectionAdmitted (prbs : ℕ) (shape : Shape) (s : USection) : Type 
   pub symbol : s.symbol < shape.symbols
   pub within : is_outside prbs s.start_prb s.num_prb ≡ false
 
--- n blocks, whose PRB numbers go up by one from `prb` on, and behind them sections, each with just as many blocks as it
+-- n blocks, whose PRB numbers go up by one from `prb` on, and after them sections, each with just as many blocks as it
 -- has PRBs, from its first PRB on
 abbrev pub AreSections : ℕ → Shape → ℕ → ℕ → List Item → Type 0
 AreSections prbs shape prb n [] = n ≡ 0

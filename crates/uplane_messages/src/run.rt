@@ -1,7 +1,7 @@
 //! Packed PRBs of a section.
 use bfp_codec::Method;
 
-/// The packed PRBs of a section that come next and lie whole in one piece of the message, one behind the other.
+/// The packed PRBs of a section that are next and lie completely in one piece of the message, one after the other.
 #[derive(Clone, Copy)]
 pub struct DataRun<'a> {
     /// How they are packed; each has as many bytes as `block_len` says for it.
@@ -10,7 +10,7 @@ pub struct DataRun<'a> {
     pub prb: u16,
     /// How many there are.
     pub count: u16,
-    /// All their bytes, where they stand in the piece.
+    /// All their bytes, where they are in the piece.
     pub packed: &'a [u8],
 }
 

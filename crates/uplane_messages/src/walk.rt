@@ -11,10 +11,10 @@ use ecpri_fragments::Lease;
 use fh_base::Shape;
 use uplane_sections::{UFeed, URefusal, UWalker};
 
-/// What a whole U-plane message tells, in order, read where its pieces stand
+/// What a complete U-plane message tells, in order, read where its pieces are
 /// (O-RAN.WG4.CUS, clause 8.3.2).
 ///
-/// Each item is [`UFeed::Head`], [`UFeed::Section`] or [`UFeed::Block`]. The walk ends behind the
+/// Each item is [`UFeed::Head`], [`UFeed::Section`] or [`UFeed::Block`]. The walk ends after the
 /// last of them, where the message ends or is refused; [`refusal`](DataWalk::refusal) says which.
 #[derive(Clone, Copy)]
 pub struct DataWalk<'a> {
@@ -75,7 +75,7 @@ impl<'a> DataWalk<'a> {
         self.at = 0;
     }
 
-    /// Goes to the next piece of which bytes are left, or behind the last one.
+    /// Goes to the next piece of which bytes are left, or after the last one.
     fn skip_used(&mut self)
         ensures telling { telling_of self.new ≡ telling_of self.old }
         ensures lease { lease_of self.new ≡ lease_of self.old }
@@ -89,8 +89,8 @@ impl<'a> DataWalk<'a> {
         }
     }
 
-    /// The packed PRBs of a section that come next and lie whole in one piece, where they stand: they are given by this call, and
-    /// none of them is unpacked. There are none where another item comes next, and where the next PRB is cut by the pieces: then
+    /// The packed PRBs of a section that are next and lie completely in one piece, where they are: they are given by this call, and
+    /// none of them is unpacked. There are none where another item is next, and where the next PRB is cut by the pieces: then
     /// `next` goes on.
     pub fn run(&mut self) -> DataRun<'a>
         ensures gives { GivesRun self.old result self.new }
@@ -119,8 +119,8 @@ impl<'a> DataWalk<'a> {
         }
     }
 
-    /// The packed PRB of a section that comes next, wherever the pieces cut it: it is given by this call, and `joined` lends its
-    /// bytes. None where another item comes next, which `next` gives, and where the message ends inside of it.
+    /// The next packed PRB of a section, wherever the pieces cut it: it is given by this call, and `joined` lends its
+    /// bytes. None where another item is next, which `next` gives, and where the message ends inside of it.
     pub fn join(&mut self) -> Option<JoinedPrb>
         ensures gives { GivesJoined self.old result self.new }
         ensures width { IfSome result (λ joined. HasWidth joined.method) }

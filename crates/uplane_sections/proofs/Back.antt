@@ -80,7 +80,7 @@ packed_back format prbs shape method symbol at prb n packed rest h =
     let b = behind format prbs shape (packed ++ rest) (length packed) 0 at symbol (n * length_of method) (omega arith) (omega arith) in
     rw (blocks_back method prb n packed rest h, b, drop_at packed rest (length packed) refl, le-ltb (length rest) 0 (omega arith)) refl
 
--- the headers of a section, with other bytes behind them
+-- the headers of a section, with other bytes after them
 headers_back : (format : Format) (prbs : ℕ) (shape : Shape) (s : USection) (headers rest : List ℕ) (at before : ℕ) → length headers ≡ header_size format → WritesSection format s headers → IsAdmitted prbs shape before s
     → sections format prbs shape at before 0 (headers ++ rest) ≡ in_section format prbs shape (at + length headers) s rest
 headers_back format prbs shape s headers rest at before len w a =

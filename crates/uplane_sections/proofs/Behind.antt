@@ -1,4 +1,4 @@
--- What the definition makes of a unit and of what stands behind it.
+-- What the definition makes of a unit and of what is after it.
 use Rattle.std.proofs.Common.{◌≡◌, ℕ, zero, suc, ◌+◌, ◌-◌, ◌*◌, ◌<◌, ◌≤◌, inl, inr, cond, ltb, List, [], ◌∷◌, ◌++◌, length, drop, refl, ap, arith, length-append, length-drop, zero-add, add-zero}
 use Rattle.std.proofs.lemmas.List.{take_at, drop_at, get_or_append_left}
 use Rattle.std.proofs.lemmas.Bool.{lt-ltb, le-ltb, cases_lt}
@@ -19,7 +19,7 @@ pub field_front : (xs rest : List ℕ) (i n : ℕ) → i + n ≤ 8 * length xs �
 field_front xs rest i n h = field_same (xs ++ rest) xs i n (λ k low high. get_or_append_left xs rest 0 k (omega arith))
 
 module _ (format : Format) (prbs : ℕ) (shape : Shape) where
-  -- behind bytes that belong to a section that was read
+  -- after bytes that belong to a section that was read
   pub skip : (k n at symbol : ℕ) (bytes : List ℕ) → k ≤ length bytes → sections format prbs shape at symbol (k + n) bytes ≡ sections format prbs shape (at + k) symbol n (drop k bytes)
   skip zero n at symbol bytes h = rw (zero-add, add-zero) refl
   skip (suc k) n at symbol [] h = absurd (omega arith)
@@ -28,7 +28,7 @@ module _ (format : Format) (prbs : ℕ) (shape : Shape) where
       let f : at + 1 + k ≡ at + suc k = omega arith in
       rw (e, skip k n (at + 1) symbol bytes (omega arith), f) refl
 
-  -- the rest of a section behind k of its bytes
+  -- the rest of a section after k of its bytes
   pub behind : (bytes : List ℕ) (k n at symbol all : ℕ) → all ≡ k + n → k ≤ length bytes →
       cond (ltb (length bytes) all) (fault (at + length bytes) Truncated) (sections format prbs shape at symbol all bytes)
       ≡ cond (ltb (length (drop k bytes)) n) (fault (at + k + length (drop k bytes)) Truncated) (sections format prbs shape (at + k) symbol n (drop k bytes))

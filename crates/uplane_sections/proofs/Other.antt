@@ -1,4 +1,4 @@
--- What is told next, where no PRB comes next.
+-- What is told next, where no PRB is next.
 use Rattle.std.proofs.Common.{◌≢◌, ℕ, ◌+◌, ◌-◌, Bool, true, false, cond, List, [], ◌∷◌, length, drop, refl}
 use Rattle.std.specs.Prelude.{nat_lt, nat_le, not, ◌&&◌, ◌||◌, ◌==◌}
 use Rattle.fh_base.specs.declared.values.Shape.{Shape}

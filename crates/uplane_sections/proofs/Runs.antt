@@ -58,7 +58,7 @@ module _ (format : Format) (prbs : ℕ) (shape : Shape) where
   run_tells phase next method symbol start prb left n used there held xs rest is none most len size leads =
       rw (is, none, size) (run_step method symbol start prb left n xs rest most (len ∙ size) ∙ ap (λ (t : Telling). after (blocks method prb n xs) t) (leads (start + n * length_of method) rest))
 
-  -- a PRB of which a part came before, in a walker's words
+  -- a PRB of which a part was received before, in a walker's words
   pub block_tells : (phase next : Phase) (method : Method) (symbol start prb left size there : ℕ) (held xs rest : List ℕ) → phase ≡ Inside method symbol prb left → 1 ≤ left
       → size ≡ length_of method → length (take there held ++ xs) ≡ size → ((at : ℕ) (more : List ℕ) → in_blocks format prbs shape method symbol at (prb + 1) (left - 1) more ≡ resumed format prbs shape next at more)
       → resumed format prbs shape phase start (take there held ++ (xs ++ rest)) ≡ after (Block prb (unpacked_of method (take there held ++ xs)) ∷ []) (resumed format prbs shape next (start + size) rest)
@@ -69,7 +69,7 @@ module _ (format : Format) (prbs : ℕ) (shape : Shape) where
       ∙ block_step_at format prbs shape method symbol start prb left front rest some (len ∙ size_is)
       ∙ ap (λ (t : Telling). after (Block prb (unpacked_of method front) ∷ []) t) (leads (start + length_of method) rest))
 
-  -- the same, where its bytes stand first in what is kept
+  -- the same, where its bytes are first in what is kept
   pub joined_tells : (phase next : Phase) (method : Method) (symbol start prb left size there : ℕ) (held xs behind kept rest : List ℕ) → phase ≡ Inside method symbol prb left → 1 ≤ left
       → size ≡ length_of method → length (take there held ++ xs) ≡ size → kept ≡ take there held ++ xs ++ behind
       → ((at : ℕ) (more : List ℕ) → in_blocks format prbs shape method symbol at (prb + 1) (left - 1) more ≡ resumed format prbs shape next at more)
@@ -115,7 +115,7 @@ passes_step old mid new piece m n none items zero_is s t = record {
 pub passes_start : (w : UWalker) (piece : List ℕ) → Passes w w (take 0 piece)
 passes_start w piece = record { items = []; tells = λ rest. refl }
 
--- behind a refusal all is passed
+-- after a refusal all is passed
 pub passes_over : (old mid new : UWalker) (piece left : List ℕ) (m n : ℕ) → left ≡ drop m piece → n ≡ 0 → Passes old mid (take m piece) → Passes mid new (take n left) → IsOver new → Passes old new piece
 passes_over old mid new piece left m n is zero_is p q over =
     let here : Passes old new (take (m + n) piece) = passes_more old mid new piece left m n is p q in

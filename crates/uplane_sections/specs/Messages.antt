@@ -46,8 +46,8 @@ blocks method prb (suc n) bytes =
     else Block prb (unpacked_of method (take (length_of method) bytes)) ∷ blocks method (prb + 1) n (drop (length_of method) bytes)
 
 module _ (format : Format) (prbs : ℕ) (shape : Shape) where
-  -- `bytes` are all from a section's header on, which stands at the place `at`; the maintained symbol number was
-  -- `before`, and `next` is what is told behind the section.
+  -- `bytes` are all from a section's header on, which is at the place `at`; the maintained symbol number was
+  -- `before`, and `next` is what is told after the section.
   abbrev pub section_at : ℕ → ℕ → List ℕ → Telling → Telling
   section_at at before bytes next =
       if nat_lt (length bytes) 4 then fault (at + length bytes) Truncated

@@ -1,4 +1,4 @@
--- What a walker makes of the bytes of the unit that it is in and of those behind it.
+-- What a walker makes of the bytes of the unit that it is in and of those after it.
 use Rattle.std.specs.Prelude.{◌≡◌, ℕ, ◌+◌, ◌-◌, ◌*◌, ◌==◌, ◌||◌, not, if◌then◌else◌, Bool, true, false, List, [], ◌∷◌, length, drop, nat_lt, nat_le, Option, Some, None, Result, Ok, Err}
 use Rattle.fh_base.specs.declared.values.Shape.{Shape}
 use Rattle.bfp_codec.specs.declared.methods.Method.{Method}
@@ -41,20 +41,20 @@ method_read header = if is_method header then Some (method_in header) else None
 abbrev pub with_method : USection → Method → USection
 with_method s method = record { id = s.id; sym_inc = s.sym_inc; symbol = s.symbol; start_prb = s.start_prb; num_prb = s.num_prb; method = method }
 
--- a test that fails refuses what stands at the place
+-- a test that fails refuses what is at the place
 abbrev pub checked : {A : Type 0} → ℕ → Result A UWhy → (A → Telling) → Telling
 checked at (Ok x) f = f x
 checked at (Err why) f = fault at why
 
 module _ (format : Format) (prbs : ℕ) (shape : Shape) where
-  -- the rest of a section, with n PRBs to come
+  -- the rest of a section, with n PRBs to follow
   abbrev pub in_blocks : Method → ℕ → ℕ → ℕ → ℕ → List ℕ → Telling
   in_blocks method symbol at prb n bytes =
       after (blocks method prb n bytes)
       (if nat_lt (length bytes) (n * length_of method) then fault (at + length bytes) Truncated
       else sections format prbs shape at symbol (n * length_of method) bytes)
 
-  -- a section and what stands behind its headers
+  -- a section and what is after its headers
   abbrev pub in_section : ℕ → USection → List ℕ → Telling
   in_section at s bytes =
       after (Section s ∷ []) (in_blocks s.method s.symbol at (first_of s.start_prb s.num_prb) (count_of prbs s.num_prb) bytes)
@@ -87,17 +87,17 @@ feed_told (feed.Section s) = Section s ∷ []
 feed_told (feed.Block prb samples) = Block prb samples ∷ []
 feed_told (feed.Refused r) = []
 
--- how many PRBs are still to come, 1 in the other phases
+-- how many PRBs are still to follow, 1 in the other phases
 abbrev pub prbs_left : Phase → ℕ
 prbs_left (Inside method symbol prb left) = left
 prbs_left _ = 1
 
--- how many PRBs of a section are still to come
+-- how many PRBs of a section are still to follow
 abbrev pub prbs_to_come : Phase → ℕ
 prbs_to_come (Inside method symbol prb left) = left
 prbs_to_come _ = 0
 
--- a bound of the numbers of PRBs to come
+-- a bound of the numbers of PRBs to follow
 abbrev pub prb_bound : Phase → ℕ
 prb_bound (Inside method symbol prb left) = prb + left
 prb_bound (Compression s) = s.start_prb * 64

@@ -25,7 +25,7 @@ startPrbu bytes = field bytes 14 10
 abbrev pub numPrbu : List ℕ → ℕ
 numPrbu bytes = field bytes 24 8
 
--- The compression header, udCompHdr and 8 reserved bits, stands behind these four bytes where the format is dynamic;
+-- The compression header, udCompHdr and 8 reserved bits, is after these four bytes where the format is dynamic;
 -- the words below are of its own bytes.
 abbrev pub udIqWidth : List ℕ → ℕ
 udIqWidth header = field header 0 4
@@ -47,7 +47,7 @@ is_method header = udCompMeth header == 1 || (udCompMeth header == 0 && width_in
 abbrev pub method_in : List ℕ → Method
 method_in header = if udCompMeth header == 1 then Bfp (width_in header) else Plain
 
--- how many bytes stand before the PRBs
+-- how many bytes are before the PRBs
 abbrev pub header_size : Format → ℕ
 header_size format = if format.dynamic then 6 else 4
 

@@ -1,4 +1,4 @@
--- What a walker tells of the bytes that come.
+-- What a walker tells of the bytes that follow.
 use Rattle.std.specs.Prelude.{◌≡◌, ℕ, ◌+◌, ◌/◌, ◌<◌, ◌==◌, min, if◌then◌else◌, List, [], ◌∷◌, ◌++◌, length, take, false, Option, Some, None, Result, Ok, Err}
 use Rattle.fh_base.specs.declared.values.Shape.{Shape}
 use Rattle.bfp_codec.specs.declared.methods.Format.{Format}
@@ -15,21 +15,21 @@ use Rattle.uplane_sections.specs.Phases.{resumed, is_cut, method_in_phase, prbs_
 abbrev pub used_by : UWalker → ℕ
 used_by w = w.start + w.there
 
--- the bytes that it keeps: those of the unit that was joined last, until more come
+-- the bytes that it keeps: those of the unit that was joined last, until more are received
 abbrev pub held_by : UWalker → List ℕ
 held_by w = w.held
 
--- what it tells of the bytes that come, up to the end of the message
+-- what it tells of the bytes that follow, up to the end of the message
 abbrev pub tells : UWalker → List ℕ → Telling
 tells w rest = resumed w.format w.prbs w.shape w.phase w.start (take w.there w.held ++ rest)
 
--- It stands behind these bytes of a message in this format, on a carrier of so many PRBs, in slots of this shape:
--- whatever comes, the message tells what it has told of them, and then what the walker tells.
+-- It is after these bytes of a message in this format, on a carrier of so many PRBs, in slots of this shape:
+-- whatever follows, the message tells what it has told of them, and then what the walker tells.
 abbrev pub StandsBehind : Format → ℕ → Shape → UWalker → List ℕ → Type 0
 StandsBehind format prbs shape w bytes =
     (rest : List ℕ) → told format prbs shape (bytes ++ rest) ≡ after (told format prbs shape bytes).items (tells w rest)
 
--- Of these bytes old tells these items, and of any that come after what new tells.
+-- Of these bytes old tells these items, and of any that follow what new tells.
 abbrev pub Tells : UWalker → UWalker → List ℕ → List Item → Type 0
 Tells old new bytes items = (rest : List ℕ) → tells old (bytes ++ rest) ≡ after items (tells new rest)
 
@@ -50,7 +50,7 @@ abbrev pub UsesAll : List ℕ → ℕ → UFeed → Type 0
 UsesAll piece used feed.More = used ≡ length piece
 UsesAll piece used _ = Unit {0}
 
--- nothing that comes changes what it tells
+-- nothing that follows changes what it tells
 abbrev pub IsOver : UWalker → Type 0
 IsOver w = (rest : List ℕ) → tells w rest ≡ tells w []
 
@@ -59,17 +59,17 @@ abbrev pub BeginsWithout : List Item → Type 0
 BeginsWithout (Block prb samples ∷ items) = ⊥
 BeginsWithout _ = Unit {0}
 
--- whatever comes, no PRB is told next
+-- whatever follows, no PRB is told next
 abbrev pub BeginsOtherwise : UWalker → Type 0
 BeginsOtherwise w = (rest : List ℕ) → BeginsWithout (tells w rest).items
 
--- Of these bytes old tells some items, and of any that come after what new tells; so over all of them it tells the
--- refusal that new tells over those that come after.
+-- Of these bytes old tells some items, and of any that follow what new tells; so over all of them it tells the
+-- refusal that new tells over those that follow.
 pub record Passes (old new : UWalker) (bytes : List ℕ) : Type 0 where
   pub items : List Item
   pub tells : Tells old new bytes items
 
--- how many packed PRBs come next that lie whole in so many bytes; none where a part of one came before
+-- how many packed PRBs are next that lie completely in so many bytes; none where a part of one was received before
 abbrev pub run_of : UWalker → ℕ → ℕ
 run_of w size = if w.there == 0 then min (size / length_of (method_in_phase w.phase)) (prbs_to_come w.phase) else 0
 

@@ -75,13 +75,13 @@ pub record WritesSection (format : Format) (s : USection) (bytes : List ℕ) : T
   pub each_rb : rb bytes ≡ 0
   pub compression : format.dynamic ≡ true → WritesCompression s.method (drop 4 bytes)
 
--- The bytes are a message that tells these items, and what comes behind it is read as further sections, where the
+-- The bytes are a message that tells these items, and what follows it is read as further sections, where the
 -- maintained symbol number is `symbol`.
 abbrev pub SaysSoFar : Format → ℕ → Shape → List ℕ → List Item → ℕ → Type 0
 SaysSoFar format prbs shape bytes items symbol =
     (rest : List ℕ) → told format prbs shape (bytes ++ rest) ≡ after items (sections format prbs shape (length bytes) symbol 0 rest)
 
--- The headers of a section, with its packed PRBs behind them, make of such a message one with this section more.
+-- The headers of a section, with its packed PRBs after them, make of such a message one with this section more.
 abbrev pub AddsSection : Format → ℕ → Shape → USection → List ℕ → Type 0
 AddsSection format prbs shape s headers =
     (front packed : List ℕ) (items : List Item) (before : ℕ) → SaysSoFar format prbs shape front items before → IsAdmitted prbs shape before s

@@ -2,9 +2,9 @@
 //!
 //! A message is a header of four bytes and sections up to its end. Each section is a header of four
 //! bytes, a compression header of two where the format is dynamic, and the packed PRBs that it
-//! names. [`UWalker`] reads a message that comes in pieces of any length; [`read_head`] reads a header
-//! alone; [`put_head`] and [`put_section`] write the headers. Nothing allocates, and a PRB that lies
-//! whole in a piece is unpacked from there, or lent, or passed over.
+//! names. [`UWalker`] reads a message that is received in pieces of any length; [`read_head`] reads a
+//! header alone; [`put_head`] and [`put_section`] write the headers. Nothing allocates, and a PRB that lies
+//! completely in a piece is unpacked from there, or lent, or passed over.
 #![tactic(auto)]
 
 mod phases;

@@ -1,4 +1,4 @@
-//! Where in a message a walker stands.
+//! Where in a message a walker is.
 ghost use Rattle.std.specs.Prelude.{◌≡◌, ℕ, ◌+◌, ◌<◌, ◌≤◌, ◌^◌, List, false};
 ghost use Rattle.fh_base.specs.declared.values.Shape.{Shape as SpecShape};
 ghost use Rattle.bfp_codec.specs.declared.methods.Format.{Format as SpecFormat};
@@ -9,7 +9,7 @@ ghost use Rattle.uplane_sections.specs.Phases.{in_blocks, resumed, prbs_left, pr
 use crate::values::{URefusal, USection};
 use bfp_codec::Method;
 
-/// The unit that comes next.
+/// The unit that is next.
 #[derive(Clone, Copy)]
 pub(crate) enum Phase {
     /// The message's header.
@@ -24,14 +24,14 @@ pub(crate) enum Phase {
         symbol: u8,
         /// Its number on the carrier.
         prb: u16,
-        /// How many PRBs are still to come with this one.
+        /// How many PRBs are still to follow, this one included.
         left: u16,
     },
     /// Nothing: the message is refused.
     Faulty(URefusal),
 }
 
-/// The phase where so many PRBs of a section are still to come.
+/// The phase where so many PRBs of a section are still to follow.
 pub(crate) fn inside(method: Method, symbol: u8, prb: u16, left: u16) -> Phase
     requires least { 4 ≤ length_of method }
     requires most { length_of method ≤ 49 }
@@ -57,7 +57,7 @@ pub(crate) fn inside(method: Method, symbol: u8, prb: u16, left: u16) -> Phase
     }
 }
 
-/// The phase behind the headers of a section.
+/// The phase after the headers of a section.
 pub(crate) fn opened(prbs: u16, s: USection) -> Phase
     requires least { 4 ≤ length_of s.method }
     requires most { length_of s.method ≤ 49 }

@@ -31,7 +31,7 @@ pub struct UStep {
     pub what: UFeed,
 }
 
-/// The packed PRBs of a section that come next and lie whole in a piece, from its front.
+/// The packed PRBs of a section that are next and lie completely in a piece, from its front.
 #[derive(Clone, Copy, Debug, PartialEq, Eq)]
 pub struct URun {
     /// How they are packed; each has as many bytes as `block_len` says for it.

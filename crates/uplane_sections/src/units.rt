@@ -14,7 +14,7 @@ use crate::values::{URefusal, USection, UWhy};
 use bfp_codec::{Format, Method, unpack};
 use fh_base::Shape;
 
-/// What a unit tells, and the phase behind it.
+/// What a unit tells, and the phase after it.
 #[derive(Clone, Copy)]
 pub(crate) struct Told {
     pub(crate) what: UFeed,

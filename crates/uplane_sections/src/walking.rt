@@ -10,7 +10,7 @@ use crate::values::{URefusal, UWhy};
 use bfp_codec::{Format, Method, block_len};
 use fh_base::Shape;
 
-/// A reader of one message, which comes in pieces of any length. It keeps the unit, a header or a
+/// A reader of one message, which is received in pieces of any length. It keeps the unit, a header or a
 /// PRB, that a piece cuts, and no more.
 #[derive(Clone, Copy)]
 pub struct UWalker {
@@ -68,7 +68,7 @@ impl UWalker {
         }
     }
 
-    /// How many bytes the unit has that comes next.
+    /// How many bytes the next unit has.
     fn unit(&self) -> usize
         ensures value { result ≡ unit_of self.now.phase }
         ensures most { result ≤ 49 }
@@ -133,7 +133,7 @@ impl UWalker {
 
     /// Takes the next bytes of the message, one or more, and answers how many it used and what they
     /// tell. At least one is used unless the message is refused. The caller feeds the rest of the
-    /// piece, and what comes after, in further calls.
+    /// piece, and what follows, in further calls.
     #[inline(always)]
     pub fn feed(&mut self, piece: &[u8]) -> UStep
         requires some { 0 < length piece.now }
@@ -143,8 +143,8 @@ impl UWalker {
         ensures tells { Tells self.old self.new (take result.used piece.now) (feed_told result.what) }
         ensures answers { Answers self.new result.used result.what }
         ensures all { UsesAll piece.now result.used result.what }
-        // Behind the bytes used before it stands behind these and those that it used, and the answer is what these
-        // add to what the message tells.
+        // If it was after the bytes used before, it is now after these and those that it used, and the answer is what
+        // the latter add to what the message tells.
         ensures stands { (format : SpecFormat) (prbs : ℕ) (shape : SpecShape) (bytes : List ℕ) → StandsBehind format prbs shape self.old bytes
             → StandsBehind format prbs shape self.new (bytes ++ take result.used piece.now) }
         ensures told { (format : SpecFormat) (prbs : ℕ) (shape : SpecShape) (bytes : List ℕ) → StandsBehind format prbs shape self.old bytes
@@ -153,7 +153,7 @@ impl UWalker {
         self.advance(piece)
     }
 
-    /// Steps until something is told or all is used: behind the first four bytes of a section nothing
+    /// Steps until something is told or all is used: after the first four bytes of a section nothing
     /// is told before its compression header.
     #[inline(always)]
     fn advance(&mut self, piece: &[u8]) -> UStep
@@ -219,9 +219,9 @@ impl UWalker {
         }
     }
 
-    /// Goes over the packed PRBs of a section that come next and lie whole in the piece, so that the
-    /// caller unpacks them, or not, where they stand. There are none where another unit comes next,
-    /// where a part of the next PRB came before, and where the piece ends inside of it: then `feed`
+    /// Goes over the packed PRBs of a section that are next and lie completely in the piece, so that the
+    /// caller unpacks them, or not, where they are. There are none where another unit is next,
+    /// where a part of the next PRB was received before, and where the piece ends inside of it: then `feed`
     /// goes on.
     pub fn run(&mut self, piece: &[u8]) -> URun
         requires fits { used_by self.old + length piece.now ≤ usize.MAX }
@@ -264,8 +264,8 @@ impl UWalker {
         }
     }
 
-    /// Takes what the packed PRB of a section that comes next still wants, or all that is there. Where it is complete then, one is
-    /// counted, and `joined` lends its bytes: it is not unpacked. None is used where another unit comes next.
+    /// Takes what the next packed PRB of a section still wants, or all that is there. Where it is complete then, one is
+    /// counted, and `joined` lends its bytes: it is not unpacked. None is used where another unit is next.
     pub fn join(&mut self, piece: &[u8]) -> URun
         requires some { 0 < length piece.now }
         requires fits { used_by self.old + length piece.now ≤ usize.MAX }
@@ -292,7 +292,7 @@ impl UWalker {
         }
     }
 
-    /// The same where a PRB comes next.
+    /// The same where a PRB is next.
     fn join_block(&mut self, method: Method, symbol: u8, prb: u16, left: u16, piece: &[u8]) -> URun
         requires some { 0 < length piece.now }
         requires fits { used_by self.old + length piece.now ≤ usize.MAX }
@@ -329,7 +329,7 @@ impl UWalker {
         }
     }
 
-    /// The bytes of the packed PRB that `join` counted last, by its method, until more bytes come.
+    /// The bytes of the packed PRB that `join` counted last, by its method, until more bytes are given.
     pub fn joined(&self, method: Method) -> &[u8]
         requires { HasWidth method }
         ensures bytes { result.now ≡ take (length_of method) (held_by self.now) }
@@ -366,7 +366,7 @@ impl UWalker {
         }
     }
 
-    /// Goes over what the PRB that comes next still wants, or over all that is there. It is not unpacked.
+    /// Goes over what the next PRB still wants, or over all that is there. It is not unpacked.
     fn pass_block(&mut self, method: Method, symbol: u8, prb: u16, left: u16, piece: &[u8]) -> usize
         requires some { 0 < length piece.now }
         requires fits { used_by self.old + length piece.now ≤ usize.MAX }

@@ -75,7 +75,7 @@ fn compression_byte(method: Method) -> u8
     }
 }
 
-/// Writes the compression header of a method behind four bytes.
+/// Writes the compression header of a method after four bytes.
 #[tactic(auto, using(std::proofs::lemmas::Grind::common_steps))]
 fn put_compression(into: &mut [u8], method: Method)
     requires room { 6 ≤ length into.old }
@@ -101,7 +101,7 @@ pub fn put_section(s: &USection, format: Format, into: &mut [u8]) -> usize
     ensures written { WritesSection format s.now into.new }
     ensures rest { (k : ℕ) → result ≤ k → slice_index into.new k ≡ slice_index into.old k }
 
-    // Behind a message, and with its packed PRBs behind it, the section is read back where the tests admit it.
+    // After a message, and with its packed PRBs after it, the section is read back where the tests admit it.
     ensures read_back { (prbs : ℕ) (shape : Shape) → AddsSection format prbs shape s.now (take result into.new) }
 {
     put_word(into, section_word(s));

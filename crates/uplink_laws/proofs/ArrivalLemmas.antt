@@ -1,4 +1,4 @@
--- What came at the distributed unit: copies of the frames of a plan's uplink stream, each read as its fragment.
+-- What was received at the distributed unit: copies of the frames of a plan's uplink stream, each read as its fragment.
 use Rattle.std.proofs.Common.{◌≡◌, ℕ, ℤ, ◌+◌, ◌<◌, ◌+ℤ◌, ◌≤ℤ◌, inl, inr, ◌==◌, List, [], ◌∷◌, map, Option, Some, None, refl, ap, sym, ◌∙◌, subst, arith}
 use Rattle.std.specs.Prelude.{filter}
 use Rattle.std.specs.List.{slice_get}
@@ -75,7 +75,7 @@ pub fragments_piece : (c : Config) (a : Arrival) (earlier : List Arrival) (e : E
 unfolding meetings onto fragments
 fragments_piece c a earlier e x h = ap (λ (ms : List Meeting). fragments (onto (meetings Du c.endpoints earlier) ms)) h
 
--- ---- what is sent for the commands that came
+-- ---- what is sent for the commands that were received
 
 module _ (c : Config) (lines : List PlanLine) (source : Source) (antenna : Antenna) (down : List Arrival) (s : IsSendable c lines source) (check : PassesCheck c.delays)
     (h : CommandsArrive c (planned c.endpoints lines) source down) where
@@ -128,7 +128,7 @@ module _ (c : Config) (lines : List PlanLine) (source : Source) (antenna : Anten
       let own : IsIn f (filter (λ (g : LinkFrame). g.ep == ep) (planned_frames c antenna plan)) = subst (λ (fs : List LinkFrame). IsIn f fs) (sym (frames_are_the_stream c antenna lines ep e at)) of_stream in
       subst (λ (fs : List LinkFrame). IsIn f fs) (sym frames_same) (of_filter (λ (g : LinkFrame). g.ep == ep) f (planned_frames c antenna plan) own).0
 
--- ---- all that came
+-- ---- all that was received
 
 module _ (c : Config) (lines : List PlanLine) (source : Source) (antenna : Antenna) (down up : List Arrival) (h : BothArrive c lines source antenna down up) where
   abbrev ps : List PlannedLine
@@ -180,7 +180,7 @@ module _ (c : Config) (lines : List PlanLine) (source : Source) (antenna : Anten
 
   -- ---- their fragments
 
-  -- a fragment that came is that of an arrival
+  -- a fragment that was received is that of an arrival
   pub record Heard (arrivals : List Arrival) (x : Fragment) : Type 0 where
     pub a : Arrival
     pub there : IsIn a arrivals

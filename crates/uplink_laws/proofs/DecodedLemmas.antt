@@ -79,7 +79,7 @@ split_of (z ∷ later) earlier all x y e = inr (later, (cons_same y z all (later
 
 -- ---- times
 
--- what comes within 2 ms after a symbol's start is near to its frame
+-- what is received within 2 ms after a symbol's start is near to its frame
 near_frame : (f s at most : ℤ) → (f *ℤ FRAME) ≤ℤ s → s <ℤ (f *ℤ FRAME +ℤ pos 76800000000) → s ≤ℤ at → (at -ℤ s) ≤ℤ (most *ℤ pos NANOSECOND) → most ≤ℤ pos MOST_DELAY
     → ((at -ℤ HALF_CYCLE) ≤ℤ (f *ℤ FRAME)) × ((f *ℤ FRAME) <ℤ (at +ℤ HALF_CYCLE))
 near_frame f s at most low high begun soon few = (omega (arith, ints), omega (arith, ints))
@@ -262,7 +262,7 @@ module _ (c : Config) (lines : List PlanLine) (source : Source) (antenna : Anten
       ap (λ (e : EndpointConfig). air_of e.numerology (data_slot d) d.section.symbol) carries.endpoint
       ∙ ap₂ (λ (t : Slot) (y : ℕ). air_of x.planned.endpoint.numerology t y) s carries.symbol
 
-  -- a section of a part whose message came in time
+  -- a section of a part whose message was received in time
   timely_by : (ep : ℕ) (e : EndpointConfig) (x : Part) (d : UserSection) (first last : ℤ) → PartFacts c.endpoints ps ep e x → IsSectionOf (antenna_blocks c antenna) first last x d
       → InTime c lines source antenna down up h (start_of_part x) first last → IsTimely x d
   timely_by ep e x d first last facts s time =

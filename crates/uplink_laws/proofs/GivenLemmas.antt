@@ -20,7 +20,7 @@ use Rattle.fh_base.proofs.Orders.{first_most}
 drop_front : (xs ys : List UplinkJob) → drop (length xs) (xs ++ ys) ≡ ys
 drop_front xs ys = drop_at xs ys (length xs) refl
 
--- what came tells the jobs up to a time
+-- what was received tells the jobs up to a time
 told_until : (c : Config) (landings : List Arrival) (to seen : ℤ) (h : History) → HasSeen c landings seen h → to ≤ℤ seen
     → jobs c.endpoints (accepted_of c h.arrivals) to ≡ jobs_until c landings to
 told_until c landings to seen h see past =
@@ -52,7 +52,7 @@ owes_none c landings now to seen h see begun order past given none =
     let all = jobs_go_on_from c landings now to begun order in
     all ∙ ap (λ (js : List UplinkJob). before ++ js) (sym (owes_rest c landings to seen h before rest see past given all) ∙ none) ∙ append-nil before
 
--- a front of a list, and what is dropped behind it
+-- a front of a list, and the rest after it
 front_and_rest : (xs ys zs : List UplinkJob) → zs ≡ xs ++ ys → xs ++ drop (length xs) zs ≡ zs
 front_and_rest xs ys zs is =
     ap (λ (js : List UplinkJob). xs ++ drop (length xs) js) is ∙ ap (λ (js : List UplinkJob). xs ++ js) (drop_front xs ys) ∙ sym is

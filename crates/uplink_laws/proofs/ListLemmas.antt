@@ -74,13 +74,13 @@ unfolding in_order
 of_order below z [] m = m
 of_order below z (x ∷ xs) m = elim (of_put below x z (in_order below xs) m) [ inl e ↦ inl e | inr t ↦ inr (of_order below z xs t) ]
 
--- ---- lists of which each element may stand before those behind it
+-- ---- lists of which each element may be before those after it
 
 pub order_all : {X : Type 0} (R : X → X → Type 0) (xs : List X) → ((x y : X) → IsIn x xs → IsIn y xs → R x y) → InOrder R xs
 order_all R [] h = tt
 order_all R (x ∷ xs) h = (λ y m. h x y (inl refl) (inr m), order_all R xs (λ a b m n. h a b (inr m) (inr n)))
 
--- one that stands before another in such a list
+-- one that is before another in such a list
 pub order_rest : {X : Type 0} (R : X → X → Type 0) (xs ys : List X) → InOrder R (xs ++ ys) → InOrder R ys
 order_rest R [] ys h = h
 order_rest R (x ∷ xs) ys h = order_rest R xs ys h.1

@@ -1,4 +1,4 @@
--- Lists in which nothing stands twice, by what is in them.
+-- Lists in which nothing occurs twice, by what is in them.
 use Rattle.std.proofs.Common.{◌≡◌, inl, inr, Bool, true, false, if◌then◌else◌, List, [], ◌∷◌, ◌++◌, refl, ap, sym, subst}
 use Rattle.std.specs.Prelude.{filter, reverse, IsPermutation}
 use Rattle.std.proofs.lemmas.List.{reverse-append}
@@ -8,7 +8,7 @@ use Rattle.plan_model.proofs.AcceptedLemmas.{AreDistinct}
 use Rattle.fh_base.specs.Members.{IsIn}
 use Rattle.fh_base.proofs.MemberLemmas.{in_left, in_right, in_either, of_filter}
 
--- where an element stands
+-- where an element is
 pub record Split {X : Type 0} (x : X) (ys : List X) : Type 0 where
   pub before : List X
   pub after : List X

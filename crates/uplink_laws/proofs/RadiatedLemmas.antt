@@ -1,4 +1,4 @@
--- What radiates where copies of the very bytes come.
+-- What radiates where copies of the very bytes are received.
 use Rattle.std.proofs.Common.{◌≡◌, ℕ, ℤ, ◌+ℤ◌, inl, inr, List, [], map, refl, ap, sym, subst}
 use Rattle.air_source.specs.declared.events.Side.TheVariants.{Ru}
 use Rattle.ecpri_frames.specs.Gathering.{whole_messages}

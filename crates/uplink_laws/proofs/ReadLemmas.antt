@@ -90,7 +90,7 @@ frame_met es ep e at seq bytes found t =
 
 -- ---- sections of a message
 
--- a section carries a part, in a message whose first and last fragments came then
+-- a section carries a part, in a message whose first and last fragments were received then
 pub record IsSectionOf (blocks : Blocks) (first last : ℤ) (x : Part) (d : UserSection) : Type 0 where
   pub carries : IsUplinkDataFor blocks x d
   pub first_is : d.first.0 ≡ first
@@ -203,7 +203,7 @@ module _ (c : Config) (lines : List PlanLine) (source : Source) (s : IsSendable 
         ap₂ (λ count size. frame_of 0 e.id (field count sub) (cut (sub * c.fragment) (min (sub * c.fragment + c.fragment) size) bytes))
         (ap (piece_count c.fragment) job_size) (job_size ∙ sym length_is)
 
-    -- a frame is read as its fragment, whenever it comes
+    -- a frame is read as its fragment, whenever it is received
     pub frame_read : (sub : ℕ) (t : ℤ) → sub < frames_in c UpData m
         → met_in Du c.endpoints t (whole_messages (uplink_fragment_bytes c antenna e (message_for m) n.number sub)) ≡ Piece e (fragment_at ep e n sub t) ∷ []
     frame_read sub t below =

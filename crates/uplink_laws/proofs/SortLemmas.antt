@@ -113,7 +113,7 @@ module _ {K : Type 0} (below : K → K → Bool) (o : IsOrder below) where
     | inr xy ↦ absurd (true≢false (sym zy ∙ o.along y x z xy zx))
   ]
 
-  -- in front of a list in which neither goes behind the first
+  -- in front of a list in which neither goes after the first
   swap_front : (x y : K) → (below x y ≡ false → below y x ≡ false → x ≡ y) → (zs : List K) → put x zs ≡ x ∷ zs → put y zs ≡ y ∷ zs → put x (y ∷ zs) ≡ put y (x ∷ zs)
   swap_front x y tie zs hx hy = elim (cases_Bool (below y x)) [
     | inl yx ↦ put_behind below x y zs yx ∙ ap (λ ws. y ∷ ws) hx ∙ sym (put_first below y x zs (o.against y x yx))
@@ -185,7 +185,7 @@ module _ (ep : ℕ) (start : ℤ) (slot : Slot) (symbol : ℕ) where
   unfolding in_order
   sorted_more a xs = put_job a (in_order is_before xs)
 
-  -- one that stands anywhere
+  -- one that is anywhere
   sorted_any : (x : Allocation) (before after : List Allocation) → sorted (before ++ x ∷ after) ≡ put_in job_before (job x) (sorted (before ++ after))
   sorted_any x [] after = sorted_more x after
   sorted_any x (a ∷ before) after =

@@ -1,4 +1,4 @@
--- The jobs of the uplink lines of a plan are the parts of its uplink stream, and stand in the order of starts and endpoints.
+-- The jobs of the uplink lines of a plan are the parts of its uplink stream, and are in the order of starts and endpoints.
 use Rattle.std.proofs.Common.{◌≡◌, ℕ, ℤ, pos, zero, suc, ◌+◌, ◌<◌, ◌≤◌, ◌+ℤ◌, ◌≤ℤ◌, ◌<ℤ◌, inl, inr, Bool, true, false, ◌==◌, List, [], ◌∷◌, ◌++◌, map, refl, ap, ap₂, sym, ◌∙◌, subst, arith, append-nil}
 use Rattle.std.specs.Prelude.{filter, reverse}
 use Rattle.std.specs.Int.{int_gap}

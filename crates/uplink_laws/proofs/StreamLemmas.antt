@@ -43,7 +43,7 @@ module _ (c : Config) where
   abbrev f : PartFields UplinkJob
   f = job_fields c.endpoints
 
-  -- its line stands at an endpoint of the configuration
+  -- its line is at an endpoint of the configuration
   abbrev Stands : Part → Type 0
   Stands x = IsAt c.endpoints x.planned.ep x.planned.endpoint
 

@@ -80,7 +80,7 @@ module _ (c : Config) (ep : ℕ) where
       ap (λ (b : Bool). if b && ((m.first.filter == j.filter) && (nat_lt (length (parts_of m)) c.pack && nat_le (size_of f m + f.size j) MESSAGE_BYTES))
       then packs_behind f c.pack (with_part m j) js else m ∷ packs_behind f c.pack (alone j) js) (h j (inl refl))
 
-  -- what is found of an endpoint behind a message, where that is its own and where it is not
+  -- what is found of an endpoint after a message, where that is its own and where it is not
   abbrev Finds : Bool → Message UplinkJob → List UplinkJob → Type 0
   Finds true m js = filter is_own (messages_behind c m js) ≡ packs_behind f c.pack m (filter own js)
   Finds false m js = filter is_own (messages_behind c m js) ≡ packs f c.pack (filter own js)
@@ -168,7 +168,7 @@ module _ (c : Config) (ep : ℕ) where
 
 -- ---- the first jobs of messages
 
--- one message may stand before another where their first jobs may
+-- one message may be before another where their first jobs may
 abbrev pub MayLead : Message UplinkJob → Message UplinkJob → Type 0
 MayLead m n = MayPrecede m.first n.first
 

@@ -182,14 +182,14 @@ frames_leave_in_turn c antenna earlier m = pairs_of (λ (f g : LinkFrame). f.at.
 
 -- ---- none overtakes
 
--- what does not pass a test stands before the first that does
+-- what does not pass a test is before the first that does
 strip : {A : Type 0} (t : A → Bool) (xs ys before : List A) (m : A) (rest : List A) → ((x : A) → IsIn x xs → t x ≡ false) → t m ≡ true → xs ++ ys ≡ before ++ m ∷ rest
     → (b : List A) × (ys ≡ b ++ m ∷ rest)
 strip t [] ys before m rest none is e = (before, e)
 strip t (x ∷ xs) ys [] m rest none is e = let same : x ≡ m = cc in absurd (true≢false (sym is ∙ ap t (sym same) ∙ none x (inl refl)))
 strip t (x ∷ xs) ys (b ∷ before) m rest none is e = let tail : xs ++ ys ≡ before ++ m ∷ rest = cc in strip t xs ys before m rest (λ z i. none z (inr i)) is tail
 
--- where those that pass stand first, all before one that passes do
+-- where those that pass are first, all before one that passes do
 pass_before : {A : Type 0} (t : A → Bool) (ys zs before between after : List A) (m n : A) → ((x : A) → IsIn x ys → t x ≡ true) → ((x : A) → IsIn x zs → t x ≡ false)
     → ys ++ zs ≡ before ++ (m ∷ (between ++ (n ∷ after))) → t n ≡ true → (x : A) → IsIn x between → t x ≡ true
 pass_before {A = A} t ys zs before between after m n all none e is x i =
@@ -242,7 +242,7 @@ module _ (c : Config) where
         absurd (true≢false (sym (same_in y j (record { ep = sym a.ep ∙ b.ep; slot = sym a.slot ∙ b.slot; symbol = sym a.symbol ∙ b.symbol })) ∙ q)))
   ]
 
-  -- the messages of a run of jobs stand in one run
+  -- the messages of a run of jobs are in one run
   messages_run : (j : UplinkJob) (xs ys zs : List UplinkJob) → ((x : UplinkJob) → IsIn x xs → of_symbol j x ≡ false) → ((x : UplinkJob) → IsIn x ys → of_symbol j x ≡ true)
       → ((x : UplinkJob) → IsIn x zs → of_symbol j x ≡ false) → IsIn j (xs ++ (ys ++ zs)) → uplink_messages_of c (xs ++ (ys ++ zs)) ≡ uplink_messages_of c xs ++ (uplink_messages_of c ys ++ uplink_messages_of c zs)
   messages_run j xs [] zs p q r i = absurd (true≢false (sym (is_own j) ∙ elim (in_either j xs zs i) [ inl l ↦ p j l | inr k ↦ r j k ]))

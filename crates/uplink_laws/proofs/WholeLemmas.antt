@@ -29,7 +29,7 @@ use Rattle.fh_base.proofs.EachLemmas.{gap_is}
 
 -- ---- times
 
--- a frame that left from Ta3's minimum on comes no sooner than T34's minimum later
+-- a frame that left from Ta3's minimum on is received no sooner than T34's minimum later
 comes_from : (s least fast first : ℤ) (wait : ℕ) → (((s +ℤ least *ℤ pos NANOSECOND) +ℤ pos wait) +ℤ fast *ℤ pos NANOSECOND) ≤ℤ first → (s +ℤ (least +ℤ fast) *ℤ pos NANOSECOND) ≤ℤ first
 comes_from s least fast first wait h = omega (arith, ints, h)
 
@@ -69,7 +69,7 @@ module _ (c : Config) (lines : List PlanLine) (source : Source) (antenna : Anten
       (answers (uplink_bounds_of c).hold (numbers_of (uplink_bounds_of c) (uplink_flow_of c antenna (planned c.endpoints lines))) ep j (fragments (meetings Du c.endpoints up)))
   whole_once ep j below = once_whole (uplink_bounds_of c) (uplink_flow_of c antenna ps) (sounds c lines source antenna down up h) all (delivered c lines source antenna down up h) ep j below
 
-  -- when a message's pieces came
+  -- when a message's pieces were received
   pub record InTime (start first last : ℤ) : Type 0 where
     pub soon : (start +ℤ ticks_of_ns (c.delays.ta3.min +ℤ c.delays.t34.min)) ≤ℤ first
     pub late : last ≤ℤ (start +ℤ ticks_of_ns (c.delays.ta3.max +ℤ c.delays.t34.max))

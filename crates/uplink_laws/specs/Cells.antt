@@ -46,8 +46,8 @@ taken_cell blocks ps ep e slot symbol prb =
 abbrev pub taken_symbol : Blocks → List PlannedLine → ℕ → EndpointConfig → Slot → ℕ → List AirCell
 taken_symbol blocks ps ep e slot symbol = each 0 e.prbs (taken_cell blocks ps ep e slot symbol)
 
--- the cells whose moments, Ta4's maximum after their symbols' starts, come by a time, that time included, in the order of moments,
--- endpoints, slots, symbols and PRBs
+-- the cells whose moments, Ta4's maximum after their symbols' starts, are reached by a time, that time included, in the order of
+-- moments, endpoints, slots, symbols and PRBs
 abbrev pub taken_air : Config → Blocks → List PlannedLine → ℤ → List AirCell
 taken_air c blocks ps to =
     sweep (taken_symbol blocks ps) c.endpoints (first_clock -ℤ wait_of Du c.delays) ((to -ℤ wait_of Du c.delays) +ℤ pos 1)

@@ -54,7 +54,7 @@ pub record IsUplinkDataFor (blocks : Blocks) (x : Part) (d : UserSection) : Type
   pub samples : (n : ℕ) → is_from (first_prb (line_allocation x.planned)) (prb_count (line_allocation x.planned)) n ≡ true
       → slice_index_or d.blocks (n - first_prb (line_allocation x.planned)) [] ≡ blocks (cell_at x.planned.ep false x.planned.line.slot x.symbol n)
 
--- one section for each part, in this order, of a message whose first and last fragments came then
+-- one section for each part, in this order, of a message whose first and last fragments were received then
 abbrev pub AreUplinkSections : Blocks → ℤ → ℤ → List Part → List UserSection → Type 0
 AreUplinkSections blocks first last [] [] = ⊤
 AreUplinkSections blocks first last [] (d ∷ ds) = ⊥
@@ -73,7 +73,7 @@ said_by c w = option_map_or (λ e. sections_of (decode_message Du w.by.ep e w.me
 
 -- ---- the law
 
--- a section came for a line in this symbol
+-- a section was received for a line in this symbol
 pub record IsUplinkDataSent (blocks : Blocks) (x : Part) (ds : List UserSection) : Type 0 where
   pub section : UserSection
   pub came : IsIn section ds

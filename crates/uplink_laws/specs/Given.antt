@@ -1,4 +1,4 @@
--- How the jobs that a radio unit has given stand to those of all that lands at it.
+-- How the jobs that a radio unit has given are related to those of all that lands at it.
 use Rattle.std.specs.Prelude.{◌≡◌, ℤ, pos, ◌+ℤ◌, ◌-ℤ◌, ◌≤ℤ◌, ◌<ℤ◌, List, [], ◌++◌, ◌⊎◌}
 use Rattle.air_source.specs.declared.events.Side.TheVariants.{Ru}
 use Rattle.window_config.specs.Configs.{IsConfig}

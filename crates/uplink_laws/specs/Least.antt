@@ -32,7 +32,7 @@ by_time fs = each_tick first_clock (int_gap first_clock (end_of_time +ℤ pos 1)
 abbrev pub least_copies : Config → List LinkFrame → List Arrival
 least_copies c fs = onto [] (map (least_copy c) (by_time fs))
 
--- what comes at the radio unit, each frame once with T12's minimum
+-- what is received at the radio unit, each frame once with T12's minimum
 abbrev pub down_least : Config → List PlanLine → Source → List Arrival
 down_least c lines source = with_least_delay c (planned c.endpoints lines) (sent_bytes c source)
 

@@ -29,8 +29,8 @@ use Rattle.uplink_model.specs.Frames.{Antenna, frames_behind}
 use Rattle.uplink_model.specs.Messages.{uplink_messages_of}
 use Rattle.fh_base.specs.Members.{IsIn}
 
--- What came at the radio unit: each arrival is a copy of a frame that is sent, within T12 of its sending time, and of each command that
--- is sent a copy came; downlink data may be lost.
+-- What was received at the radio unit: each arrival is a copy of a frame that is sent, within T12 of its sending time, and of each
+-- command that is sent a copy was received; downlink data may be lost.
 pub record CommandsArrive (c : Config) (ps : List PlannedLine) (source : Source) (down : List Arrival) : Type 0 where
   pub came : (a : Arrival) → IsIn a down → (f : SentFrame) × IsIn f (sent c ps) × IsSentCopy c source f a
   pub every : (f : SentFrame) → IsIn f (sent c ps) → f.stream ≢ DownData → (a : Arrival) × IsIn a down × IsSentCopy c source f a
@@ -49,8 +49,8 @@ pub record IsUplinkCopy (c : Config) (f : LinkFrame) (a : Arrival) : Type 0 wher
   pub to : a.at ≤ℤ (f.at.0 +ℤ ticks_of_ns c.delays.t34.max)
   pub bytes : a.frame ≡ f.frame
 
--- What came at the distributed unit, the newest first: each arrival is a copy of a frame that the radio unit sends for these jobs, and
--- of each such frame a copy came.
+-- What was received at the distributed unit, the newest first: each arrival is a copy of a frame that the radio unit sends for these
+-- jobs, and of each such frame a copy was received.
 pub record AnswersArrive (c : Config) (antenna : Antenna) (js : List UplinkJob) (up : List Arrival) : Type 0 where
   pub in_order : AreInOrder up
   pub came : (a : Arrival) → IsIn a up → (f : LinkFrame) × IsIn f (frames_of c antenna js) × IsUplinkCopy c f a
@@ -61,8 +61,8 @@ abbrev pub CanAnswer : Config → Antenna → Type 0
 CanAnswer c antenna =
     (ep : ℕ) (e : EndpointConfig) → IsAt c.endpoints ep e → (slot : Slot) (symbol prb : ℕ) → CanPack e.format.method (block_of antenna e.id slot symbol prb)
 
--- A configuration, a plan and the samples of both ways, and what came at both units, where the windows pass the check: the commands at the
--- radio unit, and at the distributed unit what the radio unit sends for what it accepted of them.
+-- A configuration, a plan and the samples of both ways, and what was received at both units, where the windows pass the check: the
+-- commands at the radio unit, and at the distributed unit what the radio unit sends for what it accepted of them.
 pub record BothArrive (c : Config) (lines : List PlanLine) (source : Source) (antenna : Antenna) (down up : List Arrival) : Type 0 where
   pub sendable : IsSendable c lines source
   pub can : CanAnswer c antenna

@@ -1,4 +1,4 @@
--- What radiates of a plan whose very bytes come within T12, whatever is repeated, reordered or delayed (O-RAN.WG4.CUS, delay
+-- What radiates of a plan whose very bytes are received within T12, whatever is repeated, reordered or delayed (O-RAN.WG4.CUS, delay
 -- management). Times are ticks.
 use Rattle.std.specs.Prelude.{◌≡◌, ℕ, ℤ, ◌+ℤ◌, ◌<◌, ◌≤ℤ◌, true, false, List, [], ◌∷◌, filter}
 use Rattle.fh_base.specs.Air.{air_of}
@@ -29,8 +29,8 @@ pub record IsSentCopy (c : Config) (source : Source) (f : SentFrame) (a : Arriva
   pub to : a.at ≤ℤ (f.at +ℤ ticks_of_ns c.delays.t12.max)
   pub bytes : a.frame ≡ sent_bytes c source f
 
--- What came at the radio unit, the newest first, where the windows pass the check: each arrival is a copy of a frame that is sent, and
--- of each frame that is sent a copy came.
+-- What was received at the radio unit, the newest first, where the windows pass the check: each arrival is a copy of a frame that is
+-- sent, and of each frame that is sent a copy was received.
 pub record CopiesArrive (c : Config) (ps : List PlannedLine) (source : Source) (arrivals : List Arrival) : Type 0 where
   pub check : PassesCheck c.delays
   pub in_order : AreInOrder arrivals

@@ -26,7 +26,7 @@ use Rattle.uplink_model.specs.Messages.{uplink_messages_of, same_job_symbol}
 abbrev pub is_job_in : ℕ → Slot → ℕ → UplinkJob → Bool
 is_job_in ep slot symbol j = (j.ep == ep) && (same_slot j.slot slot && (j.symbol == symbol))
 
--- these stand in one run among all, and no other job is of the symbol
+-- these are in one run among all, and no other job is of the symbol
 pub record StandInOneRun (ep : ℕ) (slot : Slot) (symbol : ℕ) (run all : List UplinkJob) : Type 0 where
   pub before : List UplinkJob
   pub after : List UplinkJob
@@ -34,7 +34,7 @@ pub record StandInOneRun (ep : ℕ) (slot : Slot) (symbol : ℕ) (run all : List
   pub none_before : All (λ j. is_job_in ep slot symbol j ≡ false) before
   pub none_after : All (λ j. is_job_in ep slot symbol j ≡ false) after
 
--- the jobs of a symbol that starts by a time stand in one run among those up to it
+-- the jobs of a symbol that starts by a time are in one run among those up to it
 abbrev pub JobsStandTogether : Type 0
 JobsStandTogether =
     (es : List EndpointConfig) (accepted : List Allocation) (to : ℤ) (ep : ℕ) (e : EndpointConfig) (slot : Slot) (symbol : ℕ) → IsAt es ep e
@@ -58,7 +58,7 @@ FramesLeaveInTa3 =
     (c : Config) (antenna : Antenna) (earlier : List (Message UplinkJob)) (m : Message UplinkJob) → IsWithinLimits c.delays
     → All (λ f. ((m.first.s.0 +ℤ ticks_of_ns c.delays.ta3.min) ≤ℤ f.at.0) × (f.at.0 ≤ℤ (m.first.s.0 +ℤ ticks_of_ns c.delays.ta3.max))) (uplink_message_frames c antenna earlier m)
 
--- and none before one that stands before it
+-- and none before one that is before it
 abbrev pub FramesLeaveInTurn : Type 0
 FramesLeaveInTurn =
     (c : Config) (antenna : Antenna) (earlier : List (Message UplinkJob)) (m : Message UplinkJob) → AllPairs (λ f g. f.at.0 ≤ℤ g.at.0) (uplink_message_frames c antenna earlier m)

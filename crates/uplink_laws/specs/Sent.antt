@@ -27,7 +27,7 @@ pub record IsSendable (c : Config) (lines : List PlanLine) (source : Source) : T
   pub num_prbs : All (λ (l : PlanLine). l.num_prb < 2 ^ 8) lines
   pub can : (ep : ℕ) (e : EndpointConfig) → IsAt c.endpoints ep e → (slot : Slot) (symbol prb : ℕ) → CanPack e.format.method (source (cell_at ep true slot symbol prb))
 
--- each frame's bytes, whenever they come, are read as the one command of its line, or as its one fragment
+-- each frame's bytes, whenever they are received, are read as the one command of its line, or as its one fragment
 abbrev pub SentFramesAreRead : Type 0
 SentFramesAreRead =
     (c : Config) (lines : List PlanLine) (source : Source) → IsSendable c lines source

@@ -21,7 +21,7 @@ use Rattle.unit_model.specs.Terms.{joined}
 
 -- ---- the radio unit's messages with their numbers
 
--- each of these messages, behind those before it, the newest of these first: its number, and how many frames of its symbol leave
+-- each of these messages, after those before it, the newest of these first: its number, and how many frames of its symbol leave
 -- before its own
 unfoldable pub jobs_numbered_behind : Config → List (Message UplinkJob) → List (Message UplinkJob) → List (Numbered UplinkJob)
 jobs_numbered_behind c earlier [] = []

@@ -18,7 +18,7 @@ use Rattle.uplink_laws.specs.Turns.{handed_at, handed_behind, handed_between, ha
 
 -- ---- jobs
 
--- what came before a tick tells the jobs whose symbols start by the tick
+-- what was received before a tick tells the jobs whose symbols start by the tick
 abbrev pub JobsAreSettled : Type 0
 JobsAreSettled =
     (c : Config) (landings : List Arrival) (to seen : ℤ) → IsConfig c → AreLandings landings → first_clock ≤ℤ seen → seen ≤ℤ (end_of_time +ℤ pos 1) → to ≤ℤ seen
@@ -40,7 +40,7 @@ JobsGoOnFrom =
 abbrev pub NoJobsBefore : Type 0
 NoJobsBefore = (c : Config) (landings : List Arrival) (to : ℤ) → to <ℤ first_clock → jobs_until c landings to ≡ []
 
--- and by its first tick none either: nothing came before it
+-- and by its first tick none either: nothing was received before it
 abbrev pub NoJobsYet : Type 0
 NoJobsYet = (c : Config) (landings : List Arrival) (to : ℤ) → IsConfig c → AreLandings landings → to ≤ℤ first_clock → jobs_until c landings to ≡ []
 

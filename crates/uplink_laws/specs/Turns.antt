@@ -53,7 +53,7 @@ messages_of_tick c landings tick = uplink_messages_of c (jobs_of_tick c landings
 abbrev pub handed_until : Config → Antenna → List Arrival → ℤ → List LinkFrame
 handed_until c antenna landings t = frames_behind c antenna [] (messages_until c landings t)
 
--- those of messages that stand behind all that come before a tick
+-- those of messages that are after all that are before a tick
 abbrev pub handed_behind : Config → Antenna → List Arrival → ℤ → List (Message UplinkJob) → List LinkFrame
 handed_behind c antenna landings tick ms = frames_behind c antenna (onto [] (messages_until c landings (tick -ℤ pos 1))) ms
 

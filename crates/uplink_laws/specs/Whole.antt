@@ -18,8 +18,9 @@ use Rattle.uplink_model.specs.Frames.{Antenna}
 use Rattle.uplink_laws.specs.Flows.{uplink_bounds_of, uplink_flow_of, flow_start_at}
 use Rattle.uplink_laws.specs.Premise.{BothArrive}
 
--- A message whose symbol starts then becomes whole once, with all its pieces: the first comes no sooner than the minima of Ta3 and T34
--- after the start, the last no later than their maxima; so both lie in Ta4, and the last comes while the generation of the first holds.
+-- A message whose symbol starts then becomes complete once, with all its pieces: the first is received no sooner than the minima of Ta3
+-- and T34 after the start, the last no later than their maxima; so both lie in Ta4, and the last is received while the generation of the
+-- first holds.
 pub record IsTakenOnce (c : Config) (f : Flow) (j : ℕ) (start : ℤ) (came : List Fragment) (all : List Answered) : Type 0 where
   pub once : IsOnceWhole (uplink_bounds_of c) f j came all
   pub soon : (start +ℤ ticks_of_ns (c.delays.ta3.min +ℤ c.delays.t34.min)) ≤ℤ once.whole.shows.first
@@ -27,8 +28,8 @@ pub record IsTakenOnce (c : Config) (f : Flow) (j : ℕ) (start : ℤ) (came : L
   pub in_window : IsOnTimeUp once.whole.shows.first once.whole.shows.last start c.delays.ta4
   pub held : once.whole.shows.last ≤ℤ (once.whole.shows.first +ℤ ticks_of_ns c.delays.hold_ul)
 
--- Of what came at the distributed unit: messages with one sequence id are apart; what becomes whole was sent, and of each message that was
--- sent there is one; and each message is taken in once.
+-- Of what was received at the distributed unit: messages with one sequence id are apart; what becomes complete was sent, and of each
+-- message that was sent there is one; and each message is taken in once.
 pub record AreTakenOnce (c : Config) (antenna : Antenna) (ps : List PlannedLine) (up : List Arrival) : Type 0 where
   pub apart : AreApart (uplink_bounds_of c).hold (uplink_bounds_of c).fast (uplink_bounds_of c).slow (λ ep j. sent_at (uplink_flow_of c antenna ps ep) j 0)
       (numbers_of (uplink_bounds_of c) (uplink_flow_of c antenna ps)) (fragments (met Du c up))

@@ -44,7 +44,7 @@ ordered_join : {X : Type 0} (R : X → X → Type 0) (xs ys : List X) → AreRel
 ordered_join R [] ys p q h = q
 ordered_join R (x ∷ xs) ys p q h = (all_join (R x) xs ys p.0 h.0, ordered_join R xs ys p.1 q h.1)
 
--- where each may stand before each
+-- where each may be before each
 ordered_all : {X : Type 0} (R : X → X → Type 0) (P : X → Type 0) → ((x y : X) → P x → P y → R x y) → (xs : List X) → AllByRecursion P xs → AreRelated R xs
 ordered_all R P f [] h = tt
 ordered_all R P f (x ∷ xs) h = (all_map P (R x) (λ y q. f x y h.0 q) xs h.1, ordered_all R P f xs h.1)

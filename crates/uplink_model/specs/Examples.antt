@@ -1,5 +1,5 @@
--- The definitions at values that were worked out by hand. The endpoint has id 0, 30 kHz, 106 PRBs, no compression and a static format; where
--- nothing else is said, frames leave from 50,000 to 171,000 ns behind their symbol's start, and carry 1,492 bytes.
+-- The definitions at values that were worked out by hand. The endpoint has id 0, 30 kHz, 106 PRBs, no compression and a static format;
+-- where nothing else is said, frames leave from 50,000 to 171,000 ns after their symbol's start, and carry 1,492 bytes.
 use Rattle.std.specs.Prelude.{◌≡◌, ℕ, ℤ, pos, neg_ℤ, negsuc, true, false, List, [], ◌∷◌, map}
 use Rattle.window_config.specs.Usual.{usual_delays}
 use Rattle.window_config.specs.declared.config.Config.{Config}
@@ -53,7 +53,7 @@ worked_allocation filter section start_prb num_prb = record {
 abbrev pub worked_job_sections : List UplinkJob → List ℕ
 worked_job_sections js = map (λ j. j.section) js
 
--- the newest of what was accepted stands first
+-- the newest of what was accepted is first
 abbrev pub sent_of : List Allocation → List ℕ
 sent_of newest_first = worked_job_sections (symbol_jobs newest_first 0 usual slot_0 0)
 
@@ -94,7 +94,7 @@ abbrev pub two_frames : UplinkJob
 two_frames = job 0 0 1 0 50
 
 pub record TimesAreAsWorked : Type 0 where
-  -- two messages of two frames in one symbol: 50, 110, 161 and 161 us behind its start
+  -- two messages of two frames in one symbol: 50, 110, 161 and 161 us after its start
   pub capped : times_of (slow (pos 161000)) (two_frames ∷ two_frames ∷ []) ≡ pos 15436800000 ∷ pos 15528960000 ∷ pos 15607296000 ∷ pos 15607296000 ∷ []
   -- all at the minimum, where the maximum is the same
   pub together : times_of (slow (pos 50000)) (two_frames ∷ two_frames ∷ []) ≡ pos 15436800000 ∷ pos 15436800000 ∷ pos 15436800000 ∷ pos 15436800000 ∷ []

@@ -72,13 +72,13 @@ uplink_frame_of c antenna e m number before sub = record {
 abbrev pub uplink_frames_from : Config → Antenna → EndpointConfig → Message UplinkJob → ℕ → ℕ → ℕ → ℕ → List LinkFrame
 uplink_frames_from c antenna e m number before sub n = each sub n (λ k. uplink_frame_of c antenna e m number before k ∷ [])
 
--- the frames of a message behind those before it, the newest first
+-- the frames of a message after those before it, the newest first
 unfoldable pub uplink_message_frames : Config → Antenna → List (Message UplinkJob) → Message UplinkJob → List LinkFrame
 uplink_message_frames c antenna earlier m =
     option_map_or (λ e. uplink_frames_from c antenna e m (number_behind m.first.ep earlier) (uplink_frames_before c m.first earlier) 0 (frame_count c m))
     (slice_get c.endpoints m.first.ep) []
 
--- the frames of these messages in their order, as they are handed over, behind those before them
+-- the frames of these messages in their order, as they are handed over, after those before them
 unfoldable pub frames_behind : Config → Antenna → List (Message UplinkJob) → List (Message UplinkJob) → List LinkFrame
 frames_behind c antenna earlier [] = []
 frames_behind c antenna earlier (m ∷ ms) = uplink_message_frames c antenna earlier m ++ frames_behind c antenna (m ∷ earlier) ms

@@ -1,6 +1,6 @@
 -- The U-plane messages that the radio unit sends for the uplink sections that it accepted (O-RAN.WG4.CUS, U-plane messages; how the
--- sections of a symbol are cut into messages, and how messages are numbered, is this project's profile). The jobs of a unit stand in
--- the order of starts, endpoints, slots and symbols, so those of one symbol stand together.
+-- sections of a symbol are cut into messages, and how messages are numbered, is this project's profile). The jobs of a unit are in
+-- the order of starts, endpoints, slots and symbols, so those of one symbol are together.
 use Rattle.std.specs.Prelude.{ℕ, ◌+◌, Bool, ◌&&◌, ◌==◌, if◌then◌else◌, List, [], ◌∷◌}
 use Rattle.std.specs.List.{slice_get}
 use Rattle.std.specs.Option.{option_map_or}
@@ -25,7 +25,7 @@ job_fields es = record {
 abbrev pub takes_job : Config → Message UplinkJob → UplinkJob → Bool
 takes_job c m j = (m.first.ep == j.ep) && takes (job_fields c.endpoints) c.pack m j
 
--- the messages that these jobs make behind one that may take more
+-- the messages that these jobs make after one that may take more
 unfoldable pub messages_behind : Config → Message UplinkJob → List UplinkJob → List (Message UplinkJob)
 messages_behind c m [] = m ∷ []
 messages_behind c m (j ∷ js) =
@@ -40,7 +40,7 @@ uplink_messages_of c (j ∷ js) = messages_behind c (alone j) js
 abbrev pub frame_count : Config → Message UplinkJob → ℕ
 frame_count c m = piece_count c.fragment (size_of (job_fields c.endpoints) m)
 
--- ---- where a message stands behind others, the newest of these first
+-- ---- where a message is after others, the newest of these first
 
 -- a message's number: how many of its endpoint were before it
 abbrev pub number_behind : ℕ → List (Message UplinkJob) → ℕ
@@ -51,7 +51,7 @@ number_behind ep (m ∷ earlier) = (if m.first.ep == ep then 1 else 0) + number_
 abbrev pub same_job_symbol : UplinkJob → UplinkJob → Bool
 same_job_symbol a b = (a.ep == b.ep) && (same_slot a.slot b.slot && (a.symbol == b.symbol))
 
--- how many frames of a job's symbol leave before those of its message: the messages of one symbol stand together
+-- how many frames of a job's symbol leave before those of its message: the messages of one symbol are together
 unfoldable pub uplink_frames_before : Config → UplinkJob → List (Message UplinkJob) → ℕ
 uplink_frames_before c j [] = 0
 uplink_frames_before c j (m ∷ earlier) = if same_job_symbol m.first j then frame_count c m + uplink_frames_before c j earlier else 0

@@ -21,7 +21,7 @@ LeavingAreReordered =
 abbrev pub LeavingLeaveThen : Type 0
 LeavingLeaveThen = (endpoints : ℕ) (frames : List LinkFrame) (t : ℤ) → All (λ f. f.at.0 ≡ t) (leaving_at endpoints frames t)
 
--- they stand by endpoint
+-- they are in the order of endpoints
 abbrev pub LeavingAreByEndpoint : Type 0
 LeavingAreByEndpoint = (endpoints : ℕ) (frames : List LinkFrame) (t : ℤ) → AllPairs (λ f g. f.ep ≤ g.ep) (leaving_at endpoints frames t)
 
@@ -49,7 +49,7 @@ AllAreSent = (endpoints : ℕ) (frames : List LinkFrame) → AreOf endpoints fra
 abbrev pub TimesRise : Type 0
 TimesRise = (endpoints : ℕ) (frames : List LinkFrame) → AllPairs (λ f g. f.at.0 ≤ℤ g.at.0) (in_sent_order endpoints frames)
 
--- and those of a tick stand as said of it
+-- and those of a tick are in the order said of it
 abbrev pub TicksStandTogether : Type 0
 TicksStandTogether =
     (endpoints : ℕ) (frames : List LinkFrame) (t : ℤ) → first_clock ≤ℤ t → t ≤ℤ end_of_time

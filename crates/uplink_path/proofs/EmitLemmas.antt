@@ -135,7 +135,7 @@ fewer c h ru next job stands gives =
 
 -- ---- a link that had no room
 
--- the first of some messages' frames were sent behind others
+-- the first of some messages' frames were sent after others
 some_more : (c : Config) (antenna : Antenna) (ms all closed more rest : List (Message UplinkJob)) (old now after : List LinkFrame) → all ≡ (closed ++ more) ++ rest
     → now ≡ old ++ frames_behind c antenna ms closed → SentSome (frames_behind c antenna (onto ms closed) more) now after → SentSome (frames_behind c antenna ms all) old after
 some_more c antenna ms all closed more rest old now after is before s =

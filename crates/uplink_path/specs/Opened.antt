@@ -58,7 +58,7 @@ pub record CanPack {F : Type 0} (u : Uplink F) (opened : Option Pending) (j : Up
   pub is_open : IsOpen config opened message
   pub can : CanTake config j
 
--- the messages that these jobs make behind the one that is open
+-- the messages that these jobs make after the one that is open
 abbrev pub messages_from : Config → Option (Message UplinkJob) → List UplinkJob → List (Message UplinkJob)
 messages_from c None js = uplink_messages_of c js
 messages_from c (Some m) js = messages_behind c m js

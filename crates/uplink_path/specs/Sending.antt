@@ -27,7 +27,7 @@ abbrev pub wait_in : Option Run → UplinkJob → ℕ
 wait_in None j = 0
 wait_in (Some r) j = if (r.ep == j.ep) && (same_slot r.slot j.slot && (r.symbol == j.symbol)) then r.wait else 0
 
--- how long a frame waits behind the first of its symbol, where so many leave before it
+-- how long a frame waits after the first of its symbol, where so many leave before it
 abbrev pub wait_behind : Config → ℕ → ℕ
 wait_behind c i = min (i * (departures_of c UpData).gap) (departures_of c UpData).spread
 

@@ -12,7 +12,7 @@ use Rattle.ru_buffers.specs.declared.unit.Ru.{Ru}
 use Rattle.uplink_path.specs.Emitting.{AreNumbered}
 use Rattle.uplink_path.specs.declared.uplink.Uplink.{Uplink}
 
--- a unit of this configuration, to which a frame may come
+-- a unit of this configuration, which may receive a frame
 pub record IsUnitOf (c : Config) (u : Ru) : Type 0 where
   pub history : History
   pub stands : StandsFor c u history

@@ -15,7 +15,7 @@ pub(crate) struct Rules {
     pub(crate) fragment: usize,
     /// The most sections of a message.
     pub(crate) pack: usize,
-    /// When frames leave, behind their symbol's start.
+    /// When frames leave, after their symbol's start.
     pub(crate) departures: Departures,
 }
 
@@ -41,7 +41,7 @@ pub(crate) fn rules_of(config: &Config) -> Rules
     }
 }
 
-/// How long the first frame of a job's message waits behind the first of its symbol.
+/// How long the first frame of a job's message waits after the first of its symbol.
 pub(crate) fn wait_in(run: Option<Run>, job: &UplinkJob) -> u64
     ensures { result ≡ wait_in run job.now }
 {

@@ -77,7 +77,7 @@ sorted_is xs ys sorted stable =
     (λ x. stable x ∙ sym (tied_stay by_start start_ranks x xs))
     ∙ ap (λ (lt : SymbolStart → SymbolStart → Bool). in_order lt xs) same_order
 
--- lists of which those that tie are the same come in the same order
+-- lists of which those that tie are the same are put into the same order
 pub same_in_order : (xs ys : List SymbolStart) → ((x : SymbolStart) → filter (ties comes_before x) xs ≡ filter (ties comes_before x) ys)
     → in_order comes_before xs ≡ in_order comes_before ys
 same_in_order xs ys same =
@@ -103,7 +103,7 @@ eq_turned a b h = grind (arith, ints, Decides-int_eq)
 num_turned : (a b : ℕ) → (b == a) ≡ true → (a == b) ≡ true
 num_turned a b h = grind (arith, nat_tests)
 
--- by a number, and then by something else: neither comes first
+-- by a number, and then by something else: neither is first
 int_tie : (a b : ℤ) (p q : Bool) → (int_lt a b || (int_eq a b && p)) ≡ false → (int_lt b a || (int_eq b a && q)) ≡ false → (int_eq b a ≡ true) × ((p ≡ false) × (q ≡ false))
 int_tie a b p q h k =
     let one = or_parts (int_lt a b) _ h in

@@ -44,7 +44,7 @@ pub all_of_each : {A : Type 0} (p : ExplainLine → Bool) (f : A → List Explai
 all_of_each p f all [] = refl
 all_of_each p f all (x ∷ xs) = filter-append p (f x) (flat_map f xs) ∙ ap₂ ◌++◌ (all x) (all_of_each p f all xs)
 
--- ---- what stands around the lines of events and of reasons
+-- ---- what is around the lines of events and of reasons
 
 module _ (p : ExplainLine → Bool) where
   no_endpoint : ((e : EndpointConfig) → p (line.Endpoint e) ≡ false) → (es : List EndpointConfig) → filter p (endpoint_lines es) ≡ []

@@ -39,7 +39,7 @@ use Rattle.why_lines.proofs.RunLemmas.{are_unrelated, lines_append, pieces_same}
 use Rattle.fh_base.proofs.EachLemmas.{each_same}
 use Rattle.fh_base.proofs.MemberLemmas.{all_join as all_append, all_map as all_weaker}
 
--- ---- where items stand
+-- ---- where items are
 
 -- of the line with this place
 abbrev pub IsOfLine : ℕ → SilentItem → Type 0

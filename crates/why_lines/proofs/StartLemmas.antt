@@ -221,7 +221,7 @@ module _ (es : List EndpointConfig) (side : Side) where
         ∙ sym (ap (flat_map (start_in es side)) (lost_first (of_key x) r rs f))
   ]
 
-  -- ---- they come in the order of their keys
+  -- ---- they are in the order of their keys
 
   abbrev not_before : SymbolKey → SymbolKey → Type 0
   not_before k l = is_lt (order_cmp (order_of l) (order_of k)) ≡ false

@@ -30,7 +30,7 @@ abbrev pub is_why_silent : ExplainLine → Bool
 is_why_silent (line.WhySilent run mask number reason) = true
 is_why_silent _ = false
 
--- among these lines stand those of the cells of the events, those that say why cells are missing and those that say why elements of the
+-- among these lines are those of the cells of the events, those that say why cells are missing and those that say why elements of the
 -- plan are silent, each in their order; and no other lines of these three kinds
 pub record HaveLines (c : Config) (plan : List PlanLine) (numbers : List ℕ) (events : List Event) (ls : List ExplainLine) : Type 0 where
   pub cells : filter is_cells ls ≡ filter is_cells (event_lines c events)
@@ -56,10 +56,10 @@ pub record SumsAreOfLines : Type 0 where
   -- and of both
   pub both : (c : Config) (plan : List PlanLine) (numbers : List ℕ) (events : List Event) (ls : List ExplainLine) → HaveLines c plan numbers events ls
       → sum_text c.endpoints Ru ls ++ sum_text c.endpoints Du ls ≡ sum_lines c (reasoned c plan numbers events) events
-  -- the lines of events and then those of reasons are such lines, whatever others stand around them
+  -- the lines of events and then those of reasons are such lines, whatever others are around them
   pub told : (c : Config) (plan : List PlanLine) (numbers : List ℕ) (events : List Event) (front back : List ExplainLine) → HaveNone front → HaveNone back
       → HaveLines c plan numbers events (told_lines c plan numbers events front back)
-  -- others are those that stand before the events, those of margins and those of counters
+  -- others are those before the events, those of margins and those of counters
   pub first : (c : Config) → HaveNone (first_lines c)
   pub margins : (c : Config) (events : List Event) → HaveNone (margin_lines c events)
   pub counts : (events : List Event) → HaveNone (count_lines events)

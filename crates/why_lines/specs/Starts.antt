@@ -1,4 +1,4 @@
--- The symbols of sections of data, each once where those of one symbol stand together, and what they are sorted by.
+-- The symbols of sections of data, each once where those of one symbol are together, and what they are sorted by.
 use Rattle.std.specs.Prelude.{◌<◌, ◌-◌, ◌&&◌, pos, neg_ℤ, int_le, nat_lt, Bool, true, false, if◌then◌else◌, List, [], ◌∷◌, ◌++◌, length, Option, Some, None, slice_get}
 use Rattle.std.specs.List.{flat_map}
 use Rattle.std.specs.Ordering.{int_cmp, nat_cmp, on, then_cmp}

@@ -142,7 +142,7 @@ fn start_in(endpoints: &[EndpointConfig], side: Side, r: &DataRecord) -> Option<
     }
 }
 
-/// The symbols of the sections on time of a unit, in their order, each once where those of one symbol stand together.
+/// The symbols of the sections on time of a unit, in their order, each once where those of one symbol are together.
 fn starts_once(
     alloc: Global,
     endpoints: &[EndpointConfig],

@@ -1,4 +1,4 @@
-// A planned section of which no copy came: its line in a worked explanation.
+// A planned section of which no copy was received: its line in a worked explanation.
 ghost use Rattle.std.specs.Prelude.{◌≡◌};
 ghost use Rattle.fh_base.specs.Numbering.{ordinary_at};
 ghost use Rattle.fh_base.specs.declared.spacing.Spacing.TheVariants.{Khz30};

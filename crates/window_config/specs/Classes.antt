@@ -10,13 +10,13 @@ use Rattle.window_config.specs.Windows.{ticks_of_ns}
 abbrev pub classified : Bool → Bool → Class
 classified is_late is_early = if is_late then Late else if is_early then Early else OnTime
 
--- at the RU, whose messages come before their symbol: late where the last part comes less than the minimum before it, early
--- where the first part comes more than the maximum before it
+-- at the RU, whose messages are before their symbol: late where the last part is received less than the minimum before it, early
+-- where the first part is received more than the maximum before it
 abbrev pub class_of : ℤ → ℤ → ℤ → Range → Class
 class_of first last s window = classified (int_lt (s -ℤ last) (ticks_of_ns window.min)) (int_lt (ticks_of_ns window.max) (s -ℤ first))
 
--- at the DU, whose messages come after their symbol: late where the last part comes more than the maximum after it, early where
--- the first part comes less than the minimum after it
+-- at the DU, whose messages are after their symbol: late where the last part is received more than the maximum after it, early where
+-- the first part is received less than the minimum after it
 abbrev pub class_up_of : ℤ → ℤ → ℤ → Range → Class
 class_up_of first last s window = classified (int_lt (ticks_of_ns window.max) (last -ℤ s)) (int_lt (first -ℤ s) (ticks_of_ns window.min))
 

@@ -21,6 +21,6 @@ pub record AreEndpoints (endpoints : List EndpointConfig) : Type 0 where
   pub few : length endpoints ≤ 16
   pub differ : AppearOnce (ids_of endpoints)
 
--- what stands behind the ends of a list
+-- what is after the ends of a list
 abbrev pub no_endpoint : EndpointConfig
 no_endpoint = record { id = 0; numerology = extended_of; prbs = 1; format = record { dynamic = false; method = Plain } }

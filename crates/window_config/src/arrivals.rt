@@ -24,7 +24,7 @@ fn classified(is_late: bool, is_early: bool) -> Class
 
 /// The class at the RU of a message whose first and last part arrived at these times, for a symbol that starts at `s`.
 ///
-/// It is Late where its last part comes less than the window's minimum before the symbol, else Early where its first part comes
+/// It is Late where its last part is received less than the window's minimum before the symbol, else Early where its first part is received
 /// more than the maximum before it, else OnTime: both ends are inclusive.
 pub fn class(first: Ticks, last: Ticks, s: Ticks, window: Range) -> Class
     requires first_low { neg_ℤ (pos (2 ^ 56)) ≤ℤ first.0 }
@@ -45,7 +45,7 @@ pub fn class(first: Ticks, last: Ticks, s: Ticks, window: Range) -> Class
 
 /// The class at the DU of a message whose first and last part arrived at these times, for a symbol that starts at `s`.
 ///
-/// It is Late where its last part comes more than the window's maximum after the symbol, else Early where its first part comes
+/// It is Late where its last part is received more than the window's maximum after the symbol, else Early where its first part is received
 /// less than the minimum after it, else OnTime: both ends are inclusive.
 pub fn class_up(first: Ticks, last: Ticks, s: Ticks, window: Range) -> Class
     requires first_low { neg_ℤ (pos (2 ^ 56)) ≤ℤ first.0 }

@@ -5,7 +5,7 @@ ghost use Rattle.window_config.specs.Windows.{ticks_of_ns};
 
 use fh_base::{Ticks, of_ns};
 
-/// Whether `to` comes less than so many nanoseconds after `from`.
+/// Whether `to` is less than so many nanoseconds after `from`.
 pub(crate) fn is_shorter(from: Ticks, to: Ticks, ns: i64) -> bool
     requires from_low { neg_ℤ (pos (2 ^ 57)) ≤ℤ from.0 }
     requires from_high { from.0 ≤ℤ pos (2 ^ 57) }
@@ -17,7 +17,7 @@ pub(crate) fn is_shorter(from: Ticks, to: Ticks, ns: i64) -> bool
     to.0 - from.0 < of_ns(ns).0
 }
 
-/// Whether `to` comes more than so many nanoseconds after `from`.
+/// Whether `to` is more than so many nanoseconds after `from`.
 pub(crate) fn is_longer(from: Ticks, to: Ticks, ns: i64) -> bool
     requires from_low { neg_ℤ (pos (2 ^ 57)) ≤ℤ from.0 }
     requires from_high { from.0 ≤ℤ pos (2 ^ 57) }

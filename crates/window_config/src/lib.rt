@@ -1,5 +1,5 @@
 //! The windows of an open fronthaul: when a message is on time, whether a delay profile can work at all, and how many slots a
-//! unit has to hold. Beside them stand the types of a configuration and of the lines of a plan.
+//! unit has to hold. Beside them are the types of a configuration and of the lines of a plan.
 //!
 //! Delay management follows O-RAN.WG4.CUS. Windows are given in whole nanoseconds and compared in ticks of 1/1536 ns, as symbols
 //! start between nanoseconds. Nothing allocates.

@@ -1,6 +1,6 @@
 // What is said of an arrival.
 
-/// How a message stands to the window of its symbol.
+/// Where a message is relative to the window of its symbol.
 #[derive(Clone, Copy, Debug, PartialEq, Eq)]
 pub enum Class {
     /// All of it arrived inside the window.

@@ -37,7 +37,7 @@ fitted_cases P d is at_up at_cp_ul at_ta4 fits =
     by_test P _ _ _ (λ e. let h = under longest (planned d).hold_ul e in let k = hold_ul_fits d is (not_under _ _ ta4) in absurd (omega (arith, ints, h, k))) (λ ul.
     fits (not_under _ _ up) (not_under _ _ cp_ul) (not_under _ _ ta4))))))
 
--- what came out of a test that may refuse
+-- what resulted from a test that may refuse
 pub chosen_ok : {R E : Type 0} (b : Bool) (e : E) (x y : R) → (if b then Err e else Ok x) ≡ Ok y → (y ≡ x) × (b ≡ false)
 chosen_ok true e x y h = cc
 chosen_ok false e x y h = (cc, refl)
@@ -52,7 +52,7 @@ fitted_is d is up cp_ul ta4 =
     ∙ if_not _ _ _ (not_under_is longest (planned d).hold_dl (hold_dl_fits d is))
     ∙ if_not _ _ _ (not_under_is longest (planned d).hold_ul (hold_ul_fits d is (not_under _ _ ta4)))
 
--- a profile made of the parts that came out
+-- a profile made of the parts that resulted
 same_parts : (d : Delays) (up up' cp cp' ta4 ta4' : Range) (advance dl dl' ul ul' : ℤ) → up ≡ up' → cp ≡ cp' → ta4 ≡ ta4' → advance ≡ d.advance → dl ≡ dl' → ul ≡ ul'
     → record d { t1a_up = up; t1a_cp_ul = cp; ta4 = ta4; advance = advance; hold_dl = dl; hold_ul = ul }
     ≡ record d { t1a_up = up'; t1a_cp_ul = cp'; ta4 = ta4'; hold_dl = dl'; hold_ul = ul' }

@@ -1,4 +1,4 @@
--- Texts that were appended one behind the other.
+-- Texts that were appended one after the other.
 use Rattle.std.proofs.Common.{◌≡◌, ℕ, List, ◌++◌, ap, append_assoc, ◌∙◌}
 
 pub three : (before a b after x y z : List ℕ) → a ≡ before ++ x → b ≡ a ++ y → after ≡ b ++ z → after ≡ before ++ ((x ++ y) ++ z)

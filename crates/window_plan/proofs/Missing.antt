@@ -1,4 +1,4 @@
--- A frame at one end of its window, which comes outside the other unit's.
+-- A frame at one end of its window, which is received outside the other unit's.
 use Rattle.std.proofs.Common.{◌≡◌, ℤ, ◌+ℤ◌, ◌-ℤ◌, ◌≤ℤ◌, ◌<ℤ◌, neg_ℤ, Bool, true, false, refl, arith}
 use Rattle.std.proofs.lemmas.Int.{ints}
 use Rattle.window_config.specs.declared.delays.Range.{Range}
@@ -21,7 +21,7 @@ is_early true early e f = cc
 is_early false true e f = refl
 is_early false false e f = cc
 
--- how long before its symbol a frame comes
+-- how long before its symbol a frame is received
 gap_before : (s ns sent delay : ℤ) → ns <ℤ (neg_ℤ sent -ℤ delay) → ticks_of_ns ns <ℤ (s -ℤ arrival s sent delay)
 gap_before s ns sent delay h = omega (arith, ints)
 
@@ -35,7 +35,7 @@ gap_after s ns sent delay h = omega (arith, ints)
 gap_short : (s ns sent delay : ℤ) → (sent +ℤ delay) <ℤ ns → (arrival s sent delay -ℤ s) <ℤ ticks_of_ns ns
 gap_short s ns sent delay h = omega (arith, ints)
 
--- at the RU: early where it comes more than the maximum before the symbol, late where it comes less than the minimum before it
+-- at the RU: early where it is received more than the maximum before the symbol, late where it is received less than the minimum before it
 early_before : (w : Range) (s sent delay : ℤ) → w.min ≤ℤ w.max → w.max <ℤ (neg_ℤ sent -ℤ delay) → class_of (arrival s sent delay) (arrival s sent delay) s w ≡ Early
 early_before w s sent delay order far =
     is_early _ _
@@ -45,7 +45,7 @@ early_before w s sent delay order far =
 late_before : (w : Range) (s sent delay : ℤ) → (neg_ℤ sent -ℤ delay) <ℤ w.min → class_of (arrival s sent delay) (arrival s sent delay) s w ≡ Late
 late_before w s sent delay near = is_late _ _ (under_is _ _ (gap_under s w.min sent delay near))
 
--- at the DU: early where it comes less than the minimum after the symbol, late where it comes more than the maximum after it
+-- at the DU: early where it is received less than the minimum after the symbol, late where it is received more than the maximum after it
 early_after : (w : Range) (s sent delay : ℤ) → w.min ≤ℤ w.max → (sent +ℤ delay) <ℤ w.min → class_up_of (arrival s sent delay) (arrival s sent delay) s w ≡ Early
 early_after w s sent delay order near =
     is_early _ _

@@ -69,7 +69,7 @@ begins_over hold at later (g ∷ gs) h apart = ap (λ b. if b then false else tr
 id_of : (a b : Fragment) → b.ep ≡ a.ep → b.seq ≡ a.seq → is_of b.ep b.seq a ≡ true
 id_of a b e f = ap₂ (λ ep seq. is_of ep seq a) e f ∙ own_id a
 
--- behind a fragment that came last of all, one of its id that comes more than the hold later begins a generation
+-- after a fragment that was received last of all, one of its id that is received more than the hold later begins a generation
 first_behind : (hold : ℤ) (a b : Fragment) (earlier : List Fragment) → (a.at +ℤ hold) <ℤ b.at → b.ep ≡ a.ep → b.seq ≡ a.seq → NoneAfter a.at earlier
     → is_first hold b (a ∷ earlier) ≡ true
 first_behind hold a b earlier apart ep seq none =

@@ -84,7 +84,7 @@ is_on_hold Ta4Max = false
 is_on_hold HoldDl = true
 is_on_hold HoldUl = true
 
--- the frames that come earliest or latest of all that a relation speaks of; of a hold the first and the last
+-- the frames that are received earliest or latest of all that a relation speaks of; of a hold the first and the last
 abbrev pub extreme_of : Relation → Delays → Breach
 extreme_of UpMax d = One (neg_ℤ d.t1a_up.max) d.t12.min
 extreme_of UpMin d = One (neg_ℤ d.t1a_up.min) d.t12.max
@@ -114,7 +114,7 @@ pub record MissesWindow (r : Relation) (d : Delays) (sent delay : ℤ) : Type 0 
   pub missed : (s : ℤ) → heard_as r d (arrival s sent delay) s ≡ missed_as r
   pub not_on_time : (s : ℤ) → heard_as r d (arrival s sent delay) s ≡ OnTime → ⊥
 
--- arrivals none of which came after a time
+-- arrivals none of which was received after a time
 abbrev pub NoneAfter : ℤ → List Fragment → Type 0
 NoneAfter time [] = ⊤
 NoneAfter time (a ∷ more) = (a.at ≤ℤ time) × NoneAfter time more
@@ -127,10 +127,10 @@ pub record Parts (r : Relation) (d : Delays) (sent delay later later_delay : ℤ
   pub later_inside : IsIn (sent_in r d) later
   pub later_delay_inside : IsIn (delayed_by r d) later_delay
   pub apart : (s : ℤ) → (arrival s sent delay +ℤ ticks_of_ns (hold_of r d)) <ℤ arrival s later later_delay
-  -- behind the first frame, which came last of all that had arrived, the later one begins a generation
+  -- after the first frame, which was received last of all that had arrived, the later one begins a generation
   pub begins : (s : ℤ) (a b : Fragment) (earlier : List Fragment) → a.at ≡ arrival s sent delay → b.at ≡ arrival s later later_delay
       → b.ep ≡ a.ep → b.seq ≡ a.seq → NoneAfter a.at earlier → is_first (ticks_of_ns (hold_of r d)) b (a ∷ earlier) ≡ true
-  -- whatever arrived before the later one, the generation that it falls in began after the first frame had come
+  -- whatever arrived before the later one, the generation that it falls in began after the first frame had been received
   pub after : (s : ℤ) (b : Fragment) (arrivals : List Fragment) → b.at ≡ arrival s later later_delay
       → arrival s sent delay <ℤ start_in (ticks_of_ns (hold_of r d)) b.at (generations_of (ticks_of_ns (hold_of r d)) b.ep b.seq arrivals)
 

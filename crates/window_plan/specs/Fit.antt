@@ -12,7 +12,7 @@ use Rattle.window_plan.specs.Breaches.{breach_of}
 use Rattle.window_plan.specs.Fitting.{fitted}
 use Rattle.window_plan.specs.Windows.{range_text}
 
--- when a frame is sent and how long it takes, each behind a space
+-- when a frame is sent and how long it takes, each after a space
 abbrev pub frame_text : ℤ → ℤ → List ℕ
 frame_text sent delay = spaced_signed_text sent ++ spaced_signed_text delay
 

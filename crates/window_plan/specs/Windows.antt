@@ -12,7 +12,7 @@ use Rattle.window_config.specs.Windows.{cp_dl_of}
 use Rattle.window_config.specs.Relations.{name_of, checked}
 use Rattle.window_config.specs.Rings.{ru_reach_of, du_reach_of, ring_slots_of}
 
--- a minimum and a maximum, each behind a space
+-- a minimum and a maximum, each after a space
 abbrev pub range_text : Range → List ℕ
 range_text r = spaced_signed_text r.min ++ spaced_signed_text r.max
 

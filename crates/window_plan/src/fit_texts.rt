@@ -155,7 +155,7 @@ fn tell_fit<K: Sink>(d: &Delays, owed: &mut OwedBytes, out: &mut K) -> Result<()
 }
 
 /// Writes why the windows of a profile fail and the greatest that fit: `breach NAME SENT DELAY` for each relation that fails, with
-/// the same two numbers of a later frame behind them for a hold, and then `t1a MINUP MAXUP MINCPUL MAXCPUL`, `ta4 MIN MAX` and `hold
+/// the same two numbers of a later frame after them for a hold, and then `t1a MINUP MAXUP MINCPUL MAXCPUL`, `ta4 MIN MAX` and `hold
 /// DL UL`, which are left out where `fit` refuses. Times are in nanoseconds.
 ///
 /// # Errors

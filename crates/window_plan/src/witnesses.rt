@@ -40,7 +40,7 @@ fn frame(sent: i64, delay: i64) -> Breach
     Breach::One { sent, delay }
 }
 
-// the frames that come earliest or latest of those that the relation speaks of
+// the frames that are received earliest or latest of those that the relation speaks of
 fn extreme(d: &Delays, r: Relation) -> Breach
     requires { IsWithinLimits d.now }
     ensures { result ≡ extreme_of r d.now }

@@ -34,7 +34,7 @@ abbrev pub leaving : TrafficClass → ℕ → List ℕ → Leaving
 leaving class at frame = record { at = ns at; class = class; frame = frame }
 
 -- Two commands and two frames of data: of its class and way each is number 1 or 2. The second command is lost. The first data is
--- received twice, its second copy later than the second data, which stands after it. The frame that is injected there stands last,
+-- received twice, its second copy later than the second data, which follows it in the list. The frame that is injected there is last,
 -- though it is received before the data.
 pub record CopiesAreAsWorked : Type 0 where
   pub lands : landing_with document Ru (leaving C 9530000 command ∷ leaving C 9580000 command ∷ leaving U 9655000 first_data ∷ leaving U 9656000 second_data ∷ [])

@@ -1,4 +1,4 @@
--- The whole texts of six documents, with their reasons: the lines of the plan stand in the document's lines with these numbers.
+-- The complete texts of six documents, with their reasons: the lines of the plan are in the document's lines with these numbers.
 use Rattle.std.specs.Prelude.{◌≡◌, true, false, List, [], ◌∷◌}
 use Rattle.window_config.specs.declared.plan.PlanKind.TheVariants.{Down, Up}
 use Rattle.window_config.specs.declared.plan.PlanLine.{PlanLine}

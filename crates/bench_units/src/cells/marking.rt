@@ -41,7 +41,7 @@ fn endpoints(numerology: Numerology, count: u8) -> EndpointList
     list
 }
 
-/// The cell of the radio unit that is marked after k others: the endpoints take turns, and behind the last one stands the next cell.
+/// The cell of the radio unit that is marked after k others: the endpoints take turns, and after the last one the next cell follows.
 fn turn(k: u32, endpoints: u8) -> AirCell
     requires { 0 < endpoints }
 {

@@ -110,7 +110,7 @@ fn step<A: Air>(ru: &mut Ru, to: Ticks, air: &mut A) -> Option<bool>
     }
 }
 
-/// Advances to a time, by way of the moments before it. Whether it came there.
+/// Advances to a time, by way of the moments before it. Whether it reached that time.
 pub fn advance<A: Air>(ru: &mut Ru, to: Ticks, air: &mut A) -> bool
     requires unit { StandsForSome ru.old }
     requires given { HasGivenPast ru.old }

@@ -1,4 +1,4 @@
-// The command of each slot, and when it comes.
+// The command of each slot, and when it is received.
 ghost use Rattle.std.specs.Prelude.{◌≤ℤ◌, ◌^◌, pos};
 ghost use Rattle.fh_base.specs.declared.frames.TheConstants.{FRAME};
 
@@ -7,7 +7,7 @@ use fh_base::{FRAME, Ticks};
 /// A slot of 30 kHz, in ticks.
 const SLOT: i64 = 768_000_000;
 
-/// A command comes so long before its slot, in ticks: 300 microseconds.
+/// A command is received so long before its slot, in ticks: 300 microseconds.
 const AHEAD: i64 = 460_800_000;
 
 /// When the slot with this number begins; slot 0 is the first of frame 1, which begins at 10 ms.
@@ -18,12 +18,12 @@ fn begins(slot: u16) -> i64
     FRAME + i64::from(slot) * SLOT
 }
 
-/// When its command comes.
+/// When its command is received.
 pub fn comes(slot: u16) -> Ticks {
     Ticks(begins(slot) - AHEAD)
 }
 
-/// A millisecond behind the slot's end, when all of it was sent.
+/// A millisecond after the slot's end, when all of it was sent.
 pub fn ends(slot: u16) -> Ticks {
     Ticks(begins(slot) + 3 * SLOT)
 }

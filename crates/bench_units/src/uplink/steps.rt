@@ -23,7 +23,7 @@ const MOST: i64 = 9_007_199_254_740_992;
 /// So many moments are passed at most.
 const MOMENTS: u32 = 1000;
 
-/// A unit that nothing came to.
+/// A unit that received nothing.
 pub fn made(alloc: Global, config: &Config) -> Option<Ru>
     requires { IsConfig config.now }
     ensures { IfSome result (λ u. IsUnitOf config.now u) }
@@ -78,7 +78,7 @@ fn may_be_next(config: &Config, unit: &Ru, to: Ticks) -> bool
     clock.0 <= to.0 && -MOST <= to.0 && to.0 <= MOST
 }
 
-/// Whether a time comes by another.
+/// Whether a time is not after another.
 fn is_by(a: Ticks, b: Ticks) -> bool
     ensures { result ≡ true → a.0 ≤ℤ b.0 }
 {
@@ -134,7 +134,7 @@ fn next_moment(unit: &Ru, to: Ticks) -> Ticks {
     }
 }
 
-/// Lets time pass to a time, by way of the moments before it, and sends what is due at each. Whether it came there.
+/// Lets time pass to a time, by way of the moments before it, and sends what is due at each. Whether it reached that time.
 pub fn pass<F: Fn(RePlace) -> Wide>(
     config: &Config,
     uplink: &mut Uplink<F>,

@@ -5,7 +5,7 @@ use Rattle.fronthaul_replay.proofs.StopLemmas.{none_heard}
 use Rattle.fronthaul_replay.proofs.FaultLemmas.{air_stopped, ok_passed, replay_cause, replay_wanted}
 use Rattle.fronthaul_replay.proofs.replays.replay.Goals as goal
 
--- no memory for what is to come
+-- no memory for what is still to be received
 
 pub returns-in_err-coming-clause-sound : goal.returns-in_err-coming-clause-sound
 returns-in_err-coming-clause-sound g c = is_sound c.args.doc.now (record { document = c.requires.document; valid = c.requires.plan.valid })

@@ -1,4 +1,4 @@
--- What stands before the counters, and the line of this one.
+-- What is before the counters, and the line of this one.
 use Rattle.std.proofs.Common.{◌∙◌}
 use Rattle.std.proofs.lemmas.Result.{on_err_weaker, on_ok_weaker}
 use Rattle.explain_air.proofs.AirSteps.{close_stops, count_grows, count_stops}

@@ -1,4 +1,4 @@
--- Nothing came.
+-- Nothing was received.
 use Rattle.std.proofs.Common.{[]}
 use Rattle.explain_units.proofs.ear.Ear.make.Goals as goal
 

@@ -9,7 +9,7 @@ use Rattle.report_airs.specs.SumAirs.{sums_of}
 use Rattle.report_airs.specs.States.{sum_ends}
 use Rattle.report_airs.proofs.sum_air.SumAir.finish.Goals as goal
 
--- where a text went on, and a front of what is owed was written behind it
+-- where a text went on, and a front of what is owed was written after it
 front : (line text : List ℕ) (w m n : Option (List ℕ)) (o p : List ℕ) → line ≡ text → Carried w o line m p → WritesFront m n p → WritesFront w n (o ++ text)
 front line text w m n o p is carried pushed = front_pushed w o text m p n (subst (λ (t : List ℕ). Carried w o t m p) is carried) pushed
 

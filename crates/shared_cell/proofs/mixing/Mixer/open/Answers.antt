@@ -1,4 +1,4 @@
--- The first cell of a place stands at the end, where it is found.
+-- The first cell of a place is at the end, where it is found.
 use Rattle.std.proofs.Common.{rules, ◌≡◌, ◌∙◌, ap, sym, subst, List, [], ◌∷◌, ◌++◌, None, All}
 use Rattle.std.proofs.lemmas.List.Elements.{All-push}
 use Rattle.shared_cell.specs.declared.places.CellPlace.{CellPlace}

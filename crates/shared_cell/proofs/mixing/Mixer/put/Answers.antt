@@ -1,4 +1,4 @@
--- The combined cell whose turn it is stands at the cell's place.
+-- The combined cell whose turn it is has the cell's place.
 use Rattle.std.proofs.Common.{arith, ◌≡◌, ◌<◌, ◌∙◌, ap, sym, length}
 use Rattle.shared_cell.specs.declared.places.CellPlace.{CellPlace}
 use Rattle.shared_cell.specs.declared.values.Mixed.{Mixed}

@@ -9,6 +9,6 @@ invariant-loop-self l = record {
   lease : lease_of l.self ≡ lease_of l.fn.self;
 }
 
--- the pieces and the bytes that are still to come
+-- the pieces and the bytes that are still to follow
 abbrev pub decreases-loop-self : goal.decreases-loop-self
 decreases-loop-self l = (length (pieces_of l.self.lease.now) - l.self.piece) + length (bytes_from (pieces_of l.self.lease.now) l.self.piece l.self.at)

@@ -11,6 +11,6 @@ invariant-loop-self l = record {
   part : next_part l.self ≡ next_part l.fn.self;
 }
 
--- the pieces and the bytes that are still to come
+-- the pieces and the bytes that are still to follow
 abbrev pub decreases-loop-self : goal.decreases-loop-self
 decreases-loop-self l = (length (pieces_of l.self.lease.now) - l.self.piece) + length (bytes_from (pieces_of l.self.lease.now) l.self.piece l.self.at)
