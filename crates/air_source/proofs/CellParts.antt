@@ -1,24 +1,16 @@
 -- When two symbols are the same, and what the line of a cell is made of.
-use Rattle.std.proofs.Common.{◌≡◌, true, ◌==◌, ◌++◌, refl, sym, ap, ◌∙◌, append_assoc}
+use Rattle.std.proofs.Common.{◌≡◌, true, ◌==◌, ◌++◌, sym, ap, ◌∙◌, append_assoc}
 use Rattle.std.specs.Prelude.{codes}
 use Rattle.std.specs.Cmp.{first_so, second_so}
 use Rattle.std.specs.Ordering.{int_eq}
 use Rattle.std.proofs.lemmas.Bool.{eqb-true}
 use Rattle.fh_base.proofs.Orders.{same_z}
 use Rattle.air_source.specs.declared.events.AirCell.{AirCell}
-use Rattle.air_source.specs.declared.events.Side.{Side}
-use Rattle.air_source.specs.declared.events.Side.TheVariants.{Ru, Du}
-use Rattle.air_source.specs.Units.{same_side}
 use Rattle.fh_base.specs.Words.{spaced_text, hex3_text}
 use Rattle.air_source.specs.declared.symbols.CellSymbol.{CellSymbol}
 use Rattle.air_source.specs.CellLines.{cell_text, samples_text}
 use Rattle.air_source.specs.SymbolWords.{symbol_of, same_symbol, symbol_text, rest_text}
-
-side_same : (a b : Side) → same_side a b ≡ true → a ≡ b
-side_same Ru Ru h = refl
-side_same Ru Du h = absurd cc
-side_same Du Ru h = absurd cc
-side_same Du Du h = refl
+use Rattle.air_source.proofs.Sides.{side_same}
 
 -- the same symbol is one symbol
 pub same_is : (p q : CellSymbol) → same_symbol p q ≡ true → p ≡ q

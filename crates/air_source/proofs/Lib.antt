@@ -9,3 +9,4 @@ pub mod Grids
 pub mod ToneBlocks
 pub mod CellParts
 pub mod Masks
+pub mod Sides

@@ -11,13 +11,11 @@ use Rattle.delay_measure.specs.declared.steps.MeterStep.TheVariants.{Result as R
 use Rattle.delay_measure.specs.Payload.{value_of}
 use Rattle.delay_measure.specs.Stamps.{delay_between}
 use Rattle.delay_measure.specs.Table.{after_message, response_in}
+use Rattle.delay_laws.proofs.Asking.{of_response}
 
 pub read_as : (short : Bool) (m n : DelayMessage) → Some m ≡ (if short then None else Some n) → m ≡ n
 read_as true m n e = absurd cc
 read_as false m n e = cc
-
-pub after_response : (e : Exchange) (m : DelayMessage) (sending receiving : Stamp) → m.action ≡ 2 → after_message e m sending receiving ≡ response_in e.own e.peer m
-after_response e m sending receiving is = rw is refl
 
 -- the delay is that from the stamp that was sent to the message's
 abbrev pub IsDelay : OwnState → DelayMessage → ℤ → Type 0
@@ -31,4 +29,4 @@ by_own Done peer m delay e = absurd cc
 
 pub is_delay : (e : Exchange) (m : DelayMessage) (sending receiving : Stamp) (next : Exchange) (delay : ℤ) → m.action ≡ 2
     → (next, ResultAlone delay) ≡ after_message e m sending receiving → IsDelay e.own m delay
-is_delay e m sending receiving next delay is step = by_own e.own e.peer m delay (ap (λ (p : Exchange × MeterStep). p.1) (step ∙ after_response e m sending receiving is))
+is_delay e m sending receiving next delay is step = by_own e.own e.peer m delay (ap (λ (p : Exchange × MeterStep). p.1) (step ∙ of_response e m sending receiving is))

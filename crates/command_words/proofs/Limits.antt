@@ -2,7 +2,6 @@
 use Rattle.std.proofs.Common.{◌≡◌, ℕ, ◌+◌, ◌≤◌, ◌<◌, ◌^◌, List, [], ◌∷◌, codes, refl, true, false, ◌&&◌, nat_le, subst, arith}
 use Rattle.std.specs.Prelude.{Some, None, Option}
 use Rattle.std.specs.Str.{bytes_eq}
-use Rattle.std.proofs.lemmas.Bool.Decides.{nat_tests}
 use Rattle.command_words.specs.Words.{bare_command, command_of, command_with_four, command_with_one, command_with_three, command_with_two, count_in, frame_in, whose_in, least_in, plain_in, seed_in, slots_in, start_in, step_in, subframe_in, subframes_in, with_both, with_frames, with_grid}
 use Rattle.command_words.specs.declared.commands.Command.{Command}
 use Rattle.command_words.specs.declared.commands.Command.TheVariants.{Replay, Summary, Capture, Show, Explain, Sent, Windows, Fit, Generate, Trial, Shared, Idle, DrawGrid, DrawWindows, Pcap, PcapCapture}
@@ -19,9 +18,6 @@ HasLimits (Trial seed slots) = AreNumbers seed slots
 HasLimits command = Unit {0}
 
 -- ---- a number
-
-at_least : (m n : ℕ) → nat_le m n ≡ true → m ≤ n
-at_least m n e = grind (arith, nat_tests)
 
 numbers_are : (first second : List ℕ) (seed slots : ℕ) → seed_in first ≡ Some seed → slots_in second ≡ Some slots → AreNumbers seed slots
 numbers_are first second seed slots a b =

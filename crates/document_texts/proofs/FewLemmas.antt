@@ -24,7 +24,7 @@ use Rattle.plan_model.specs.Streams.{frames_in, messages_of, most_parts, part_fi
 use Rattle.plan_model.specs.declared.lines.PlannedLine.{PlannedLine}
 use Rattle.plan_model.specs.declared.streams.Stream.{Stream}
 use Rattle.plan_model.specs.declared.streams.Stream.TheVariants.{DownCommands, UpCommands, DownData}
-use Rattle.plan_model.proofs.TickLemmas.{int_below, int_cases, ticks_same}
+use Rattle.plan_model.proofs.TickLemmas.{int_cases, ticks_same}
 use Rattle.schedule_laws.specs.PlacedLines.{HasEndpoint, ArePlaced}
 use Rattle.du_scheduler.specs.Parts.{listed, part_first, timed}
 use Rattle.fh_base.proofs.OrderedLemmas.{in_order_keeps, in_order_ordered}
@@ -38,6 +38,7 @@ use Rattle.plan_model.specs.SentOrder.{at_time}
 use Rattle.du_scheduler.proofs.ProperLemmas.{messages_are_runs}
 use Rattle.du_scheduler.proofs.RunLemmas.{runs_are}
 use Rattle.why_lines.proofs.OrderLemmas.{tied_apart}
+use Rattle.fh_base.proofs.Orders.{int_below}
 
 -- ---- going over all ticks finds no frame twice
 

@@ -13,15 +13,13 @@ use Rattle.fh_document.specs.declared.config_lines.TheConstants.{MOST_TRANSIT}
 use Rattle.fh_document.specs.declared.delivered.Delivery.{Delivery}
 use Rattle.document_texts.specs.Units.{UnitsAreDocuments, moved, moved_delivery, moves}
 use Rattle.fh_base.proofs.CommonLemmas.{least_of as at_least}
+use Rattle.fh_base.proofs.Orders.{at_most as over}
 
 at_most : (a b : ℤ) → int_min a b ≤ℤ b
 at_most a b = omega (arith, ints, clamps)
 
 further : (more least : ℕ) (ns : ℤ) → pos least ≤ℤ ns → pos least ≤ℤ (ns +ℤ pos more)
 further more least ns h = omega (arith, ints, h)
-
-over : (x y z : ℤ) → x ≤ℤ y → y ≤ℤ z → x ≤ℤ z
-over x y z h k = omega (arith, ints, h, k)
 
 -- a time that is longer stays within the limits
 pub moved_from : (more least : ℕ) (ns : ℤ) → IsFrom least MOST_TRANSIT ns → IsFrom least MOST_TRANSIT (moved more ns)

@@ -33,6 +33,7 @@ use Rattle.document_traffic.specs.Exchanged.{counted_of, delays_counted, is_shor
 use Rattle.document_traffic.specs.Measured.{delay_messages, delays_of, exchanges}
 use Rattle.document_traffic.specs.Replayed.{doings_in, landings_for, traffic_of}
 use Rattle.document_traffic.specs.Sides.{IsSideOf, heard_at}
+use Rattle.fh_base.proofs.Orders.{one_moved}
 
 module _ (w : Setting) (k : Counter) where
   -- a unit counted this of what both heard, and of so many messages that are too short
@@ -212,9 +213,6 @@ among_onto k earlier (x ∷ xs) =
     join : (whole one earlier rest this that : ℕ) → whole ≡ this + rest → this ≡ one + earlier → that ≡ one + rest → whole ≡ earlier + that
     join whole one earlier rest this that a b c = omega (arith, a, b, c)
 
-sooner : (n m k : ℕ) → suc n + m ≡ k → n + suc m ≡ k
-sooner n m k h = omega (arith, h)
-
 module _ (d : Document) (is : IsReplayable d) (side : Side) (k : Counter) where
   counted_in : (n m : ℕ) → n + m ≡ tick_count
       → Tallies (own d) k side (before (state (own d) first_clock n)) (doings_in d side n) (shorts_among (own d) k (arrivals_in (landings_for side d) n))
@@ -224,7 +222,7 @@ module _ (d : Document) (is : IsReplayable d) (side : Side) (k : Counter) where
   counted_in (suc n) m count =
       let t : ℤ = first_clock +ℤ pos n in
       let s = state (own d) first_clock n in
-      let here = sooner n m tick_count count in
+      let here = one_moved n m tick_count count in
       let told = comes_as_told d is in
       let landed = landing_at (landings_for side d) t in
       let earlier = arrivals_in (landings_for side d) n in

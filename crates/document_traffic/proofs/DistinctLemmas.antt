@@ -30,6 +30,7 @@ use Rattle.document_traffic.proofs.StampLemmas.{AreStamps, receiving_fits, sendi
 use Rattle.document_traffic.specs.MeasuredLaws.{DocumentsAreDistinct}
 use Rattle.document_traffic.specs.Measured.{delay_messages, delays_of, others_of, read_as}
 use Rattle.fh_base.proofs.EachLemmas.{gap_is}
+use Rattle.fh_base.proofs.Orders.{frame_low_is}
 
 -- ---- ids that are read
 
@@ -59,13 +60,10 @@ others_ids d side t = all_flat (λ (a : Arrival). delay_messages a.frame) (λ a.
 
 -- ---- stamps of a document
 
--- a tick that is gone over is none after the end of time
-tick_low : (k : ℕ) → first_clock ≤ℤ (first_clock +ℤ pos k)
-tick_low k = omega (arith, ints)
-
 below_end : (first end : ℤ) (count k : ℕ) → first +ℤ pos count ≡ end +ℤ pos 1 → k < count → (first +ℤ pos k) ≤ℤ end
 below_end first end count k is lt = omega (arith, ints, is, lt)
 
+-- a tick that is gone over is none after the end of time
 tick_high : (k : ℕ) → k < tick_count → (first_clock +ℤ pos k) ≤ℤ end_of_time
 tick_high k lt = below_end first_clock end_of_time tick_count k (gap_is first_clock (end_of_time +ℤ pos 1) clock_begins) lt
 
@@ -86,7 +84,7 @@ documents_are_distinct d side replayed =
     let is = replayed.document in
     let w : Setting = setting_of d (others_of d) in
     let ids = all_kept w IsIdSent IsIdHeard (ids_kept w (All-map (λ (b : Begin). b.id < 2 ^ 8) begin_of d.measures (λ k m lt. (is.measures k m lt).id)) (others_ids d)) first_clock tick_count in
-    let rest = sent_fits w first_clock tick_count (λ k lt. stamps d is.comps (first_clock +ℤ pos k) (tick_low k) (tick_high k lt)) in
+    let rest = sent_fits w first_clock tick_count (λ k lt. stamps d is.comps (first_clock +ℤ pos k) (frame_low_is first_clock k) (tick_high k lt)) in
     record {
       others_have_none = delayed_plain d is replayed.valid (widths_are d is) side;
       fit = λ k f lt. record {

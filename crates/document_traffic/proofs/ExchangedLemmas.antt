@@ -41,6 +41,7 @@ use Rattle.document_traffic.specs.Sides.{IsSideOf}
 use Rattle.document_traffic.specs.Measured.{delay_messages}
 use Rattle.fh_base.proofs.EachLemmas.{gap_is, ticks_split}
 use Rattle.generated_laws.proofs.Told.{first_few as same_count}
+use Rattle.fh_base.proofs.Orders.{one_moved}
 
 -- ---- the delays among events
 
@@ -183,9 +184,6 @@ tick_more from n f =
     let count : suc n ≡ n + 1 = omega arith in
     ap (λ (k : ℕ). each_tick from k f) count ∙ ticks_split from n 1 f ∙ ap (λ xs. each_tick from n f ++ xs) (one_tick (from +ℤ pos n) f)
 
-sooner : (n m k : ℕ) → suc n + m ≡ k → n + suc m ≡ k
-sooner n m k h = omega (arith, h)
-
 module _ (d : Document) (is : IsReplayable d) where
   -- the frames of a tick with what a unit has of it then
   frames_at : (side : Side) (n : ℕ)
@@ -225,8 +223,8 @@ module _ (d : Document) (is : IsReplayable d) where
       let t : ℤ = first_clock +ℤ pos n in
       ap delays (tick_more first_clock n f)
       ∙ delays_append (each_tick first_clock n f) (f t)
-      ∙ ap (λ (es : List Event). es ++ delays (f t)) (told_so_far n (suc m) (sooner n m tick_count count))
-      ∙ tick_tells n m (sooner n m tick_count count)
+      ∙ ap (λ (es : List Event). es ++ delays (f t)) (told_so_far n (suc m) (one_moved n m tick_count count))
+      ∙ tick_tells n m (one_moved n m tick_count count)
 
 pub delay_events_are_known : (d : Document) → IsReplayable d → filter is_delay_event (events d.config (traffic_of d)) ≡ delays_known d
 unfolding events

@@ -1,5 +1,5 @@
 -- What a unit is told goes on with its side of what both units heard.
-use Rattle.std.proofs.Common.{◌≡◌, ℕ, ℤ, ltb, true, false, if◌then◌else◌, List, [], ◌∷◌, ◌++◌, length, refl, sym, ap, ap₂, ◌∙◌, subst, append-nil, append_assoc, inl, inr}
+use Rattle.std.proofs.Common.{◌≡◌, ℕ, ℤ, ltb, false, if◌then◌else◌, List, [], ◌∷◌, ◌++◌, length, refl, sym, ap, ap₂, ◌∙◌, subst, append-nil, append_assoc, inl, inr}
 use Rattle.std.specs.Prelude.{Bool, filter, map, Option, Some, None}
 use Rattle.std.specs.List.{flat_map}
 use Rattle.std.specs.Option.{option_to_list}
@@ -22,10 +22,7 @@ use Rattle.document_traffic.specs.Doings.{Doings, forgotten, results_known_by, t
 use Rattle.document_traffic.specs.Measured.{delay_frame, delay_messages, delays_of, read_as}
 use Rattle.document_traffic.specs.Sides.{SidesAreTold, IsSideOf, OneIsTold, OthersStay, ResultsAreKnown, heard_at, known_as}
 use Rattle.air_source.specs.Units.{other, same_side}
-
-is_self : (side : Side) → same_side side side ≡ true
-is_self Ru = refl
-is_self Du = refl
+use Rattle.air_source.proofs.Sides.{side_self}
 
 is_not : (side : Side) → same_side (other side) side ≡ false
 is_not Ru = refl
@@ -45,8 +42,8 @@ one_told w side h d one s =
     let sent : List Told → List DelayMessage = λ told. sent_then c (exchange_after c.sending c.receiving told (id_of one)) one in
     let next : map delay_frame (h.made side ++ sent (told_to side h.heard)) ≡ map delay_frame (h.made side) ++ map delay_frame (sent (told_to side h.heard)) = framed (h.made side) (sent (told_to side h.heard)) in
     record {
-      told = rw (is_self side) (ap (λ (xs : List Told). one ∷ xs) s.told);
-      made = rw (is_self side) (ap₂ (λ (xs : List (List ℕ)) (told : List Told). xs ++ map delay_frame (sent told)) s.made s.told ∙ sym next);
+      told = rw (side_self side) (ap (λ (xs : List Told). one ∷ xs) s.told);
+      made = rw (side_self side) (ap₂ (λ (xs : List (List ℕ)) (told : List Told). xs ++ map delay_frame (sent told)) s.made s.told ∙ sym next);
     }
 
 -- ---- other

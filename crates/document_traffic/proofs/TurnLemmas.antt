@@ -29,7 +29,7 @@ use Rattle.document_traffic.specs.Measured.{delay_frame, exchanges, flights_then
 use Rattle.document_traffic.specs.Replayed.{after_tick, begins_at, doings_at, doings_in, landings_for, leaving_flight, leaving_made, made_at, told_frames}
 use Rattle.document_traffic.specs.Sides.{IsSideOf}
 use Rattle.document_traffic.specs.Turns.{FlightsWait, IsQuietBetween}
-use Rattle.fh_base.proofs.Orders.{at_most}
+use Rattle.fh_base.proofs.Orders.{at_most, one_moved}
 use Rattle.air_source.specs.Units.{other}
 use Rattle.unit_model.specs.Times.{tick_count}
 use Rattle.fh_base.proofs.EachLemmas.{gap_is, gap_none, gap_parts}
@@ -118,9 +118,6 @@ map_none : {X Y : Type 0} (f : X → Y) (xs : List X) → map f xs ≡ [] → xs
 map_none f [] h = refl
 map_none f (x ∷ xs) h = absurd cc
 
-sooner : (n m k : ℕ) → suc n + m ≡ k → n + suc m ≡ k
-sooner n m k h = omega (arith, h)
-
 module _ (d : Document) (is : IsReplayable d) (told : ComesAsTold d) where
   pub comes_in : (side : Side) (n m : ℕ) → n + m ≡ tick_count
       → messages_of (landing_at (landings_for side d) (first_clock +ℤ pos n)) ≡ landing ((state (own d) first_clock n).sent side) (first_clock +ℤ pos n) ++ others_of d side (first_clock +ℤ pos n)
@@ -144,7 +141,7 @@ module _ (d : Document) (is : IsReplayable d) (told : ComesAsTold d) where
   }
   side_in side (suc n) m count =
       let t : ℤ = first_clock +ℤ pos n in
-      let now = side_told side n (suc m) (sooner n m tick_count count) (side_in side n (suc m) (sooner n m tick_count count)) in
+      let now = side_told side n (suc m) (one_moved n m tick_count count) (side_in side n (suc m) (one_moved n m tick_count count)) in
       record {
         told = ap (λ (x : Doings). x.told) (doings_next d side n ∙ after_is d side t (doings_in d side n)) ∙ now.told ∙ sym (ap (told_to side) (heard_next (own d) first_clock n));
         made = none_left d side (suc n);

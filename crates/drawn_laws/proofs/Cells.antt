@@ -40,6 +40,7 @@ use Rattle.drawn_laws.proofs.Endpoints.{few_slots, few_symbols, got_again, id_ag
 use Rattle.drawn_laws.proofs.Lines.{shown_list}
 use Rattle.drawn_laws.proofs.Numbers.{decimal_few, decimal_name, digit_again, integer_again, mask_again, numeral_again, short_again}
 use Rattle.drawn_laws.proofs.Written.{rest_list, run_list}
+use Rattle.fh_base.proofs.Orders.{nat_le_true}
 
 -- ---- where cells are
 
@@ -216,14 +217,11 @@ record AreFree (rest : List (List ℕ)) : Type 0 where
   few : length rest ≤ 3
   each : All IsFree rest
 
-le_true : (a b : ℕ) → a ≤ b → nat_le a b ≡ true
-le_true a b le = grind (arith, nat_tests)
-
 free_key : (key : List ℕ) (n : ℕ) → n < 10 ^ 16 → list_all is_name_byte key ≡ true → 1 ≤ length key → length key ≤ 20 → IsFree (key ++ decimal n)
 free_key key n short name some few =
     let all : length (key ++ decimal n) ≡ length key + length (decimal n) = length-append key (decimal n) in
     let digits : length (decimal n) ≤ 16 = decimal_few n short in
-    and_true (and_true (le_true 1 (length (key ++ decimal n)) (omega (arith, all, some))) (le_true (length (key ++ decimal n)) 40 (omega (arith, all, few, digits))))
+    and_true (and_true (nat_le_true 1 (length (key ++ decimal n)) (omega (arith, all, some))) (nat_le_true (length (key ++ decimal n)) 40 (omega (arith, all, few, digits))))
     (list_all-append is_name_byte key (decimal n) ∙ and_true name (decimal_name n))
 
 none_free : AreFree []
@@ -315,7 +313,7 @@ missing_read way r mask w class rest is p =
     let ws = codes "why" ∷ way ∷ (run_list r mask ++ codes "missing" ∷ w ∷ rest) in
     let few : length rest ≤ 3 = p.few in
     let size : length ws ≡ 14 + length rest = omega arith in
-    chosen (nat_le (length ws) 17) _ _ _ (le_true (length ws) 17 (omega (arith, few, size)))
+    chosen (nat_le (length ws) 17) _ _ _ (nat_le_true (length ws) 17 (omega (arith, few, size)))
     (taken (missing_class w) class _ _ is
     (chosen (is_free ws 14 && is_free ws 15 && is_free ws 16) _ _ _
     (and_true (and_true (free_of ws 14 (λ lt. rest_at rest 0 p (omega (arith, size, lt)))) (free_of ws 15 (λ lt. rest_at rest 1 p (omega (arith, size, lt)))))
@@ -328,7 +326,7 @@ silent_read way r mask w number class rest short is p =
     let ws = codes "why" ∷ way ∷ (run_list r mask ++ (codes "line=" ++ decimal number) ∷ codes "silent" ∷ w ∷ rest) in
     let few : length rest ≤ 3 = p.few in
     let size : length ws ≡ 15 + length rest = omega arith in
-    chosen (nat_le (length ws) 18) _ _ _ (le_true (length ws) 18 (omega (arith, few, size)))
+    chosen (nat_le (length ws) 18) _ _ _ (nat_le_true (length ws) 18 (omega (arith, few, size)))
     (taken (numeral 0 most (decimal number)) number _ _ (short_again number short)
     (taken (silent_class w) class _ _ is
     (chosen (is_free ws 15 && is_free ws 16 && is_free ws 17) _ _ _

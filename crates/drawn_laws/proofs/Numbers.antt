@@ -18,6 +18,8 @@ use Rattle.fh_base.specs.Words.{hex3_text, hex4_text}
 use Rattle.pictures.specs.Numbers.{digit, integer, is_id, is_mask, is_name_byte, most, numeral}
 use Rattle.drawn_laws.specs.Drawable.{IsNear}
 use Rattle.drawn_laws.proofs.Words.{IsWord, is_letter}
+use Rattle.fh_base.proofs.Orders.{nat_lt_true, nat_le_true}
+use Rattle.fh_document.proofs.HexLemmas.{digit_below}
 
 -- ---- digits
 
@@ -101,12 +103,6 @@ decimal_name n = decimal_all is_name_byte (each_digit is_name_byte refl refl ref
 
 -- ---- numbers are read again
 
-le_true : (a b : ℕ) → a ≤ b → nat_le a b ≡ true
-le_true a b le = grind (arith, nat_tests)
-
-lt_true : (a b : ℕ) → a < b → nat_lt a b ≡ true
-lt_true a b lt = grind (arith, nat_tests)
-
 passed : (a b d l h : Bool) (x : ℕ) → a ≡ true → b ≡ true → d ≡ true → l ≡ true → h ≡ true → (if a && (b && (d && (l && h))) then Some x else None) ≡ Some x
 passed a b d l h x p q r s t =
     ap (λ (y : Bool). if y then Some x else None)
@@ -116,9 +112,9 @@ number_again : (most low high n : ℕ) → 0 < most → n < 10 ^ most → n < 2 
 number_again most low high n some short fits least greatest =
     let value : digits_value 10 (decimal n) ≡ n = (decimal_is_IsNumeral n fits).1 in
     let few : length (decimal n) ≤ most = length-decimal-le most n some short fits in
-    passed _ _ _ _ _ (digits_value 10 (decimal n)) (lt_true 0 (length (decimal n)) (decimal_some n)) (le_true (length (decimal n)) most few)
+    passed _ _ _ _ _ (digits_value 10 (decimal n)) (nat_lt_true 0 (length (decimal n)) (decimal_some n)) (nat_le_true (length (decimal n)) most few)
     (decimal_all (λ b. nat_le 48 b && nat_le b 57) (each_digit (λ b. nat_le 48 b && nat_le b 57) refl refl refl refl refl refl refl refl refl refl) n)
-    (ap (λ (k : ℕ). nat_le low k) value ∙ le_true low n least) (ap (λ (k : ℕ). nat_le k high) value ∙ le_true n high greatest)
+    (ap (λ (k : ℕ). nat_le low k) value ∙ nat_le_true low n least) (ap (λ (k : ℕ). nat_le k high) value ∙ nat_le_true n high greatest)
     ∙ ap (λ (k : ℕ). Some k) value
 
 pub numeral_again : (low high n : ℕ) → n < 10 ^ 16 → low ≤ n → n ≤ high → numeral low high (decimal n) ≡ Some n
@@ -189,20 +185,17 @@ is_hex b = (nat_le 48 b && nat_le b 57) || (nat_le 97 b && nat_le b 102)
 hex_lower : (d : ℕ) → d < 16 → is_hex (digit_char d) ≡ true
 hex_lower = each_hex is_hex refl refl refl refl refl refl refl refl refl refl refl refl refl refl refl refl
 
-below : (n : ℕ) → n % 16 < 16
-below n = omega arith
-
 all_cons : (p : ℕ → Bool) (b : ℕ) (w : List ℕ) → p b ≡ true → list_all p w ≡ true → list_all p (b ∷ w) ≡ true
 all_cons p b w e f = ap₂ (λ (x y : Bool). x && y) e f
 
 hex3_all : (p : ℕ → Bool) → ((d : ℕ) → d < 16 → p (digit_char d) ≡ true) → (n : ℕ) → list_all p (hex3_text n) ≡ true
 hex3_all p each n =
-    all_cons p (digit_char (n / 256 % 16)) (digit_char (n / 16 % 16) ∷ digit_char (n % 16) ∷ []) (each (n / 256 % 16) (below (n / 256)))
-    (all_cons p (digit_char (n / 16 % 16)) (digit_char (n % 16) ∷ []) (each (n / 16 % 16) (below (n / 16)))
-    (all_cons p (digit_char (n % 16)) [] (each (n % 16) (below n)) refl))
+    all_cons p (digit_char (n / 256 % 16)) (digit_char (n / 16 % 16) ∷ digit_char (n % 16) ∷ []) (each (n / 256 % 16) (digit_below (n / 256)))
+    (all_cons p (digit_char (n / 16 % 16)) (digit_char (n % 16) ∷ []) (each (n / 16 % 16) (digit_below (n / 16)))
+    (all_cons p (digit_char (n % 16)) [] (each (n % 16) (digit_below n)) refl))
 
 hex4_all : (p : ℕ → Bool) → ((d : ℕ) → d < 16 → p (digit_char d) ≡ true) → (n : ℕ) → list_all p (hex4_text n) ≡ true
-hex4_all p each n = all_cons p (digit_char (n / 4096 % 16)) (hex3_text n) (each (n / 4096 % 16) (below (n / 4096))) (hex3_all p each n)
+hex4_all p each n = all_cons p (digit_char (n / 4096 % 16)) (hex3_text n) (each (n / 4096 % 16) (digit_below (n / 4096))) (hex3_all p each n)
 
 pub hex4_word : (n : ℕ) → IsWord (hex4_text n)
 hex4_word n = record { some = omega arith; is = hex4_all is_letter hex_letter n }
@@ -222,10 +215,10 @@ same_digit d e low high is = sym (digit_value-digit_char d (omega arith)) ∙ ap
 
 same_id : (a b : ℕ) → a < 2 ^ 16 → b < 2 ^ 16 → hex4_text a ≡ hex4_text b → a ≡ b
 same_id a b low high is =
-    let one : a / 4096 % 16 ≡ b / 4096 % 16 = same_digit _ _ (below (a / 4096)) (below (b / 4096)) (ap (λ (t : List ℕ). get_or t 0 0) is) in
-    let two : a / 256 % 16 ≡ b / 256 % 16 = same_digit _ _ (below (a / 256)) (below (b / 256)) (ap (λ (t : List ℕ). get_or t 1 0) is) in
-    let three : a / 16 % 16 ≡ b / 16 % 16 = same_digit _ _ (below (a / 16)) (below (b / 16)) (ap (λ (t : List ℕ). get_or t 2 0) is) in
-    let four : a % 16 ≡ b % 16 = same_digit _ _ (below a) (below b) (ap (λ (t : List ℕ). get_or t 3 0) is) in
+    let one : a / 4096 % 16 ≡ b / 4096 % 16 = same_digit _ _ (digit_below (a / 4096)) (digit_below (b / 4096)) (ap (λ (t : List ℕ). get_or t 0 0) is) in
+    let two : a / 256 % 16 ≡ b / 256 % 16 = same_digit _ _ (digit_below (a / 256)) (digit_below (b / 256)) (ap (λ (t : List ℕ). get_or t 1 0) is) in
+    let three : a / 16 % 16 ≡ b / 16 % 16 = same_digit _ _ (digit_below (a / 16)) (digit_below (b / 16)) (ap (λ (t : List ℕ). get_or t 2 0) is) in
+    let four : a % 16 ≡ b % 16 = same_digit _ _ (digit_below a) (digit_below b) (ap (λ (t : List ℕ). get_or t 3 0) is) in
     omega (arith, one, two, three, four)
 
 pub ids_compare : (a b : ℕ) → a < 2 ^ 16 → b < 2 ^ 16 → bytes_eq (hex4_text a) (hex4_text b) ≡ (a == b)

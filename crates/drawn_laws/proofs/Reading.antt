@@ -1,6 +1,5 @@
 -- A text of lines, cut at its line feeds.
-use Rattle.std.proofs.Common.{◌≡◌, ℕ, ◌+◌, ◌-◌, List, [], ◌∷◌, ◌++◌, length, map, get_or, Bool, true, false, ◌&&◌, ◌==◌, nat_le, refl, sym, ap, ◌∙◌, arith, append_assoc, append-nil, length-append}
-use Rattle.std.specs.Prelude.{if◌then◌else◌}
+use Rattle.std.proofs.Common.{◌≡◌, ℕ, ◌+◌, List, [], ◌∷◌, ◌++◌, length, map, Bool, true, false, ◌&&◌, ◌==◌, nat_le, refl, sym, ap, ◌∙◌, arith, append_assoc, append-nil, length-append}
 use Rattle.std.specs.List.{All, flat_map, slice_split}
 use Rattle.std.proofs.lemmas.Bool.Decides.{nat_tests}
 use Rattle.std.proofs.lemmas.Grind.{flat_map-append}
@@ -9,9 +8,10 @@ use Rattle.std.proofs.lemmas.List.Splits.{slice_split_at, slice_split_none}
 use Rattle.line_words.specs.Words.{is_text, without_last_feed}
 use Rattle.explain_model.specs.Lines.{line_text}
 use Rattle.explain_model.specs.declared.values.ExplainLine.{ExplainLine}
-use Rattle.drawn_laws.proofs.Lines.{IsWritten, body_of, cut_again, cut_last}
+use Rattle.drawn_laws.proofs.Lines.{IsWritten, body_of}
 use Rattle.drawn_laws.proofs.Words.{line_printed}
 use Rattle.fh_base.proofs.Orders.{both as both_true}
+use Rattle.fh_document.proofs.JoinLemmas.{without_feed}
 
 -- a line, of some words
 pub record IsLine (l : ExplainLine) : Type 0 where
@@ -48,17 +48,6 @@ parts_again (l ∷ ls) last p q =
     ∙ slice_split_at (λ b. b == 10) (body_of l) 10 (flat_map line_text ls ++ body_of last) (no_feed (body_of l) (body_printed l first)) refl
     ∙ ap (λ (xs : List (List ℕ)). body_of l ∷ xs) (parts_again ls last (All-tail IsLine l ls p) q)
 
-end_at : (t : List ℕ) → get_or (t ++ 10 ∷ []) (length t) 0 ≡ 10
-end_at [] = refl
-end_at (b ∷ t) = end_at t
-
--- a last line feed is no part of the text
-feed_again : (t : List ℕ) → without_last_feed (t ++ 10 ∷ []) ≡ t
-feed_again t =
-    let less : length (t ++ 10 ∷ []) - 1 ≡ length t = omega (arith, length-append t (10 ∷ [])) in
-    let last : get_or (t ++ 10 ∷ []) (length (t ++ 10 ∷ []) - 1) 0 ≡ 10 = ap (λ (n : ℕ). get_or (t ++ 10 ∷ []) n 0) less ∙ end_at t in
-    ap (λ (n : ℕ). if n == 10 then cut_last (t ++ 10 ∷ []) else t ++ 10 ∷ []) last ∙ cut_again t
-
 whole_text : (ls : List ExplainLine) (last : ExplainLine) → IsLine last → flat_map line_text (ls ++ last ∷ []) ≡ (flat_map line_text ls ++ body_of last) ++ 10 ∷ []
 whole_text ls last q =
     flat_map-append line_text ls (last ∷ [])
@@ -69,7 +58,7 @@ pub lines_again : (ls : List ExplainLine) (last : ExplainLine) → All IsLine ls
     → slice_split (λ b. b == 10) (without_last_feed (flat_map line_text (ls ++ last ∷ []))) ≡ map body_of ls ++ body_of last ∷ []
 lines_again ls last p q =
     ap (λ (t : List ℕ). slice_split (λ b. b == 10) (without_last_feed t)) (whole_text ls last q)
-    ∙ ap (slice_split (λ b. b == 10)) (feed_again (flat_map line_text ls ++ body_of last))
+    ∙ ap (slice_split (λ b. b == 10)) (without_feed (flat_map line_text ls ++ body_of last))
     ∙ parts_again ls last p q
 
 pub some_text : (ls : List ExplainLine) (last : ExplainLine) → IsLine last → (length (flat_map line_text (ls ++ last ∷ [])) == 0) ≡ false

@@ -48,6 +48,7 @@ use Rattle.unit_laws.specs.Arriving.{known_at}
 use Rattle.unit_laws.proofs.WidthLemmas.{IsNarrow, commands_narrow}
 use Rattle.drawn_laws.specs.Drawable.{IsNear}
 use Rattle.drawn_laws.specs.Events.{IsPlacedCell, IsPlacedEvent}
+use Rattle.fh_base.proofs.Orders.{not_negative}
 
 -- ---- lists
 
@@ -188,13 +189,10 @@ soon_by tick wait a b p q = record { low = omega (arith, ints, a, q); high = ome
 soon_now : (tick : ℤ) → first_clock ≤ℤ tick → tick ≤ℤ end_of_time → IsSoon tick
 soon_now tick a b = record { low = omega (arith, ints, a); high = omega (arith, ints, b) }
 
-wait_low : (least most : ℤ) → pos 0 ≤ℤ least → least ≤ℤ most → pos 0 ≤ℤ most
-wait_low least most a b = omega (arith, ints, a, b)
-
 start_soon : (side : Side) (c : Config) → IsConfig c → (tick : ℤ) → first_clock ≤ℤ tick → tick ≤ℤ end_of_time → IsSoon (start_of side c.delays tick)
 start_soon Ru c config tick a b = soon_now tick a b
 start_soon Du c config tick a b =
-    let ta4 = config.delays.ta4 in soon_by tick c.delays.ta4.max a b (wait_low c.delays.ta4.min c.delays.ta4.max ta4.low ta4.order) ta4.high
+    let ta4 = config.delays.ta4 in soon_by tick c.delays.ta4.max a b (not_negative c.delays.ta4.min c.delays.ta4.max ta4.low ta4.order) ta4.high
 
 module _ (c : Config) (t : Traffic) (config : IsConfig c) (short : AllByRecursion (λ (a : Allocation). a.section < 2 ^ 12) t.planned) where
   reported_placed : (side : Side) (tick : ℤ) → first_clock ≤ℤ tick → tick ≤ℤ end_of_time → AllByRecursion (IsPlacedEvent c.endpoints) (map event.Cell (cells_reported_at side c t tick))

@@ -1,11 +1,10 @@
 -- The order of the slots of endpoints.
-use Rattle.std.proofs.Common.{◌≡◌, ℕ, ◌<◌, ◌≤◌, inl, inr, Bool, true, false, not, ◌&&◌, ◌||◌, ◌==◌, cond, nat_lt, List, Some, refl, ap, sym, ◌∙◌, subst, arith}
+use Rattle.std.proofs.Common.{◌≡◌, ℕ, ◌<◌, ◌≤◌, inl, inr, Bool, true, false, not, ◌&&◌, ◌||◌, ◌==◌, nat_lt, List, Some, ap, sym, ◌∙◌, subst, arith}
 use Rattle.std.specs.Prelude.{slice_get}
 use Rattle.std.specs.List.Sorted.{IsSortedBy, IsStableBy, ties}
 use Rattle.std.specs.Cmp.{IsStrictWeakOrder, both_ways, IsTotalOrder}
 use Rattle.std.specs.Ordering.{int_cmp, is_lt, nat_cmp, on, then_cmp}
 use Rattle.std.specs.declared.cmp.Ordering.{Ordering}
-use Rattle.std.specs.declared.cmp.Ordering.TheVariants.{Less, Equal, Greater}
 use Rattle.std.proofs.lemmas.Bool.{and_from, and_parts, cases_Bool, eq-eqb, eqb-true, or_parts, not-true}
 use Rattle.std.proofs.lemmas.Bool.Decides.{nat_tests}
 use Rattle.std.proofs.lemmas.Cmp.{int_cmp_total, nat_cmp_total, on_total, then_total}
@@ -19,7 +18,7 @@ use Rattle.du_intake.specs.declared.lines.UplinkLine.{UplinkLine}
 use Rattle.du_intake.proofs.ListLemmas.{pairs_at, sorted_pairs, some_same}
 use Rattle.unit_model.proofs.ClaimLemmas.{same_slot_is as slots_equal, slot_self as slot_own}
 use Rattle.fh_base.proofs.MemberLemmas.{filter_same}
-use Rattle.fh_base.proofs.CommonLemmas.{int_lex, nat_lex}
+use Rattle.fh_base.proofs.CommonLemmas.{int_lex, nat_lex, nat_last}
 
 -- ---- one slot
 
@@ -35,14 +34,6 @@ abbrev pub home_cmp : UplinkLine → UplinkLine → Ordering
 home_cmp =
     then_cmp (on (λ l. l.ep) nat_cmp)
     (then_cmp (on (λ l. l.slot.frame) int_cmp) (then_cmp (on (λ l. l.slot.subframe) nat_cmp) (on (λ l. l.slot.slot) nat_cmp)))
-
-nat_last : (x y : ℕ) → is_lt (nat_cmp x y) ≡ nat_lt x y
-nat_last x y = go (nat_lt x y) (x == y)
-  where
-    go : (l e : Bool) → is_lt (cond l Less (cond e Equal Greater)) ≡ l
-    go true e = refl
-    go false true = refl
-    go false false = refl
 
 pub first_is : (a b : UplinkLine) → is_lt (home_cmp a b) ≡ home_before a b
 first_is a b =

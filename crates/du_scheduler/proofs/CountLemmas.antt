@@ -6,13 +6,14 @@ use Rattle.std.proofs.lemmas.Int.{ints}
 use Rattle.std.proofs.lemmas.List.{map-append}
 use Rattle.fh_base.specs.Lists.{each_tick}
 use Rattle.plan_model.specs.Sent.{SentFrame}
-use Rattle.plan_model.proofs.TickLemmas.{int_cases, int_below, same_not, next_tick, ticks_same}
+use Rattle.plan_model.proofs.TickLemmas.{int_cases, same_not, next_tick, ticks_same}
 use Rattle.du_scheduler.specs.Turns.{is_turn, times}
 use Rattle.du_scheduler.specs.declared.turns.Turn.{Turn}
 use Rattle.du_scheduler.specs.Runs.{turn_of}
 use Rattle.plan_model.specs.SentOrder.{at_time}
 use Rattle.du_scheduler.proofs.Left.{times-append}
 use Rattle.fh_base.specs.Members.{IsIn}
+use Rattle.fh_base.proofs.Orders.{int_below}
 
 ticks_none : (from : ℤ) (count : ℕ) → each_tick from count (at_time []) ≡ []
 unfolding each_tick

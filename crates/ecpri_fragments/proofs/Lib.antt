@@ -6,3 +6,4 @@ pub mod Cuts
 pub mod Ends
 pub mod Standing
 pub mod Ids
+pub mod Rests

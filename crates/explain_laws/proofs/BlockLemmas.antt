@@ -23,21 +23,13 @@ use Rattle.explain_model.specs.declared.keys.SymbolKey.{SymbolKey}
 use Rattle.explain_model.specs.SilentReasons.{covers_prb, gives_prb, giver_of, is_on_time, kept}
 use Rattle.explain_model.specs.Seen.{Seen, is_shown_at, seen}
 use Rattle.explain_model.specs.Unused.{UnusedBlock, UnusedSymbol, each_once, in_order_of_time, is_giver, key_at, same_start, start_of, start_with, symbols_given, unused_blocks, unused_of_unit, unused_prb, unused_symbol, unused_symbols, unused_with}
-use Rattle.explain_model.proofs.SameLemmas.{same_side_is}
 use Rattle.explain_laws.specs.Blocks.{BlocksAreTold, LoneBlock, is_block, lone, lone_blocks, lone_by}
 use Rattle.explain_laws.proofs.CountingLemmas.{all_both, all_filter, all_in_order, any_both, copies, flat_copies, no_copies, passing, passing_in_order, passing_kept, passing_lost}
+use Rattle.air_source.proofs.Sides.{side_same, side_self}
+use Rattle.fh_base.proofs.Orders.{or_second, not_true}
+use Rattle.explain_model.proofs.KeyLemmas.{symbols_equal, symbol_eta, same_start_key}
 
 -- ---- symbols
-
-symbol_with : Side → ℕ → Slot → ℕ → SymbolKey
-symbol_with side ep slot symbol = record { side = side; ep = ep; slot = slot; symbol = symbol }
-
-symbols_equal : (a b : Side) (m n : ℕ) (s t : Slot) (x y : ℕ) → a ≡ b → m ≡ n → s ≡ t → x ≡ y → symbol_with a m s x ≡ symbol_with b n t y
-symbols_equal a b m n s t x y e f g h = cc
-
-symbol_eta : (k : SymbolKey) → k ≡ symbol_with k.side k.ep k.slot k.symbol
-unfolding symbol_with
-symbol_eta k = refl
 
 pub symbol_is : (a b : SymbolKey) → same_symbol a b ≡ true → a ≡ b
 symbol_is a b h =
@@ -45,27 +37,14 @@ symbol_is a b h =
     let q = and_parts (a.ep == b.ep) _ p.1 in
     let r = and_parts (same_slot a.slot b.slot) (a.symbol == b.symbol) q.1 in
     symbol_eta a
-    ∙ symbols_equal a.side b.side a.ep b.ep a.slot b.slot a.symbol b.symbol (same_side_is a.side b.side p.0) (eqb-true _ _ q.0) (same_slot_is a.slot b.slot r.0) (eqb-true _ _ r.1)
+    ∙ symbols_equal a.side b.side a.ep b.ep a.slot b.slot a.symbol b.symbol (side_same a.side b.side p.0) (eqb-true _ _ q.0) (same_slot_is a.slot b.slot r.0) (eqb-true _ _ r.1)
     ∙ sym (symbol_eta b)
-
-side_self : (a : Side) → same_side a a ≡ true
-side_self Ru = refl
-side_self Du = refl
 
 pub symbol_self : (k : SymbolKey) → same_symbol k k ≡ true
 symbol_self k =
     and_from (same_side k.side k.side) _ (side_self k.side)
     (and_from (k.ep == k.ep) _ (eq-eqb k.ep k.ep refl)
     (and_from (same_slot k.slot k.slot) (k.symbol == k.symbol) (slot_self k.slot) (eq-eqb k.symbol k.symbol refl)))
-
--- the tests of starts and of their symbols agree
-start_is : (side : Side) (s t : SymbolStart) → same_start s t ≡ true → key_at side s ≡ key_at side t
-start_is side s t h =
-    let p = and_parts (s.ep == t.ep) _ h in
-    let q = and_parts (same_slot s.slot t.slot) (s.symbol == t.symbol) p.1 in
-    symbol_eta (key_at side s)
-    ∙ symbols_equal side side s.ep t.ep s.slot t.slot s.symbol t.symbol refl (eqb-true _ _ p.0) (same_slot_is s.slot t.slot q.0) (eqb-true _ _ q.1)
-    ∙ sym (symbol_eta (key_at side t))
 
 start_same : (side : Side) (s t : SymbolStart) → key_at side s ≡ key_at side t → same_start s t ≡ true
 start_same side s t h =
@@ -74,11 +53,6 @@ start_same side s t h =
     let g : s.symbol ≡ t.symbol = ap (λ (k : SymbolKey). k.symbol) h in
     and_from (s.ep == t.ep) _ (eq-eqb s.ep t.ep e)
     (and_from (same_slot s.slot t.slot) (s.symbol == t.symbol) (subst (λ (x : Slot). same_slot s.slot x ≡ true) f (slot_self s.slot)) (eq-eqb s.symbol t.symbol g))
-
--- two tests that cannot both hold
-not_both : (b : Bool) → (b ≡ true → ⊥) → b ≡ false
-not_both true h = absurd (h refl)
-not_both false h = refl
 
 -- ---- the symbols of a unit: each once
 
@@ -95,8 +69,8 @@ module _ (side : Side) (k : SymbolKey) where
 
   other_kept : (s t : SymbolStart) → is_its s ≡ false → is_its t ≡ true → not (same_start s t) ≡ true
   other_kept s t h g =
-      ap not (not_both (same_start s t) (λ is.
-      let here : is_its s ≡ true = subst (λ (x : SymbolKey). same_symbol x k ≡ true) (sym (start_is side s t is)) g in cc))
+      ap not (not_true (same_start s t) (λ is.
+      let here : is_its s ≡ true = subst (λ (x : SymbolKey). same_symbol x k ≡ true) (sym (same_start_key side s t is)) g in cc))
 
   once_step : (s : SymbolStart) (ss : List SymbolStart) (b : Bool) → is_its s ≡ b → passing is_its (each_once ss) ≡ one_if (list_any is_its ss)
       → (if b then suc (passing is_its (filter (λ t. not (same_start s t)) (each_once ss))) else passing is_its (filter (λ t. not (same_start s t)) (each_once ss)))
@@ -150,7 +124,7 @@ module _ (rs : List DataRecord) (cells : List Seen) (side : Side) (k : SymbolKey
     at_prb p b is = by_shown p b (is_shown_at cells side s.endpoint.id s.slot s.symbol p) is (giver_of rs (key_at side s) p)
 
     none_before : (p : ℕ) → prb < p → filter (is_block k prb) (of_prb p) ≡ []
-    none_before p h = at_prb p false (not_both (p == prb) (λ is. let e = eqb-true p prb is in omega arith))
+    none_before p h = at_prb p false (not_true (p == prb) (λ is. let e = eqb-true p prb is in omega arith))
 
     -- over the PRBs from one on
     all_before : (from count : ℕ) → prb < from → filter (is_block k prb) (map (lone u) (each from count (unused_prb rs cells side s))) ≡ []
@@ -205,10 +179,6 @@ module _ (es : List EndpointConfig) where
   symbols_have side rs =
       let starts = flat_map (start_of es) (filter (is_giver side) rs) in
       all_in_order HasEndpoint comes_before (each_once starts) (once_have starts (starts_have (filter (is_giver side) rs)))
-
-either : (a b : Bool) → b ≡ true → (a || b) ≡ true
-either true b h = refl
-either false b h = h
 
 -- ---- all blocks
 
@@ -290,7 +260,7 @@ module _ (es : List EndpointConfig) (rs : List DataRecord) (cells : List Seen) (
       absurd cc
   there_step x xs false true gives given more r is =
       any_both (is_its k.side k) (start_of es x) (flat_map (start_of es) (filter (is_giver k.side) xs))
-      ∙ either (list_any (is_its k.side k) (start_of es x)) _ (more r is)
+      ∙ or_second (list_any (is_its k.side k) (start_of es x)) _ (more r is)
   there_step x xs false false gives given more r is = more r is
 
   there : (xs : List DataRecord) (r : DataRecord) → find (gives_prb k prb) xs ≡ Some r → list_any (is_its k.side k) (flat_map (start_of es) (filter (is_giver k.side) xs)) ≡ true

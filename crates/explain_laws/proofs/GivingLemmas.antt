@@ -43,6 +43,7 @@ use Rattle.explain_model.proofs.AloneLemmas.{find_alone}
 use Rattle.explain_laws.specs.Decoded.{GivenSection, Numbered, data_kept, given_in, given_sections, numbered}
 use Rattle.explain_laws.specs.Giving.{GiversAreBlocks, cell_key, id_of_block, id_of_giver}
 use Rattle.explain_laws.proofs.KeptLemmas.{are_kept}
+use Rattle.fh_base.proofs.Orders.{and_false_3}
 
 -- ---- decoded data have their unit's direction
 
@@ -103,10 +104,6 @@ ands a b e f w false h g = absurd cc
 and_true : (b : Bool) → (b && true) ≡ b
 and_true true = refl
 and_true false = refl
-
-and_false : (b : Bool) → (b && false) ≡ false
-and_false true = refl
-and_false false = refl
 
 -- ---- a section's record gives a PRB its block where the section does
 
@@ -201,9 +198,9 @@ module _ (side : Side) (d : Delays) (cell : Cell) (down : cell.down ≡ is_down 
       ∙ ap (or_else (block_id earlier)) (sym (in_cell s (data_covers s cell)))
       ∙ sym (id_both (block_at earlier cell) (block_in s cell))
   step_by s earlier Late =
-      ap (λ (b : Bool). or_else (block_id earlier) (if b then Some s.section.id else None)) (and_false (data_covers s cell)) ∙ none_more (block_id earlier)
+      ap (λ (b : Bool). or_else (block_id earlier) (if b then Some s.section.id else None)) (and_false_3 (data_covers s cell)) ∙ none_more (block_id earlier)
   step_by s earlier Early =
-      ap (λ (b : Bool). or_else (block_id earlier) (if b then Some s.section.id else None)) (and_false (data_covers s cell)) ∙ none_more (block_id earlier)
+      ap (λ (b : Bool). or_else (block_id earlier) (if b then Some s.section.id else None)) (and_false_3 (data_covers s cell)) ∙ none_more (block_id earlier)
 
   blocks_are : (ds : List UserSection) → AllByRecursion (HasWay side) ds → first_id (given_sections side d ds) ≡ block_id (timely side d ds)
   unfolding given_sections timely block_at

@@ -1,12 +1,13 @@
 -- A generation that is followed to the end is one of those of the complete list.
 use Rattle.std.proofs.Common.{◌≡◌, ℕ, ℤ, Bool, true, false, List, [], ◌∷◌, refl, sym, ap, ◌∙◌, subst, inl, inr}
-use Rattle.std.specs.Prelude.{if◌then◌else◌, ◌==◌}
-use Rattle.std.proofs.lemmas.Bool.{and_from, eq-eqb}
+use Rattle.std.specs.Prelude.{if◌then◌else◌}
 use Rattle.ecpri_fragments.specs.Generations.{Fragment, Generation, begun, generations, generations_of, is_of, is_within, joined, of_id, with_fragment}
 use Rattle.fh_base.specs.Lists.{onto}
 use Rattle.explain_model.specs.Fragments.{generation_at, grown, last_begun}
 use Rattle.explain_laws.specs.Grown.{GrownAreGenerations}
 use Rattle.fh_base.specs.Members.{IsIn}
+use Rattle.ecpri_fragments.proofs.Rests.{rest_of}
+use Rattle.ecpri_fragments.proofs.Ids.{same_id}
 
 module _ (hold : ℤ) (ep seq : ℕ) where
   abbrev of : List Fragment → List Generation
@@ -91,10 +92,6 @@ has_by : (f : Fragment) (g : Generation) (gs : List Generation) (b : Bool) → I
 has_by f g gs true = inl refl
 has_by f g gs false = inl refl
 
-rest_of : ℤ → Fragment → List Generation → List Generation
-rest_of hold f [] = []
-rest_of hold f (g ∷ gs) = if is_within hold g.start f.at then gs else g ∷ gs
-
 first_is : (hold : ℤ) (f : Fragment) (gs : List Generation) → with_fragment hold f gs ≡ last_begun (with_fragment hold f gs) f ∷ rest_of hold f gs
 unfolding rest_of
 first_is hold f [] = refl
@@ -104,13 +101,10 @@ first_has : (hold : ℤ) (f : Fragment) (gs : List Generation) → IsIn f (last_
 first_has hold f [] = inl refl
 first_has hold f (g ∷ gs) = has_by f g gs (is_within hold g.start f.at)
 
-own : (f : Fragment) → is_of f.ep f.seq f ≡ true
-own f = and_from (f.ep == f.ep) (f.seq == f.seq) (eq-eqb f.ep f.ep refl) (eq-eqb f.seq f.seq refl)
-
 pub are_generations : GrownAreGenerations
 are_generations hold earlier f later = record {
   there =
       grown_there hold f.ep f.seq later (f ∷ earlier) (generation_at hold earlier f) (rest_of hold f (generations_of hold f.ep f.seq earlier))
-      (one_more hold f.ep f.seq f earlier true (own f) ∙ first_is hold f (generations_of hold f.ep f.seq earlier));
+      (one_more hold f.ep f.seq f earlier true (same_id f) ∙ first_is hold f (generations_of hold f.ep f.seq earlier));
   has = grown_has hold f.ep f.seq f later (generation_at hold earlier f) (first_has hold f (generations_of hold f.ep f.seq earlier));
 }

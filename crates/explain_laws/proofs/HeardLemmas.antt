@@ -48,18 +48,16 @@ use Rattle.explain_laws.proofs.ListLemmas.{in_middle}
 use Rattle.fh_base.proofs.OntoLemmas.{All-onto}
 use Rattle.unit_laws.proofs.EndLemmas.{far_later}
 use Rattle.fh_base.proofs.MadeLists.{in_all as holds_in}
+use Rattle.fh_base.proofs.Orders.{frame_low_is}
 
 -- ---- nothing is received before the clock begins
 
 abbrev HasBegun : Arrival → Type 0
 HasBegun a = first_clock ≤ℤ a.at
 
-begins : (n : ℕ) → first_clock ≤ℤ (first_clock +ℤ pos n)
-begins n = omega (arith, ints)
-
 landed_begun : (landings : List Arrival) (n : ℕ) → All HasBegun (landing_at landings (first_clock +ℤ pos n))
 landed_begun landings n =
-    All-weaker (λ (a : Arrival). a.at ≡ first_clock +ℤ pos n) HasBegun (λ a is. subst (λ (t : ℤ). first_clock ≤ℤ t) (sym is) (begins n))
+    All-weaker (λ (a : Arrival). a.at ≡ first_clock +ℤ pos n) HasBegun (λ a is. subst (λ (t : ℤ). first_clock ≤ℤ t) (sym is) (frame_low_is first_clock n))
     (landing_at landings (first_clock +ℤ pos n)) (landed_then landings (first_clock +ℤ pos n))
 
 arrivals_begun : (landings : List Arrival) (n : ℕ) → All HasBegun (arrivals_in landings n)

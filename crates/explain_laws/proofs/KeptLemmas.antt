@@ -26,7 +26,6 @@ use Rattle.unit_model.specs.Meetings.{Arrival, Ignored, Meeting, Piece, find_end
 use Rattle.unit_model.specs.Reports.{hold_of, met}
 use Rattle.unit_model.specs.Judgements.{Commanded, Fragmented, Given, Judgement, Met, Turned, Unread, judged_in, judged_meeting, judged_message, judgements}
 use Rattle.explain_model.specs.Stories.{Story, arrival_with, stories, stories_in, told_after}
-use Rattle.explain_model.proofs.SameLemmas.{same_side_is}
 use Rattle.unit_model.specs.Heard.{arrivals_heard}
 use Rattle.explain_model.specs.declared.data.DataRecord.{DataRecord}
 use Rattle.explain_model.specs.declared.headers.HeaderRecord.{HeaderRecord}
@@ -36,6 +35,7 @@ use Rattle.explain_model.specs.Records.{command_in, command_records, commands_of
 use Rattle.explain_laws.specs.Decoded.{CommandedSection, RecordsAreDecoded, judged_of, GivenSection, Numbered, Undecoded, UnitIsKept, command_kept, commanded_in, data_kept, fragment_in, fragment_kept, given_in, header_kept, numbered, numbered_in, of_unit, undecoded_in}
 use Rattle.explain_laws.proofs.DecodedLemmas.{are_decoded, now_judged}
 use Rattle.explain_laws.proofs.StoryLemmas.{are_judged}
+use Rattle.air_source.proofs.Sides.{side_same}
 
 -- ---- numbers set aside
 
@@ -124,7 +124,7 @@ module _ (side : Side) where
       ∙ ap₂ ◌++◌
       (ap (filter (λ r. same_side r.side side)) (data_one s.side d s.number s.judged)
       ∙ data_sided s.side d true is (numbered_in given_in s)
-      ∙ ap (λ (t : Side). map (data_kept t d) (numbered_in given_in s)) (same_side_is s.side side is))
+      ∙ ap (λ (t : Side). map (data_kept t d) (numbered_in given_in s)) (side_same s.side side is))
       later
       ∙ sym (map-append (data_kept side d) (numbered_in given_in s) (numbered given_in side ss))
       ∙ ap (λ (t : Bool). map (data_kept side d) (flat_map (numbered_in given_in) (if t then s ∷ of_unit side ss else of_unit side ss))) (sym is)
@@ -158,7 +158,7 @@ module _ (side : Side) where
       ∙ ap₂ ◌++◌
       (ap (filter (λ r. same_side r.side side)) (header_one s.side s.number s.judged)
       ∙ headers_sided s.side true is (numbered_in undecoded_in s)
-      ∙ ap (λ (t : Side). flat_map (header_kept t) (numbered_in undecoded_in s)) (same_side_is s.side side is))
+      ∙ ap (λ (t : Side). flat_map (header_kept t) (numbered_in undecoded_in s)) (side_same s.side side is))
       later
       ∙ sym (flat_map-append (header_kept side) (numbered_in undecoded_in s) (numbered undecoded_in side ss))
       ∙ ap (λ (t : Bool). flat_map (header_kept side) (flat_map (numbered_in undecoded_in) (if t then s ∷ of_unit side ss else of_unit side ss))) (sym is)

@@ -1,36 +1,14 @@
 -- A mask made of a test has exactly the elements that pass.
-use Rattle.std.proofs.Common.{◌≡◌, ℕ, zero, suc, ◌+◌, ◌*◌, ◌-◌, ◌/◌, ◌%◌, ◌^◌, ◌<◌, ◌≤◌, Bool, true, false, refl, sym, ap, ◌∙◌, subst, arith}
+use Rattle.std.proofs.Common.{◌≡◌, ℕ, zero, suc, ◌+◌, ◌*◌, ◌-◌, ◌/◌, ◌%◌, ◌^◌, ◌<◌, Bool, true, false, refl, ap, ◌∙◌, arith}
 use Rattle.std.specs.Prelude.{◌==◌, if◌then◌else◌}
-use Rattle.std.proofs.lemmas.Nat.{shr_high}
 use Rattle.fh_base.proofs.Orders.{bit_small}
 use Rattle.unit_model.specs.Claims.{in_mask}
 use Rattle.schedule_laws.specs.Cells.{mask_below}
 use Rattle.explain_model.specs.Silent.{bits_below}
-use Rattle.replay_laws.proofs.MaskLemmas.{twice}
+use Rattle.replay_laws.proofs.MaskLemmas.{IsShifted, by_one, shift_more, shift_back, last_bit}
 
 abbrev bit_of : (ℕ → Bool) → ℕ → ℕ
 bit_of test re = if test re then 1 else 0
-
--- a number is another one, shifted, and some lower bits
-record IsShifted (whole high k : ℕ) : Type 0 where
-  low : ℕ
-  is : whole ≡ high * 2 ^ k + low
-  below : low < 2 ^ k
-
-double : (l b p : ℕ) → l < p → b ≤ 1 → 2 * l + b < 2 * p
-double l b p h k = omega arith
-
-by_one : (whole high : ℕ) → whole ≡ high → whole ≡ high * 2 ^ 0 + 0
-by_one whole high e = omega (arith, e)
-
-shift_more : (whole high k b next : ℕ) → IsShifted whole high k → b ≤ 1 → next ≡ 2 * whole + b → IsShifted next high (suc k)
-shift_more whole high k b next s small e =
-    let more : 2 ^ suc k ≡ 2 * 2 ^ k = grind arith in
-    record {
-      low = 2 * s.low + b;
-      is = e ∙ ap (λ (w : ℕ). 2 * w + b) s.is ∙ twice high (2 ^ k) s.low b ∙ ap (λ (p : ℕ). high * p + (2 * s.low + b)) (sym more);
-      below = subst (λ (p : ℕ). 2 * s.low + b < p) (sym more) (double s.low b (2 ^ k) s.below small);
-    }
 
 module _ (test : ℕ → Bool) where
   next_below : (n : ℕ) → mask_below test (suc n) ≡ 2 * mask_below test n + bit_of test n
@@ -45,12 +23,6 @@ module _ (test : ℕ → Bool) where
       let place : n + suc k ≡ suc (n + k) = omega arith in
       shift_more (mask_below test (n + k)) (mask_below test n) k (bit_of test (n + k)) (mask_below test (n + suc k)) (shifted n k)
       (bit_small (test (n + k))) (ap (mask_below test) place ∙ next_below (n + k))
-
-  shift_back : (whole high k : ℕ) → IsShifted whole high k → whole / 2 ^ k ≡ high
-  shift_back whole high k s = ap (λ (w : ℕ). w / 2 ^ k) s.is ∙ shr_high high k s.low s.below
-
-  last_bit : (u b x : ℕ) → b ≤ 1 → x ≡ 2 * u + b → x % 2 ≡ b
-  last_bit u b x small e = omega arith
 
   mask_bit : (re : ℕ) → re < 12 → mask_below test 12 / 2 ^ (11 - re) % 2 ≡ bit_of test re
   mask_bit re small =

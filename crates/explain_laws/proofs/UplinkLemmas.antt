@@ -27,15 +27,13 @@ use Rattle.fh_base.specs.Members.{IsIn}
 use Rattle.fh_base.proofs.MemberLemmas.{in_filter}
 use Rattle.fh_base.proofs.MadeLists.{in_map}
 use Rattle.uplink_laws.proofs.SingleLemmas.{after_clock}
+use Rattle.fh_base.proofs.Orders.{not_negative}
 
 before_end : (s ns : ℤ) → s ≤ℤ pos 1536100000000000 → ns ≤ℤ pos MOST_DELAY → s <ℤ ((end_of_time -ℤ ns *ℤ pos NANOSECOND) +ℤ pos 1)
 before_end s ns h k = omega (arith, ints, h, k)
 
 under : (s m n : ℕ) → s < m → m ≤ n → s < n
 under s m n k l = omega (arith, k, l)
-
-no_less : (a b : ℤ) → pos 0 ≤ℤ a → a ≤ℤ b → pos 0 ≤ℤ b
-no_less a b h k = omega (arith, ints, h, k)
 
 idle_not : (k : PlanKind) → not (is_down_kind k) ≡ true → is_idle_kind k ≡ false
 idle_not kind.Down h = absurd cc
@@ -67,5 +65,5 @@ planned_uplink_is_heard d t doc valid plan p symbol prb re m uplink symbol_is pr
     subst (λ (xs : List Allocation). is_used (claim_at xs (cell_at p.ep false p.line.slot symbol prb) re) ≡ true) (sym plan)
     (subst (λ (x : Cell). is_used (claim_at (uplink_allocations ps) x re) ≡ true) way used) in
     heard Du c t p.ep p.endpoint p.line.slot symbol prb g.at (record { subframe = g.fits.subframe; slot = g.slot }) symbol_below prb_below
-    (after_clock s c.delays.ta4.max time.0 (no_less c.delays.ta4.min c.delays.ta4.max ta4.low ta4.order)) (before_end s c.delays.ta4.max time.1 ta4.high)
+    (after_clock s c.delays.ta4.max time.0 (not_negative c.delays.ta4.min c.delays.ta4.max ta4.low ta4.order)) (before_end s c.delays.ta4.max time.1 ta4.high)
     re small used_here

@@ -8,7 +8,6 @@ use Rattle.fh_base.specs.declared.values.Slot.{Slot}
 use Rattle.air_source.specs.Units.{is_down, same_side}
 use Rattle.air_source.specs.declared.events.AirCell.{AirCell}
 use Rattle.air_source.specs.declared.events.Side.{Side}
-use Rattle.air_source.specs.declared.events.Side.TheVariants.{Ru, Du}
 use Rattle.window_config.specs.declared.config.Config.{Config}
 use Rattle.window_config.specs.declared.endpoints.EndpointConfig.{EndpointConfig}
 use Rattle.unit_model.specs.Claims.{cell_at, claim_at, claim_of, in_mask, names, same_slot}
@@ -31,10 +30,7 @@ use Rattle.explain_laws.proofs.MaskLemmas.{mask_is}
 use Rattle.explain_laws.proofs.SeenLemmas.{heard_is_seen}
 use Rattle.fh_base.specs.Members.{IsIn}
 use Rattle.fh_base.proofs.MadeLists.{in_each}
-
-side_self : (side : Side) → same_side side side ≡ true
-side_self Ru = refl
-side_self Du = refl
+use Rattle.air_source.proofs.Sides.{side_self}
 
 -- ---- the mask of a cell
 

@@ -11,8 +11,6 @@ use Rattle.unit_model.proofs.ClaimLemmas.{same_slot_is}
 use Rattle.air_source.specs.Units.{same_side}
 use Rattle.air_source.specs.declared.events.AirCell.{AirCell}
 use Rattle.air_source.specs.declared.events.Event.{Event}
-use Rattle.air_source.specs.declared.events.Side.{Side}
-use Rattle.air_source.specs.declared.events.Side.TheVariants.{Ru, Du}
 use Rattle.window_config.specs.declared.config.Config.{Config}
 use Rattle.explain_model.specs.declared.values.CellWord.{CellWord}
 use Rattle.explain_model.specs.declared.values.CellWord.TheVariants.{Shown, Missing}
@@ -22,6 +20,7 @@ use Rattle.explain_model.specs.Pieces.{AreLinked, closed_pieces, goes_on, open_p
 use Rattle.explain_model.specs.Stories.{Told, told, told_of}
 use Rattle.explain_model.proofs.PieceLemmas.{runs, are_pieces, split_pieces}
 use Rattle.explain_model.proofs.StoryLemmas.{one}
+use Rattle.air_source.proofs.Sides.{side_same}
 
 -- ---- entries
 
@@ -43,12 +42,6 @@ entry_one c events e =
     ∙ ap (λ rest. entries c events ++ rest) (one_told c (told c events) (told_of c events e))
 
 -- ---- the cell after a run
-
-side_same : (a b : Side) → same_side a b ≡ true → a ≡ b
-side_same Ru Ru h = refl
-side_same Ru Du h = absurd cc
-side_same Du Ru h = absurd cc
-side_same Du Du h = refl
 
 word_same : (a b : CellWord) → same_word a b ≡ true → a ≡ b
 word_same (Shown a) (Shown b) h = ap Shown (eqb-true a b h)

@@ -11,3 +11,4 @@ pub mod SeenLemmas
 pub mod Counts
 pub mod Steps
 pub mod Fronts
+pub mod KeyLemmas

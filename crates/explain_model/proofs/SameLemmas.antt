@@ -2,21 +2,12 @@
 use Rattle.std.proofs.Common.{◌≡◌, ℕ, ◌==◌, true, refl, sym, ap, ◌∙◌}
 use Rattle.std.specs.Prelude.{Option, Some, None, if◌then◌else◌}
 use Rattle.std.proofs.lemmas.Bool.{and_parts, eqb-true}
-use Rattle.air_source.specs.Units.{same_side}
-use Rattle.air_source.specs.declared.events.Side.{Side}
-use Rattle.air_source.specs.declared.events.Side.TheVariants.{Ru, Du}
 use Rattle.explain_model.specs.Reasons.{word_of}
 use Rattle.explain_model.specs.declared.reasons.Reason.{Reason}
 use Rattle.explain_model.specs.declared.reasons.Reason.TheVariants as reason
 use Rattle.explain_model.specs.declared.reasons.ReasonWord.{ReasonWord}
 use Rattle.explain_model.specs.declared.reasons.ReasonWord.TheVariants as word
 use Rattle.explain_model.specs.Same.{detail_of, from_of, pieces_of, place_of, same_reason, same_word}
-
-pub same_side_is : (a b : Side) → same_side a b ≡ true → a ≡ b
-same_side_is Ru Ru h = refl
-same_side_is Ru Du h = absurd cc
-same_side_is Du Ru h = absurd cc
-same_side_is Du Du h = refl
 
 -- the word at a place
 abbrev word_at : ℕ → ReasonWord

@@ -25,7 +25,7 @@ use Rattle.explain_model.specs.Pieces.{AreLinked}
 use Rattle.explain_model.specs.Stories.{Told, Cell, Delay, Count, told_after, told_of}
 use Rattle.explain_model.proofs.PieceLemmas.{are_pieces}
 use Rattle.explain_model.specs.Seen.{RunsHoldCells, Seen, cell_runs, run_of, seen, seen_in, seen_of, shows}
-use Rattle.explain_model.proofs.SameLemmas.{same_side_is}
+use Rattle.air_source.proofs.Sides.{side_same}
 
 -- the cell of this PRB, in all else like one of an entry
 abbrev cell_at : AirCell → CellWord → ℕ → Seen
@@ -85,7 +85,7 @@ next_cell a b v w n h =
     let g = and_parts (a.section == b.section) (a.mask == b.mask) f.1 in
     cell_is a v n
     ∙ cells_equal n a.side b.side a.at.0 b.at.0 a.id b.id a.slot b.slot a.symbol b.symbol a.section b.section a.mask b.mask (shows v) (shows w)
-    (same_side_is a.side b.side s.0) ((Decides-int_eq a.at.0 b.at.0).0 t.0) (eqb-true _ _ d.0) (same_slot_is a.slot b.slot e.0)
+    (side_same a.side b.side s.0) ((Decides-int_eq a.at.0 b.at.0).0 t.0) (eqb-true _ _ d.0) (same_slot_is a.slot b.slot e.0)
     (eqb-true _ _ f.0) (eqb-true _ _ g.0) (eqb-true _ _ g.1) (same_shows v w q.0)
     ∙ sym (cell_is b w n)
 

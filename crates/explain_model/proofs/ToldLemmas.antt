@@ -22,7 +22,8 @@ use Rattle.explain_model.specs.Silent.{SilentPrb, SilentSymbol, goes_on_silent, 
 use Rattle.explain_model.specs.Told.{MissingAreTold, SilentAreTold, ToldMissing, ToldSilent, ToldUnused, UnusedAreTold, all_silent, all_unused, missing_as_told, prb_of_block, prb_of_silent, silent_as_told, told_missing, told_silent, told_unused, unused_as_told}
 use Rattle.explain_model.specs.Unused.{UnusedBlock, UnusedSymbol, goes_on_unused, unused_line, unused_lines_of, unused_symbol_lines}
 use Rattle.explain_model.proofs.RunLemmas.{lines_tell}
-use Rattle.explain_model.proofs.SameLemmas.{same_reason_is, same_side_is}
+use Rattle.explain_model.proofs.SameLemmas.{same_reason_is}
+use Rattle.air_source.proofs.Sides.{side_same}
 
 -- ---- missing cells
 
@@ -61,7 +62,7 @@ missing_goes x y h =
       key_is y
           ∙ keys_equal x.cell.side y.cell.side x.cell.at.0 y.cell.at.0 x.cell.id y.cell.id x.cell.slot y.cell.slot x.cell.symbol y.cell.symbol
           x.cell.section y.cell.section x.cell.mask y.cell.mask x.reason y.reason
-          (same_side_is x.cell.side y.cell.side a.0) ((Decides-int_eq x.cell.at.0 y.cell.at.0).0 b.0) (eqb-true _ _ d.0) (same_slot_is x.cell.slot y.cell.slot e.0)
+          (side_same x.cell.side y.cell.side a.0) ((Decides-int_eq x.cell.at.0 y.cell.at.0).0 b.0) (eqb-true _ _ d.0) (same_slot_is x.cell.slot y.cell.slot e.0)
           (eqb-true _ _ f.0) (eqb-true _ _ g.0) (eqb-true _ _ g.1) (same_reason_is x.reason y.reason q.0)
           ∙ sym (key_is x),
       sym (eqb-true _ _ q.1),

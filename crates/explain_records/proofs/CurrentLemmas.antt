@@ -2,7 +2,7 @@
 use Rattle.std.proofs.Common.{◌≡◌, ℕ, ℤ, Bool, true, false, List, [], ◌∷◌, ◌⊎◌, inl, inr, refl, sym, ap, ap₂, ◌∙◌, subst}
 use Rattle.std.specs.Prelude.{if◌then◌else◌, ◌&&◌, ◌==◌, Option, Some, None}
 use Rattle.std.specs.List.{AllByRecursion}
-use Rattle.std.proofs.lemmas.Bool.{and_from, and_parts, eq-eqb, eqb-true}
+use Rattle.std.proofs.lemmas.Bool.{and_parts, eqb-true}
 use Rattle.fh_base.specs.declared.values.Slot.{Slot}
 use Rattle.ecpri_fragments.specs.Generations.{Fragment, Generation, begun, generations, generations_of, held_in, is_of, is_within, joined, of_id, with_fragment}
 use Rattle.ecpri_fragments.specs.Verdicts.{placed, standing}
@@ -12,6 +12,7 @@ use Rattle.explain_model.specs.Fragments.{NumberedFragment, first_named, fragmen
 use Rattle.explain_records.specs.Beginnings.{Begun, Growing, begun_after, begun_if, begun_in, begun_once, growing_at, grown_by, grown_once, grown_over}
 use Rattle.explain_records.specs.Tables.{is_current, kept_of, kept_with}
 use Rattle.fh_base.proofs.MemberLemmas.{all_join as all_both}
+use Rattle.ecpri_fragments.proofs.Ids.{same_id}
 
 -- ---- the last generation
 
@@ -55,9 +56,6 @@ pub more_of : (hold : ℤ) (ep seq : ℕ) (f : Fragment) (fs : List Fragment) (b
     → generations_of hold ep seq (f ∷ fs) ≡ (if b then with_fragment hold f (generations_of hold ep seq fs) else generations_of hold ep seq fs)
 more_of hold ep seq f fs true is = ap (λ (t : Bool). generations hold (if t then f ∷ of_id ep seq fs else of_id ep seq fs)) is
 more_of hold ep seq f fs false is = ap (λ (t : Bool). generations hold (if t then f ∷ of_id ep seq fs else of_id ep seq fs)) is
-
-pub own_id : (f : Fragment) → is_of f.ep f.seq f ≡ true
-own_id f = and_from (f.ep == f.ep) (f.seq == f.seq) (eq-eqb f.ep f.ep refl) (eq-eqb f.seq f.seq refl)
 
 pub same_ep : (ep seq : ℕ) (f : Fragment) → is_of ep seq f ≡ true → f.ep ≡ ep
 same_ep ep seq f is = eqb-true f.ep ep (and_parts (f.ep == ep) (f.seq == seq) is).0
@@ -109,7 +107,7 @@ all_current side hold (x ∷ later) earlier =
     all_both (IsCurrent hold fs) (begun_in side hold earlier x (fragments_alone later)) (begun_after side hold (f ∷ earlier) later)
     (begun_current hold fs (has_stood x.verdict) x (grown_over hold f.ep f.seq (growing_at hold earlier f) (fragments_alone later)) (first_named side x.endpoint f)
     (last_over hold f.ep f.seq (fragments_alone later) (f ∷ earlier) (growing_at hold earlier f)
-    (λ _. subst (λ (gs : List Generation). HeadIs (generation_at hold earlier f) gs) (sym (more_of hold f.ep f.seq f earlier true (own_id f))) (head_begun hold f (generations_of hold f.ep f.seq earlier)))))
+    (λ _. subst (λ (gs : List Generation). HeadIs (generation_at hold earlier f) gs) (sym (more_of hold f.ep f.seq f earlier true (same_id f))) (head_begun hold f (generations_of hold f.ep f.seq earlier)))))
     (all_current side hold later (f ∷ earlier))
 
 -- ---- one of another sequence id stays
@@ -172,13 +170,13 @@ module _ (hold : ℤ) (fs : List Fragment) (f : Fragment) (b : Begun) (current :
 
   turned : is_of f.ep f.seq b.first.fragment ≡ true → is_of ep seq f ≡ true
   turned is =
-      ap₂ (λ (n m : ℕ). is_of n m f) (same_ep f.ep f.seq b.first.fragment is) (same_seq f.ep f.seq b.first.fragment is) ∙ own_id f
+      ap₂ (λ (n m : ℕ). is_of n m f) (same_ep f.ep f.seq b.first.fragment is) (same_seq f.ep f.seq b.first.fragment is) ∙ same_id f
 
   turned_back : (t : Bool) → is_of ep seq f ≡ t → is_of f.ep f.seq b.first.fragment ≡ false → is_of ep seq f ≡ false
   turned_back false e is = e
   turned_back true e is =
       let back : is_of f.ep f.seq b.first.fragment ≡ true
-      = ap₂ (λ (n m : ℕ). is_of n m b.first.fragment) (same_ep ep seq f e) (same_seq ep seq f e) ∙ own_id b.first.fragment in
+      = ap₂ (λ (n m : ℕ). is_of n m b.first.fragment) (same_ep ep seq f e) (same_seq ep seq f e) ∙ same_id b.first.fragment in
       absurd (cc)
 
   by_parts : (own last within : Bool) → is_of f.ep f.seq b.first.fragment ≡ own → b.growing.is_last ≡ last → is_within hold b.growing.generation.start f.at ≡ within → Becomes hold f gens b

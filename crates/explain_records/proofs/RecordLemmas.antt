@@ -1,5 +1,5 @@
 -- Sorted records, and those of one key among them.
-use Rattle.std.proofs.Common.{◌≡◌, ℕ, suc, zero, ◌-◌, ◌<◌, ◌≤◌, inl, inr, Bool, true, false, not, ◌&&◌, ◌==◌, cond, nat_lt, List, [], ◌∷◌, length, filter, get_or, take, drop, refl, ap, ap₂, sym, ◌∙◌, subst, true≢false, arith}
+use Rattle.std.proofs.Common.{◌≡◌, ℕ, suc, zero, ◌-◌, ◌<◌, ◌≤◌, inl, inr, Bool, true, false, not, ◌&&◌, ◌==◌, nat_lt, List, [], ◌∷◌, length, filter, get_or, take, drop, refl, ap, ap₂, sym, ◌∙◌, subst, true≢false, arith}
 use Rattle.std.specs.Cmp.{alike_right, bool_cmp_total, Equal-is, IsStrictWeakOrder, IsTotalOrder}
 use Rattle.std.specs.List.{All}
 use Rattle.std.specs.List.Sorted.{IsPartitionedBy, IsPartitionPoint, IsStableBy, ties}
@@ -7,7 +7,6 @@ use Rattle.std.specs.Ordering.{bool_cmp, int_cmp, int_eq, is_eq, is_le, is_lt, n
 use Rattle.std.specs.declared.cmp.Ordering.{Ordering}
 use Rattle.std.specs.declared.cmp.Ordering.TheVariants.{Less, Equal, Greater}
 use Rattle.std.proofs.lemmas.Bool.{cases_Bool, ltb-false, ltb-true, not-true}
-use Rattle.std.proofs.lemmas.Bool.Decides.{nat_tests}
 use Rattle.std.proofs.lemmas.Cmp.{int_cmp_total, nat_cmp_total, on_total, then_total}
 use Rattle.std.proofs.lemmas.List.Elements.{All-head, filter_agree, filter_passes}
 use Rattle.std.proofs.lemmas.List.Sorted.{ranks_by, sorted_far}
@@ -20,6 +19,7 @@ use Rattle.explain_records.specs.Order.{AreInOrder, comes_first, is_below, is_di
 use Rattle.explain_records.specs.declared.keys.OrderKey.{OrderKey}
 use Rattle.explain_model.specs.declared.keys.SymbolKey.{SymbolKey}
 use Rattle.fh_base.proofs.Orders.{all_three as and_chain}
+use Rattle.fh_base.proofs.CommonLemmas.{nat_equal}
 
 -- ---- the order of keys
 
@@ -47,25 +47,16 @@ equal_sides Ru Du = refl
 equal_sides Du Ru = refl
 equal_sides Du Du = refl
 
-equal_numbers : (x y : ℕ) → is_eq (nat_cmp x y) ≡ (x == y)
-equal_numbers x y = go (nat_lt x y) (x == y) refl refl
-  where
-    go : (l e : Bool) → nat_lt x y ≡ l → (x == y) ≡ e → is_eq (cond l Less (cond e Equal Greater)) ≡ e
-    go true true p q = absurd (grind (arith, nat_tests))
-    go true false p q = refl
-    go false true p q = refl
-    go false false p q = refl
-
 equal_keys : (a b : SymbolKey) → is_eq (order_cmp (order_of a) (order_of b)) ≡ same_symbol a b
 equal_keys a b =
     equal_then (bool_cmp (is_distributed a.side) (is_distributed b.side)) _
     ∙ ap₂ (λ x y. x && y) (equal_sides a.side b.side)
-    (equal_then (nat_cmp a.ep b.ep) _ ∙ ap₂ (λ x y. x && y) (equal_numbers a.ep b.ep)
+    (equal_then (nat_cmp a.ep b.ep) _ ∙ ap₂ (λ x y. x && y) (nat_equal a.ep b.ep)
     (equal_then (int_cmp a.slot.frame b.slot.frame) _
     ∙ ap (λ x. int_eq a.slot.frame b.slot.frame && x)
     (equal_then (nat_cmp a.slot.subframe b.slot.subframe) _
-    ∙ ap₂ (λ x y. x && y) (equal_numbers a.slot.subframe b.slot.subframe)
-    (equal_then (nat_cmp a.slot.slot b.slot.slot) _ ∙ ap₂ (λ x y. x && y) (equal_numbers a.slot.slot b.slot.slot) (equal_numbers a.symbol b.symbol)))
+    ∙ ap₂ (λ x y. x && y) (nat_equal a.slot.subframe b.slot.subframe)
+    (equal_then (nat_cmp a.slot.slot b.slot.slot) _ ∙ ap₂ (λ x y. x && y) (nat_equal a.slot.slot b.slot.slot) (nat_equal a.symbol b.symbol)))
     ∙ and_chain (int_eq a.slot.frame b.slot.frame) (a.slot.subframe == b.slot.subframe) (a.slot.slot == b.slot.slot) (a.symbol == b.symbol)))
 
 -- neither precedes the other

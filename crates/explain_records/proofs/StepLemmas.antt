@@ -22,8 +22,10 @@ use Rattle.explain_records.specs.declared.told.FragmentTold.{FragmentTold}
 use Rattle.explain_records.specs.Turns.{begun_stood, beginning_of, counted, first_of, found, fresh, last_stood, makes_whole, place_of, told_by}
 use Rattle.explain_records.specs.Tables.{IsKeptOf, KeepsOf, is_current, kept_of, kept_with}
 use Rattle.explain_records.proofs.PlaceLemmas.{ShowsChange, only_map, only_new, only_none, only_same, shown_changed, shown_same}
-use Rattle.explain_records.proofs.CurrentLemmas.{Becomes, falls_in, grew_from, grows_kept, own_id, stays_kept}
+use Rattle.explain_records.proofs.CurrentLemmas.{Becomes, falls_in, grew_from, grows_kept, stays_kept}
 use Rattle.fh_base.proofs.CommonLemmas.{none_of as none_there}
+use Rattle.ecpri_fragments.proofs.Rests.{rest_of}
+use Rattle.ecpri_fragments.proofs.Ids.{same_id}
 
 -- ---- a verdict
 
@@ -57,10 +59,6 @@ later_by true way o e = absurd (cc)
 later_by false way o e = refl
 
 -- ---- the generations with the fragment
-
-pub rest_of : ℤ → Fragment → List Generation → List Generation
-rest_of hold f [] = []
-rest_of hold f (g ∷ gs) = if is_within hold g.start f.at then gs else g ∷ gs
 
 abbrev pub entered : ℤ → Fragment → List Generation → Generation
 entered hold f gs = record { start = start_in hold f.at gs; held = f ∷ held_in hold f.at gs }
@@ -291,7 +289,7 @@ module _ (side : Side) (hold : ℤ) (x : NumberedFragment) (gs : List Generation
                 (ap (λ (fs : List Fragment). kept_with side new fs ∷ []) e
                 ∙ ap (λ (b : Beginning). b ∷ []) (counts new));
             last_is = subst (λ (n : ℕ). KeepsOf (more ++ new ∷ []) f.ep f.seq (first_last (Some n)) g) lengths
-                (keeps (Some (length more)) (more ++ new ∷ []) (only_new (is_current f.ep f.seq) more new only_more_is (ap (λ (b : Bool). b && true) (own_id f))));
+                (keeps (Some (length more)) (more ++ new ∷ []) (only_new (is_current f.ep f.seq) more new only_more_is (ap (λ (b : Bool). b && true) (same_id f))));
           }
 
     stands_now : (sub0 : Bool) (named : Option (Slot × ℕ)) → (f.sub == 0) ≡ sub0 → (sub0 ≡ false → named ≡ None) → stands s f.sub ≡ false → Stood sub0 named

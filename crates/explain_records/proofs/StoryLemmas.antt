@@ -32,18 +32,7 @@ use Rattle.unit_model.specs.Reports.{hold_of, met}
 use Rattle.window_config.specs.declared.config.Config.{Config}
 use Rattle.window_config.specs.declared.delays.Delays.{Delays}
 use Rattle.window_config.specs.declared.endpoints.EndpointConfig.{EndpointConfig}
-
--- ---- sides
-
-self_side : (s : Side) → same_side s s ≡ true
-self_side Ru = refl
-self_side Du = refl
-
-side_is : (a b : Side) → same_side a b ≡ true → a ≡ b
-side_is Ru Ru e = refl
-side_is Ru Du e = absurd (cc)
-side_is Du Ru e = absurd (cc)
-side_is Du Du e = refl
+use Rattle.air_source.proofs.Sides.{side_same, side_self}
 
 -- ---- lists of all stories
 
@@ -197,7 +186,7 @@ module _ (c : Config) (es : List EndpointConfig) (ss : List Story) (s : Story) (
   unit_next u p q next verdict r =
       subst (λ (xs : List NumberedFragment). AreRecordsOf u (hold_of u c.delays) xs q) (sym (fragments_next u ss s done j))
       (goes (hold_of u c.delays) s.number (unit_fragments u was) p q es u s.side j next
-      (λ own. subst (λ (v : Side). IsVerdict (hold_of v c.delays) (backwards (unit_fragments v was)) j) (side_is s.side u own) verdict) r)
+      (λ own. subst (λ (v : Side). IsVerdict (hold_of v c.delays) (backwards (unit_fragments v was)) j) (side_same s.side u own) verdict) r)
 
   kept_next_is : Takes s.side s.number (heard_of s.side es j) old new → IsVerdict (hold_of s.side c.delays) (backwards (unit_fragments s.side was)) j → HaveKept c was old → HaveKept c is_now new
   kept_next_is t verdict h = record {
@@ -214,7 +203,7 @@ module _ (c : Config) (es : List EndpointConfig) (ss : List Story) (s : Story) (
   own_next : backwards (unit_fragments s.side is_now) ≡ entered (backwards (unit_fragments s.side was)) j
   own_next =
       ap backwards (fragments_next s.side ss s done j)
-      ∙ ap (λ (b : Bool). backwards (unit_fragments s.side was ++ if_own b (fragment_in s.number j))) (self_side s.side)
+      ∙ ap (λ (b : Bool). backwards (unit_fragments s.side was ++ if_own b (fragment_in s.number j))) (side_self s.side)
       ∙ judged_back (unit_fragments s.side was) s.number j
 
 -- ---- the next thing heard
@@ -295,7 +284,7 @@ module _ (c : Config) (ss : List Story) (s : Story) (judged : s.judged ≡ judge
   came_by : (u : Side) (own : Bool) → same_side s.side u ≡ own → backwards (unit_fragments u ss) ≡ fragments (met u c (unit_arrivals u ss))
       → backwards (unit_fragments u (ss ++ s ∷ [])) ≡ fragments (met u c (unit_arrivals u (ss ++ s ∷ [])))
   came_by u true is before =
-      let same : s.side ≡ u = side_is s.side u is in
+      let same : s.side ≡ u = side_same s.side u is in
       let now : all_entered (fragments (met u c (unit_arrivals u ss))) s.judged ≡ fragments (met u c (s.arrival ∷ unit_arrivals u ss))
       = subst (λ (v : Side). all_entered (fragments (met v c (unit_arrivals v ss))) s.judged ≡ fragments (met v c (s.arrival ∷ unit_arrivals v ss))) same walked.after in
       ap backwards (fragments_with u ss s)

@@ -20,10 +20,11 @@ use Rattle.explain_records.specs.Tables.{IsKeptOf, KeepsOf, is_current, kept_of}
 use Rattle.explain_records.specs.Recorded.{Recorded, backwards}
 use Rattle.explain_records.proofs.PlaceLemmas.{only_map, only_more, only_same}
 use Rattle.explain_records.proofs.GrowingLemmas.{alone_more, begun_more, onto_more, repeated_more}
-use Rattle.explain_records.proofs.CurrentLemmas.{all_become, all_current, more_of, other_same, own_id, same_ep, same_seq}
+use Rattle.explain_records.proofs.CurrentLemmas.{all_become, all_current, more_of, other_same, same_ep, same_seq}
 use Rattle.explain_records.proofs.FirstLemmas.{repeats_are}
 use Rattle.explain_records.proofs.StepLemmas.{Finds, Next, entered, finds, next, with_is}
 use Rattle.ecpri_fragments.proofs.Numbers.{get_other as set_rest}
+use Rattle.ecpri_fragments.proofs.Ids.{same_id}
 
 -- ---- another sequence id
 
@@ -110,7 +111,7 @@ module _ (side : Side) (hold : ℤ) (xs : List NumberedFragment) (x : NumberedFr
 
     own_kept : IsKeptOf after f.ep f.seq (Some new_last) (generations_of hold f.ep f.seq (f ∷ fs))
     own_kept =
-        subst (λ (hs : List Generation). IsKeptOf after f.ep f.seq (Some new_last) hs) (sym (more_of hold f.ep f.seq f fs true (own_id f) ∙ with_is hold f gs))
+        subst (λ (hs : List Generation). IsKeptOf after f.ep f.seq (Some new_last) hs) (sym (more_of hold f.ep f.seq f fs true (same_id f) ∙ with_is hold f gs))
         (subst (λ (n : ℕ). KeepsOf after f.ep f.seq (last_next (told_by side x) l n) (entered hold f gs)) (sym (ap (λ (bs : List Beginning). length bs) was.beginnings)) next_is.last_is)
 
     any_kept : (ep seq : ℕ) (p : Option LastGeneration) (own : Bool) → is_of ep seq f ≡ own → seq < 256

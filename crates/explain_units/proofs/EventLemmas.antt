@@ -1,5 +1,5 @@
 -- One more event, and what is kept of a unit.
-use Rattle.std.proofs.Common.{◌≡◌, ℕ, suc, ◌<◌, Bool, true, false, List, [], ◌∷◌, ◌++◌, refl, sym, ap, subst, ◌∙◌, append-nil, arith}
+use Rattle.std.proofs.Common.{◌≡◌, ℕ, suc, ◌<◌, Bool, false, List, [], ◌∷◌, ◌++◌, refl, sym, ap, subst, ◌∙◌, append-nil, arith}
 use Rattle.std.specs.Prelude.{Option, if◌then◌else◌, length}
 use Rattle.std.specs.List.{flat_map}
 use Rattle.std.proofs.lemmas.Grind.{flat_map-append}
@@ -41,15 +41,8 @@ use Rattle.unit_model.specs.Judgements.{Judgement}
 use Rattle.fh_base.specs.Lists.{onto}
 use Rattle.unit_model.specs.Meetings.{Arrival}
 use Rattle.window_config.specs.declared.config.Config.{Config}
-use Rattle.unit_model.proofs.ArrivalLemmas.{arrivals-append}
-
-itself : (side : Side) → same_side side side ≡ true
-itself Ru = refl
-itself Du = refl
-
-own : (side : Side) → is_of side side ≡ true
-own Ru = refl
-own Du = refl
+use Rattle.unit_model.proofs.ArrivalLemmas.{arrivals-append, own}
+use Rattle.air_source.proofs.Sides.{side_self}
 
 other : (side at_side : Side) → same_side at_side side ≡ false → is_of side at_side ≡ false
 other Ru Ru h = h
@@ -72,7 +65,7 @@ module _ (side : Side) (c : Config) (events : List Event) (at : Ticks) (frame : 
   pub judged_own : judged_before side (told c (events ++ event.Arrival side at frame ∷ [])) ≡ onto (judged_before side (told c events)) (judged_next side c events at.0 frame)
   judged_own =
       ap (judged_before side) (one c events (event.Arrival side at frame)) ∙ judged_go_on.on_arrival side (told c events) now_told
-      ∙ ap (λ (b : Bool). let js : List Judgement = if b then onto (judged_before side (told c events)) (judged_next side c events at.0 frame) else judged_before side (told c events) in js) (itself side)
+      ∙ ap (λ (b : Bool). let js : List Judgement = if b then onto (judged_before side (told c events)) (judged_next side c events at.0 frame) else judged_before side (told c events) in js) (side_self side)
 
   stories_own : stories c (events ++ event.Arrival side at frame ∷ []) ≡ stories c events ++ now_told ∷ []
   unfolding stories_in
@@ -81,7 +74,7 @@ module _ (side : Side) (c : Config) (events : List Event) (at : Ticks) (frame : 
   kept_now : kept_from side (now_told ∷ []) ≡ flat_map (kept_by (suc (arrival_count events))) (judged_next side c events at.0 frame)
   kept_now =
       append-nil (kept_in side now_told)
-      ∙ ap (λ (b : Bool). let gs : List Kept = if b then flat_map (kept_by (suc (arrival_count events))) (judged_next side c events at.0 frame) else [] in gs) (itself side)
+      ∙ ap (λ (b : Bool). let gs : List Kept = if b then flat_map (kept_by (suc (arrival_count events))) (judged_next side c events at.0 frame) else [] in gs) (side_self side)
 
   pub kept_own : kept_from side (stories c (events ++ event.Arrival side at frame ∷ []))
       ≡ kept_from side (stories c events) ++ flat_map (kept_by (suc (arrival_count events))) (judged_next side c events at.0 frame)
@@ -92,7 +85,7 @@ module _ (side : Side) (c : Config) (events : List Event) (at : Ticks) (frame : 
   dated_now : flat_map (dated_in side c.delays) (now_told ∷ []) ≡ flat_map (dated_of side c.delays) (judged_next side c events at.0 frame)
   dated_now =
       append-nil (dated_in side c.delays now_told)
-      ∙ ap (λ (b : Bool). let ds : List Dated = if b then flat_map (dated_of side c.delays) (judged_next side c events at.0 frame) else [] in ds) (itself side)
+      ∙ ap (λ (b : Bool). let ds : List Dated = if b then flat_map (dated_of side c.delays) (judged_next side c events at.0 frame) else [] in ds) (side_self side)
 
   pub dated_own : dated side c (events ++ event.Arrival side at frame ∷ []) ≡ dated side c events ++ flat_map (dated_of side c.delays) (judged_next side c events at.0 frame)
   unfolding stories_in

@@ -1,8 +1,7 @@
 -- One judgement more, and what is kept of it.
-use Rattle.std.proofs.Common.{◌≡◌, ℕ, zero, suc, ◌+◌, ◌<◌, arith, Bool, true, false, List, [], ◌∷◌, ◌++◌, refl, sym, ap, subst, ◌∙◌, true≢false}
+use Rattle.std.proofs.Common.{◌≡◌, ℕ, zero, suc, ◌+◌, ◌<◌, Bool, true, false, List, [], ◌∷◌, ◌++◌, refl, sym, ap, subst, ◌∙◌, true≢false}
 use Rattle.std.specs.Prelude.{◌==◌, ◌&&◌, ◌||◌, not, if◌then◌else◌}
 use Rattle.std.proofs.lemmas.List.{append-nil}
-use Rattle.std.proofs.lemmas.Bool.{eqb-true}
 use Rattle.explain_units.specs.Blocks.{fresh_count, giver_of, giver_or, gives_prb}
 use Rattle.explain_units.specs.Laws.{AreKept, BlocksAreKept, kept_by, kept_of}
 use Rattle.explain_units.specs.declared.blocks.Given.{Given as Kept}
@@ -14,6 +13,7 @@ use Rattle.fh_base.specs.declared.values.Slot.{Slot}
 use Rattle.unit_model.specs.declared.heading.DataHeading.{DataHeading}
 use Rattle.unit_model.specs.declared.verdicts.DataVerdict.{DataVerdict}
 use Rattle.unit_model.specs.Judgements.{Judgement, Met, Commanded, Fragmented, Unread, Turned, Given}
+use Rattle.fh_base.proofs.Orders.{not_none}
 
 kept_none : AreKept [] []
 unfolding giver_or has_block
@@ -36,13 +36,6 @@ kept_silent gs js j silent kept = subst (λ (xs : List Kept). AreKept xs (j ∷ 
 gives_same : (number : ℕ) (h : DataHeading) (id : ℕ) (slot : Slot) (symbol prb : ℕ) → gives h id slot symbol prb ≡ gives_prb (kept_of number h) id slot symbol prb
 unfolding gives
 gives_same number h id slot symbol prb = refl
-
-not_zero : (n : ℕ) → 0 < n → (n == 0) ≡ false
-not_zero n some_n = by (n == 0) refl
-  where
-    by : (b : Bool) → (n == 0) ≡ b → b ≡ false
-    by true is = absurd (omega (arith, some_n, eqb-true n 0 is))
-    by false is = refl
 
 -- one that does
 kept_timely : (gs : List Kept) (js : List Judgement) (number : ℕ) (h : DataHeading) (j : Judgement)
@@ -71,7 +64,7 @@ kept_timely gs js number h j is some_number kept = record {
     there : (none id : ℕ) (slot : Slot) (symbol prb : ℕ) (a : Bool) → gives h id slot symbol prb ≡ a → (b : Bool) → has_block js id slot symbol prb ≡ b → (a || b) ≡ true
         → (giver_or (if a then number else none) gs id slot symbol prb == 0) ≡ false
     there none id slot symbol prb a a_is true b_is e = kept.present (if a then number else none) id slot symbol prb b_is
-    there none id slot symbol prb true a_is false b_is e = ap (λ (n : ℕ). n == 0) (kept.absent number id slot symbol prb b_is) ∙ not_zero number some_number
+    there none id slot symbol prb true a_is false b_is e = ap (λ (n : ℕ). n == 0) (kept.absent number id slot symbol prb b_is) ∙ not_none number some_number
     there none id slot symbol prb false a_is false b_is e = absurd (true≢false (sym e))
 
 kept_given : (gs : List Kept) (js : List Judgement) (number : ℕ) (h : DataHeading) (v : DataVerdict) (b : Bool) → is_timely v ≡ b → 0 < number → AreKept gs js

@@ -1,7 +1,7 @@
 -- Lemmas that several crates use.
 use Rattle.std.proofs.Common.{◌≡◌, refl, false, is_some, ℤ, Bool, true, ◌&&◌, ◌||◌, cond, int_lt, sym, ◌∙◌, arith, ℕ, ◌==◌, nat_lt, ◌+◌, ◌≤◌, zero, suc, ◌<◌, List, [], ◌++◌, ap₂, subst, nat_le, length, ◌∷◌, ap, Result, Ok, Err, OnErr, ◌≤ℤ◌}
 use Rattle.std.specs.Prelude.{Some, None, Option, if◌then◌else◌, filter}
-use Rattle.std.specs.Ordering.{int_cmp, int_eq, is_lt, ordering_then, nat_cmp}
+use Rattle.std.specs.Ordering.{int_cmp, int_eq, is_lt, ordering_then, nat_cmp, is_eq}
 use Rattle.std.specs.declared.cmp.Ordering.{Ordering}
 use Rattle.std.specs.declared.cmp.Ordering.TheVariants.{Less, Equal, Greater}
 use Rattle.std.proofs.lemmas.Int.{ints, clamps}
@@ -116,3 +116,20 @@ all_right P (x ∷ xs) ys h = all_right P xs ys h.1
 
 pub least_of : (a b x : ℤ) → x ≤ℤ a → x ≤ℤ b → x ≤ℤ int_min a b
 least_of a b x h k = omega (arith, ints, clamps)
+
+pub nat_last : (x y : ℕ) → is_lt (nat_cmp x y) ≡ nat_lt x y
+nat_last x y = go (nat_lt x y) (x == y)
+  where
+    go : (l e : Bool) → is_lt (cond l Less (cond e Equal Greater)) ≡ l
+    go true e = refl
+    go false true = refl
+    go false false = refl
+
+pub nat_equal : (x y : ℕ) → is_eq (nat_cmp x y) ≡ (x == y)
+nat_equal x y = go (nat_lt x y) (x == y) refl refl
+  where
+    go : (l e : Bool) → nat_lt x y ≡ l → (x == y) ≡ e → is_eq (cond l Less (cond e Equal Greater)) ≡ e
+    go true true p q = absurd (grind (arith, nat_tests))
+    go true false p q = refl
+    go false true p q = refl
+    go false false p q = refl

@@ -1,11 +1,11 @@
 -- Orders of numbers, and the tests of them.
-use Rattle.std.proofs.Common.{◌≡◌, Bool, true, false, not, refl, ℕ, ◌≤◌, arith, ◌<◌, ℤ, pos, ◌+◌, ◌+ℤ◌, ◌-ℤ◌, ◌≤ℤ◌, ◌<ℤ◌, ◌==◌, ◌&&◌, int_le, ◌||◌}
+use Rattle.std.proofs.Common.{◌≡◌, Bool, true, false, not, refl, ℕ, ◌≤◌, arith, ◌<◌, ℤ, pos, ◌+◌, ◌+ℤ◌, ◌-ℤ◌, ◌≤ℤ◌, ◌<ℤ◌, ◌==◌, ◌&&◌, int_le, ◌||◌, ◌*◌, suc}
 use Rattle.std.specs.Prelude.{nat_lt, nat_le, ◌||◌, int_lt, int_le, if◌then◌else◌, ◌==◌, ◌&&◌, eqb}
 use Rattle.std.proofs.lemmas.Bool.Decides.{nat_tests, Decides-int_eq}
 use Rattle.std.proofs.lemmas.Int.{ints}
 use Rattle.std.specs.Ordering.{int_eq, nat_cmp, is_gt, int_cmp}
 use Rattle.std.proofs.lemmas.Bool.{false_from_ne_true}
-use Rattle.std.specs.declared.cmp.Ordering.TheVariants.{Less}
+use Rattle.std.specs.declared.cmp.Ordering.TheVariants.{Less, Greater}
 
 pub is_false : (b : Bool) → not b ≡ true → b ≡ false
 is_false true e = absurd cc
@@ -218,3 +218,37 @@ bit_test false = refl
 pub if_not : {A : Type 0} (b : Bool) (x y : A) → b ≡ false → (if b then x else y) ≡ y
 if_not true x y e = absurd (cc e)
 if_not false x y e = refl
+
+pub or_second : (a b : Bool) → b ≡ true → (a || b) ≡ true
+or_second true b e = refl
+or_second false b e = e
+
+pub nat_lt_true : (a b : ℕ) → a < b → nat_lt a b ≡ true
+nat_lt_true a b h = grind (arith, nat_tests)
+
+pub nat_le_true : (a b : ℕ) → a ≤ b → nat_le a b ≡ true
+nat_le_true a b h = grind (arith, nat_tests)
+
+pub nat_greater : (n m : ℕ) → m < n → nat_cmp n m ≡ Greater
+nat_greater n m h = grind (arith, nat_tests)
+
+pub next_after : (a b : ℤ) → a <ℤ b → (a +ℤ pos 1) ≤ℤ b
+next_after a b h = omega (arith, ints)
+
+pub next_is_later : (a : ℤ) → a ≤ℤ (a +ℤ pos 1)
+next_is_later a = omega (arith, ints)
+
+pub same_tick : (a b : ℤ) → b ≤ℤ a → a ≤ℤ b → a ≡ b
+same_tick a b h k = omega (arith, ints)
+
+pub int_below : (a b : ℤ) → a <ℤ b → int_eq a b ≡ false
+int_below a b lt = not_eq a b (λ e. omega (arith, ints, lt, e))
+
+pub int_above : (a b : ℤ) → b <ℤ a → int_eq a b ≡ false
+int_above a b gt = not_eq a b (λ e. omega (arith, ints, gt, e))
+
+pub one_moved : (n m k : ℕ) → suc n + m ≡ k → n + suc m ≡ k
+one_moved n m k h = omega (arith, h)
+
+pub product_grouped : (a b c : ℕ) → a * (b * c) ≡ a * b * c
+product_grouped a b c = omega arith

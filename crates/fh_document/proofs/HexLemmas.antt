@@ -28,44 +28,44 @@ digit_hex d small = ap (λ v. nat_lt v 16) (digit_is d small) ∙ less d small
 digit_visible : (d : ℕ) → d < 16 → (nat_le 33 (digit_char d) && nat_le (digit_char d) 126) ≡ true
 digit_visible d small = grind (arith, nat_tests)
 
-low : (n : ℕ) → n % 16 < 16
-low n = omega arith
+pub digit_below : (n : ℕ) → n % 16 < 16
+digit_below n = omega arith
 
 -- ---- ids and masks
 
 pub id_is : (n : ℕ) → n < 2 ^ 16 → hex_of 4 (hex4_text n) ≡ Some n
 id_is n small =
-    let a = digit_hex (n / 4096 % 16) (low (n / 4096)) in
-    let b = digit_hex (n / 256 % 16) (low (n / 256)) in
-    let c = digit_hex (n / 16 % 16) (low (n / 16)) in
-    let d = digit_hex (n % 16) (low n) in
+    let a = digit_hex (n / 4096 % 16) (digit_below (n / 4096)) in
+    let b = digit_hex (n / 256 % 16) (digit_below (n / 256)) in
+    let c = digit_hex (n / 16 % 16) (digit_below (n / 16)) in
+    let d = digit_hex (n % 16) (digit_below n) in
     if_true (is_hex (hex4_text n)) _ None (both_true _ _ a (both_true _ _ b (both_true _ _ c (both_true _ true d refl))))
     ∙ ap Some (value (digit_value (digit_char (n / 4096 % 16))) (digit_value (digit_char (n / 256 % 16))) (digit_value (digit_char (n / 16 % 16))) (digit_value (digit_char (n % 16)))
-    (digit_is (n / 4096 % 16) (low (n / 4096))) (digit_is (n / 256 % 16) (low (n / 256))) (digit_is (n / 16 % 16) (low (n / 16))) (digit_is (n % 16) (low n)))
+    (digit_is (n / 4096 % 16) (digit_below (n / 4096))) (digit_is (n / 256 % 16) (digit_below (n / 256))) (digit_is (n / 16 % 16) (digit_below (n / 16))) (digit_is (n % 16) (digit_below n)))
   where
     value : (w x y z : ℕ) → w ≡ n / 4096 % 16 → x ≡ n / 256 % 16 → y ≡ n / 16 % 16 → z ≡ n % 16 → (((0 * 16 + w) * 16 + x) * 16 + y) * 16 + z ≡ n
     value w x y z e f g h = omega arith
 
 pub mask_is : (n : ℕ) → n < 2 ^ 12 → hex_of 3 (hex3_text n) ≡ Some n
 mask_is n small =
-    let b = digit_hex (n / 256 % 16) (low (n / 256)) in
-    let c = digit_hex (n / 16 % 16) (low (n / 16)) in
-    let d = digit_hex (n % 16) (low n) in
+    let b = digit_hex (n / 256 % 16) (digit_below (n / 256)) in
+    let c = digit_hex (n / 16 % 16) (digit_below (n / 16)) in
+    let d = digit_hex (n % 16) (digit_below n) in
     if_true (is_hex (hex3_text n)) _ None (both_true _ _ b (both_true _ _ c (both_true _ true d refl)))
     ∙ ap Some (value (digit_value (digit_char (n / 256 % 16))) (digit_value (digit_char (n / 16 % 16))) (digit_value (digit_char (n % 16)))
-    (digit_is (n / 256 % 16) (low (n / 256))) (digit_is (n / 16 % 16) (low (n / 16))) (digit_is (n % 16) (low n)))
+    (digit_is (n / 256 % 16) (digit_below (n / 256))) (digit_is (n / 16 % 16) (digit_below (n / 16))) (digit_is (n % 16) (digit_below n)))
   where
     value : (x y z : ℕ) → x ≡ n / 256 % 16 → y ≡ n / 16 % 16 → z ≡ n % 16 → ((0 * 16 + x) * 16 + y) * 16 + z ≡ n
     value x y z f g h = omega arith
 
 pub id_word : (n : ℕ) → is_word (hex4_text n) ≡ true
 id_word n =
-    both_true _ _ (digit_visible (n / 4096 % 16) (low (n / 4096))) (both_true _ _ (digit_visible (n / 256 % 16) (low (n / 256)))
-    (both_true _ _ (digit_visible (n / 16 % 16) (low (n / 16))) (both_true _ true (digit_visible (n % 16) (low n)) refl)))
+    both_true _ _ (digit_visible (n / 4096 % 16) (digit_below (n / 4096))) (both_true _ _ (digit_visible (n / 256 % 16) (digit_below (n / 256)))
+    (both_true _ _ (digit_visible (n / 16 % 16) (digit_below (n / 16))) (both_true _ true (digit_visible (n % 16) (digit_below n)) refl)))
 
 pub mask_word : (n : ℕ) → is_word (hex3_text n) ≡ true
 mask_word n =
-    both_true _ _ (digit_visible (n / 256 % 16) (low (n / 256))) (both_true _ _ (digit_visible (n / 16 % 16) (low (n / 16))) (both_true _ true (digit_visible (n % 16) (low n)) refl))
+    both_true _ _ (digit_visible (n / 256 % 16) (digit_below (n / 256))) (both_true _ _ (digit_visible (n / 16 % 16) (digit_below (n / 16))) (both_true _ true (digit_visible (n % 16) (digit_below n)) refl))
 
 -- ---- frames
 
@@ -75,23 +75,23 @@ visible w = list_all (λ b. nat_le 33 b && nat_le b 126) w
 hex_visible : (bytes : List ℕ) → visible (hex_text bytes) ≡ true
 hex_visible [] = refl
 hex_visible (b ∷ bytes) =
-    both_true _ _ (digit_visible (b / 16 % 16) (low (b / 16))) (both_true _ _ (digit_visible (b % 16) (low b)) (hex_visible bytes))
+    both_true _ _ (digit_visible (b / 16 % 16) (digit_below (b / 16))) (both_true _ _ (digit_visible (b % 16) (digit_below b)) (hex_visible bytes))
 
 all_hex : (bytes : List ℕ) → is_hex (hex_text bytes) ≡ true
 all_hex [] = refl
-all_hex (b ∷ bytes) = both_true _ _ (digit_hex (b / 16 % 16) (low (b / 16))) (both_true _ _ (digit_hex (b % 16) (low b)) (all_hex bytes))
+all_hex (b ∷ bytes) = both_true _ _ (digit_hex (b / 16 % 16) (digit_below (b / 16))) (both_true _ _ (digit_hex (b % 16) (digit_below b)) (all_hex bytes))
 
 bytes_are : (bytes : List ℕ) → AreBytes bytes → bytes_of (hex_text bytes) ≡ bytes
 bytes_are [] h = refl
 bytes_are (b ∷ bytes) h =
     ap (λ x. x ∷ bytes_of (hex_text bytes)) (value b (digit_value (digit_char (b / 16 % 16))) (digit_value (digit_char (b % 16))) (All-head (λ x. x < 256) b bytes h)
-    (digit_is (b / 16 % 16) (low (b / 16))) (digit_is (b % 16) (low b)))
+    (digit_is (b / 16 % 16) (digit_below (b / 16))) (digit_is (b % 16) (digit_below b)))
     ∙ ap (λ xs. b ∷ xs) (bytes_are bytes (All-tail (λ x. x < 256) b bytes h))
   where
     value : (b x y : ℕ) → b < 256 → x ≡ b / 16 % 16 → y ≡ b % 16 → 16 * x + y ≡ b
     value b x y small e f = omega arith
 
-hex_size : (bytes : List ℕ) → length (hex_text bytes) ≡ 2 * length bytes
+pub hex_size : (bytes : List ℕ) → length (hex_text bytes) ≡ 2 * length bytes
 hex_size [] = refl
 hex_size (b ∷ bytes) = omega (arith, hex_size bytes)
 

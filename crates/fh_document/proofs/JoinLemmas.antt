@@ -74,7 +74,7 @@ fed_joined : (line : List ℕ) (lines : List (List ℕ)) → fed (line ∷ lines
 fed_joined line [] = refl
 fed_joined line (next ∷ lines) = ap (λ xs. line ++ 10 ∷ xs) (fed_joined next lines) ∙ sym (append_assoc line (10 ∷ joined 10 (next ∷ lines)) (10 ∷ []))
 
-without_feed : (text : List ℕ) → without_last_feed (text ++ 10 ∷ []) ≡ text
+pub without_feed : (text : List ℕ) → without_last_feed (text ++ 10 ∷ []) ≡ text
 without_feed text =
     let size : length (text ++ 10 ∷ []) - 1 ≡ length text = omega (arith, length_push text 10) in
     ap (λ n. if slice_index (text ++ 10 ∷ []) n == 10 then take n (text ++ 10 ∷ []) else (text ++ 10 ∷ [])) size

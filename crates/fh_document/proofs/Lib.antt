@@ -6,7 +6,6 @@ pub mod Bounds
 pub mod LineBounds
 pub mod Anyone
 pub mod Properness
-pub mod Texts
 pub mod Marks
 pub mod Tests
 pub mod JoinLemmas

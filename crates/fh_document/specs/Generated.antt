@@ -1,12 +1,8 @@
 -- The document that is generated from a seed and a number of slots: four endpoints, a line of a plan for each slot and endpoint, and
 -- two copies of some frames of data.
-use Rattle.std.specs.Prelude.{ℕ, zero, suc, ◌+◌, ◌*◌, ◌/◌, ◌%◌, List, [], ◌++◌, ◌==◌, if◌then◌else◌, codes}
+use Rattle.std.specs.Prelude.{ℕ, ◌+◌, ◌*◌, ◌/◌, ◌%◌, List, ◌++◌, ◌==◌, if◌then◌else◌, codes}
 use Rattle.fh_base.specs.Words.{spaced_text, hex4_text}
-
--- the texts of the numbers below n, in their order
-unfoldable pub each : (ℕ → List ℕ) → ℕ → List ℕ
-each text zero = []
-each text (suc n) = each text n ++ text n
+use Rattle.line_words.specs.Each.{each}
 
 -- `KEYWORD SEED 1000`
 abbrev pub tone_text : List ℕ → ℕ → List ℕ

@@ -1,6 +1,7 @@
 // The document that is generated from a seed.
 ghost use Rattle.std.specs.Prelude.{◌≡◌, ◌≤◌, ◌<◌, ◌+◌, ◌++◌, length, [], OnOk, IfOk};
-ghost use Rattle.fh_document.specs.Generated.{each, tone_text, opening_text, endpoint_text, kind_text, kind_words, slot_text, plan_text, plans_text, deliver_text, generated};
+ghost use Rattle.line_words.specs.Each.{each};
+ghost use Rattle.fh_document.specs.Generated.{tone_text, opening_text, endpoint_text, kind_text, kind_words, slot_text, plan_text, plans_text, deliver_text, generated};
 
 use fh_base::{Bytes, Line, NoMemory};
 use std::alloc::Global;

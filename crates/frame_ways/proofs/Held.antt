@@ -15,10 +15,7 @@ use Rattle.frame_ways.specs.Network.{arrival_cmp, is_after, put_in, next_of, fir
 use Rattle.frame_ways.specs.Places.{place_of, place_cmp, turn_cmp}
 use Rattle.frame_ways.specs.Held.{AreHeld}
 use Rattle.frame_ways.proofs.NetworkOrder.{after_turned, first_le, int_le}
-use Rattle.fh_base.proofs.Orders.{below}
-
-later_is_greater : (n m : ℕ) → m < n → nat_cmp n m ≡ Greater
-later_is_greater n m h = grind (arith, nat_tests)
+use Rattle.fh_base.proofs.Orders.{below, nat_greater}
 
 abbrev pub arrivals : List (Turn × Arrival) → List Arrival
 arrivals es = map (λ e. e.1) es
@@ -29,7 +26,7 @@ turn_at n a = record { place = place_of a; serial = n }
 -- how the new turn compares with a held one
 turn_is : (n : ℕ) (a : Arrival) (e : Turn × Arrival) → e.0.place ≡ place_of e.1 → e.0.serial < n
     → turn_cmp (turn_at n a) e.0 ≡ ordering_then (arrival_cmp a e.1) Greater
-turn_is n a e at earlier = ap₂ (λ (p : Place) (o : Ordering). ordering_then (place_cmp (place_of a) p) o) at (later_is_greater n e.0.serial earlier)
+turn_is n a e at earlier = ap₂ (λ (p : Place) (o : Ordering). ordering_then (place_cmp (place_of a) p) o) at (nat_greater n e.0.serial earlier)
 
 -- the insertion, at each answer of the comparison
 abbrev inserted_at : ℕ → Arrival → (Turn × Arrival) → List (Turn × Arrival) → Ordering → List (Turn × Arrival)

@@ -30,8 +30,7 @@ use Rattle.frame_ways.proofs.FlightLemmas.{are_put, copies_from, landing-append,
 use Rattle.frame_ways.proofs.LandLemmas.{flying_here, flying_later, flying_none, later_from, left_first, left_later, left_none, refused_from, taken_all}
 use Rattle.frame_ways.proofs.ListLemmas.{left_listed, lent_at, listed_from, short_at, times_to}
 use Rattle.frame_ways.proofs.MoreLemmas.{copies_more, counted_one, none_behind}
-use Rattle.frame_ways.proofs.Ticks.{next_is_later, same_tick}
-use Rattle.fh_base.proofs.Orders.{at_most}
+use Rattle.fh_base.proofs.Orders.{at_most, next_is_later, same_tick}
 use Rattle.fh_base.specs.declared.nanoseconds.TheConstants.{NANOSECOND}
 
 -- all but what is on its way, and how many were sent, is as it was

@@ -8,7 +8,7 @@ use Rattle.std.proofs.lemmas.Bool.Decides.{Decides-int_eq, nat_tests}
 use Rattle.std.proofs.lemmas.Int.{ints}
 use Rattle.std.proofs.lemmas.List.Elements.{All-from_recursion, All-head, All-nil, All-tail, filter-append, recursion_from_All}
 use Rattle.std.specs.Int.Signed.{<ℤ-≤ℤ_trans}
-use Rattle.fh_base.proofs.Orders.{at_most, before_it, beyond_next, weak, not_eq}
+use Rattle.fh_base.proofs.Orders.{at_most, before_it, beyond_next, weak, not_eq, nat_lt_true}
 use Rattle.air_source.specs.declared.links.LinkFrame.{LinkFrame}
 use Rattle.fh_base.specs.declared.values.Ticks.{Ticks}
 use Rattle.fh_base.specs.Lists.{each}
@@ -155,9 +155,6 @@ by_endpoint frames f t ep own =
     let two = (Decides-int_eq f.at.0 t).0 own in
     after_together g.at.0 f.at.0 g.ep f.ep (one ∙ sym two) ∙ ap (λ (k : ℕ). nat_lt f.ep k) (eqb-true g.ep ep w.1))) frames (all_unit frames)
 
-less_is : (a b : ℕ) → a < b → nat_lt a b ≡ true
-less_is a b h = grind (arith, nat_tests)
-
 module _ (frames : List LinkFrame) (f : LinkFrame) (t : ℤ) (own : leaves_at t f ≡ true) where
   -- those of the endpoints after it
   all_after : (from n : ℕ) → f.ep < from → AllByRecursion (λ g. leaves_after g f ≡ true) (each from n (frames_leaving frames t))
@@ -165,7 +162,7 @@ module _ (frames : List LinkFrame) (f : LinkFrame) (t : ℤ) (own : leaves_at t 
   all_after from zero less = tt
   all_after from (suc n) less =
       all_join (λ g. leaves_after g f ≡ true) (frames_leaving frames t from) (each (from + 1) n (frames_leaving frames t))
-      (all_map (λ g. leaves_after g f ≡ nat_lt f.ep from) (λ g. leaves_after g f ≡ true) (λ g e. e ∙ less_is f.ep from less) (frames_leaving frames t from) (by_endpoint frames f t from own))
+      (all_map (λ g. leaves_after g f ≡ nat_lt f.ep from) (λ g. leaves_after g f ≡ true) (λ g e. e ∙ nat_lt_true f.ep from less) (frames_leaving frames t from) (by_endpoint frames f t from own))
       (all_after (from + 1) n (omega arith))
 
   all_same : (from n : ℕ) → f.ep < from → each from n (frames_leaving (frames ++ f ∷ []) t) ≡ each from n (frames_leaving frames t)

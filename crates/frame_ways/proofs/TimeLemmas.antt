@@ -18,8 +18,7 @@ use Rattle.frame_ways.specs.Ways.{IsCalmTo, OnWay, StandsFor, landings_on}
 use Rattle.frame_ways.specs.declared.way.Way.{Way}
 use Rattle.frame_ways.proofs.LandLemmas.{flying_here, flying_less, flying_none, flying_not, from_less, left_above, left_first, left_none}
 use Rattle.frame_ways.proofs.SendLemmas.{comes_at}
-use Rattle.frame_ways.proofs.Ticks.{int_above, next_after}
-use Rattle.fh_base.proofs.Orders.{at_most, later_than, under, not_under, weak}
+use Rattle.fh_base.proofs.Orders.{at_most, later_than, under, not_under, weak, int_above, next_after}
 
 -- ---- the earlier of two times
 

@@ -15,6 +15,7 @@ use Rattle.frame_ways.specs.SendQueues.{LeaveFrom, first_time, queued}
 use Rattle.frame_ways.specs.Waiting.{AreAmong, entry_frame, turn_cmp}
 use Rattle.frame_ways.specs.declared.turns.Turn.{Turn}
 use Rattle.frame_ways.proofs.SendQueueLemmas.{after}
+use Rattle.fh_base.proofs.Orders.{nat_greater}
 
 abbrev pub Entry : Type 0
 Entry = Turn × List ℕ
@@ -27,12 +28,9 @@ turn_of number f = record { at = f.at; ep = f.ep; serial = number }
 
 -- ---- one frame more
 
-later_is_greater : (n m : ℕ) → m < n → nat_cmp n m ≡ Greater
-later_is_greater n m h = grind (arith, nat_tests)
-
 -- how the turn of a new frame compares with that of one that waits
 turn_is : (n : ℕ) (f : LinkFrame) (e : Entry) → e.0.serial < n → turn_cmp (turn_of n f) e.0 ≡ ordering_then (int_cmp f.at.0 e.0.at.0) (ordering_then (nat_cmp f.ep e.0.ep) Greater)
-turn_is n f e earlier = ap (λ (o : Ordering). ordering_then (int_cmp f.at.0 e.0.at.0) (ordering_then (nat_cmp f.ep e.0.ep) o)) (later_is_greater n e.0.serial earlier)
+turn_is n f e earlier = ap (λ (o : Ordering). ordering_then (int_cmp f.at.0 e.0.at.0) (ordering_then (nat_cmp f.ep e.0.ep) o)) (nat_greater n e.0.serial earlier)
 
 -- it is less exactly where the one that waits leaves after the new one
 less_is : (a b : ℤ) (x y : ℕ) → is_lt (ordering_then (int_cmp a b) (nat_cmp x y)) ≡ after b y a x

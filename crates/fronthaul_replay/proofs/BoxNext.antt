@@ -50,7 +50,7 @@ use Rattle.unit_model.specs.Radiated.{first_clock}
 use Rattle.unit_model.specs.Reports.{du_reported}
 use Rattle.unit_model.specs.Standing.{History, nothing_yet}
 use Rattle.unit_model.specs.declared.jobs.UplinkJob.{UplinkJob}
-use Rattle.unit_laws.proofs.HistoryTicks.{last_is_earlier, last_of_next, last_reached, next_after, next_is_later, last_before, last_order}
+use Rattle.unit_laws.proofs.HistoryTicks.{last_is_earlier, last_of_next, last_reached, last_before, last_order}
 use Rattle.uplink_model.specs.Frames.{frames_behind}
 use Rattle.uplink_model.specs.Messages.{uplink_messages_of}
 use Rattle.uplink_path.specs.Emitting.{AreNumbered}
@@ -62,7 +62,7 @@ use Rattle.fronthaul_replay.specs.Up.{WaitsUp, answers_left, handed_by, left_for
 use Rattle.fronthaul_replay.specs.IntakeTurns.{AtIntakeTurn, IsIntakeInStep, planned_for}
 use Rattle.fronthaul_replay.proofs.UpLemmas.{answers_later}
 use Rattle.fronthaul_replay.proofs.IntakeTurnLemmas.{due_less, skip, start, unit_waits}
-use Rattle.fh_base.proofs.Orders.{at_most, more_differ, not_eq, weak}
+use Rattle.fh_base.proofs.Orders.{at_most, more_differ, not_eq, weak, next_after, next_is_later}
 
 -- ---- the start
 

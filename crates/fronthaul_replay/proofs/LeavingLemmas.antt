@@ -6,9 +6,8 @@ use Rattle.std.specs.Ordering.{int_eq}
 use Rattle.std.proofs.lemmas.Bool.Decides.{Decides-int_eq}
 use Rattle.std.proofs.lemmas.List.Elements.{All-append, All-filter, All-map, All-nil, All-weaker, filter_passes}
 use Rattle.std.specs.Int.Signed.{≤ℤ_refl}
-use Rattle.fh_base.proofs.Orders.{at_most}
+use Rattle.fh_base.proofs.Orders.{at_most, next_is_later}
 use Rattle.frame_ways.specs.Leaving.{Leaving}
-use Rattle.frame_ways.proofs.Ticks.{next_is_later}
 use Rattle.delay_laws.specs.Ticks.{Flight}
 use Rattle.document_traffic.specs.Measured.{flights_then}
 use Rattle.document_traffic.specs.Replayed.{leaving_flight, leaving_from, leaving_then}

@@ -1,7 +1,6 @@
 -- Both units' measurements from one tick to another.
-use Rattle.std.proofs.Common.{◌≡◌, ℤ, pos, ◌+ℤ◌, ◌-ℤ◌, ◌≤ℤ◌, ◌<ℤ◌, [], sym, ap, subst, arith}
+use Rattle.std.proofs.Common.{◌≡◌, ℤ, pos, ◌+ℤ◌, ◌-ℤ◌, ◌≤ℤ◌, ◌<ℤ◌, [], sym, ap, subst}
 use Rattle.std.specs.Prelude.{filter}
-use Rattle.std.proofs.lemmas.Int.{ints}
 use Rattle.air_source.specs.Units.{same_side}
 use Rattle.air_source.specs.declared.events.Side.{Side}
 use Rattle.air_source.specs.declared.events.Side.TheVariants.{Ru, Du}
@@ -12,7 +11,7 @@ use Rattle.document_traffic.specs.Turns.{IsQuietBetween}
 use Rattle.delay_laws.specs.Ticks.{Begin}
 use Rattle.document_traffic.specs.Settings.{compensation_of}
 use Rattle.fh_document.specs.declared.document.Document.{Document}
-use Rattle.unit_laws.proofs.HistoryTicks.{last_before}
+use Rattle.unit_laws.proofs.HistoryTicks.{last_before, next_of_last}
 use Rattle.unit_model.specs.Radiated.{first_clock}
 use Rattle.unit_meters.proofs.WaitLemmas.{awaits_until}
 use Rattle.unit_meters.specs.Begins.{Awaits, MetersStand, NoneBeginsTo}
@@ -21,9 +20,6 @@ use Rattle.unit_meters.specs.declared.meters.Meters.{Meters}
 use Rattle.delay_exchange.specs.Units.{HasDoings}
 use Rattle.delay_exchange.specs.declared.unit.UnitMeter.{UnitMeter}
 use Rattle.fronthaul_replay.specs.Measuring.{MeasuresWait, begins_for}
-
-next_is : (tick : ℤ) → (tick -ℤ pos 1) +ℤ pos 1 ≡ tick
-next_is tick = omega (arith, ints)
 
 -- where none begins before a tick, none of either unit does
 pub none_begins : (d : Document) (now tick : ℤ) → NoneBeginsTo (begins_for d) now (tick -ℤ pos 1) → (side : Side) (t : ℤ) → now ≤ℤ t → t <ℤ tick → begins_at d side t ≡ []
@@ -43,8 +39,8 @@ module _ (d : Document) (m : Meters) where
   pub measures_wait : (now tick : ℤ) → MeasuresWait d now m → first_clock ≤ℤ now → now ≤ℤ tick → NoneBeginsTo (begins_for d) now (tick -ℤ pos 1)
       → IsQuietBetween d now tick → MeasuresWait d tick m
   measures_wait now tick h begun order none quiet = record {
-    waits = subst (λ (t : ℤ). Awaits (begins_for d) t m) (next_is tick)
-        (awaits_until (begins_for d) now (tick -ℤ pos 1) m h.waits (subst (λ (t : ℤ). now ≤ℤ t) (sym (next_is tick)) order) none);
+    waits = subst (λ (t : ℤ). Awaits (begins_for d) t m) (next_of_last tick)
+        (awaits_until (begins_for d) now (tick -ℤ pos 1) m h.waits (subst (λ (t : ℤ). now ≤ℤ t) (sym (next_of_last tick)) order) none);
     ru = subst (λ (x : Doings). HasDoings (compensation_of d Ru) x m.ru) (sym (doings_wait d Ru now tick begun order quiet)) h.ru;
     du = subst (λ (x : Doings). HasDoings (compensation_of d Du) x m.du) (sym (doings_wait d Du now tick begun order quiet)) h.du;
   }

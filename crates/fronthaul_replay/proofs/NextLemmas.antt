@@ -41,10 +41,10 @@ use Rattle.fh_base.specs.Least.{IsLeast, IsLeastOf, earlier_time}
 use Rattle.ru_buffers.specs.declared.unit.Ru.{Ru}
 use Rattle.unit_model.specs.Radiated.{first_clock}
 use Rattle.unit_model.specs.Standing.{History}
-use Rattle.unit_laws.proofs.HistoryTicks.{before_next, next_after}
+use Rattle.unit_laws.proofs.HistoryTicks.{before_next}
 use Rattle.fronthaul_replay.specs.declared.coming.Coming.{Coming}
 use Rattle.fronthaul_replay.specs.Turns.{AtMoment, IsNextTick, IsStill, within_end}
-use Rattle.fh_base.proofs.Orders.{under, not_under, next_later as next_most, before_it}
+use Rattle.fh_base.proofs.Orders.{under, not_under, next_later as next_most, before_it, next_after}
 use Rattle.fh_base.proofs.EachLemmas.{gap_is}
 
 -- ---- the next moment

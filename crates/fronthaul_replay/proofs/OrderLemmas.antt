@@ -20,7 +20,6 @@ use Rattle.document_traffic.specs.Landing.{leaving_to}
 use Rattle.document_traffic.specs.Laws.{IsReplayable}
 use Rattle.document_traffic.specs.Sending.{leaving_of, sent_for}
 use Rattle.fh_document.specs.declared.document.Document.{Document}
-use Rattle.unit_laws.proofs.HistoryTicks.{next_after}
 use Rattle.air_source.specs.Tones.{tone_of}
 use Rattle.unit_model.specs.Radiated.{first_clock}
 use Rattle.window_config.specs.declared.config.Config.{Config}
@@ -28,6 +27,7 @@ use Rattle.window_config.specs.declared.plan.PlanLine.{PlanLine}
 use Rattle.frame_sending.proofs.OrderLemmas.{first_is_least, sent_less, in_frames, is_sent}
 use Rattle.fh_base.proofs.MemberLemmas.{all_of}
 use Rattle.fh_base.proofs.MadeLists.{in_all, in_map}
+use Rattle.fh_base.proofs.Orders.{next_after}
 
 -- ---- each is sent at a time that is gone over
 

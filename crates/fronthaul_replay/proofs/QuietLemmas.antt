@@ -6,12 +6,11 @@ use Rattle.std.proofs.lemmas.Int.{ints}
 use Rattle.std.proofs.lemmas.List.Elements.{All-weaker}
 use Rattle.std.specs.Int.Signed.{<ℤ-≤ℤ_trans, clash_ℤ}
 use Rattle.air_source.specs.declared.events.Side.{Side}
-use Rattle.fh_base.proofs.Orders.{weak, at_most}
+use Rattle.fh_base.proofs.Orders.{weak, at_most, next_after}
 use Rattle.frame_ways.specs.Landing.{landing_at}
 use Rattle.frame_ways.specs.Leaving.{Leaving}
 use Rattle.frame_ways.specs.Ways.{IsCalmTo, landings_on}
 use Rattle.frame_ways.specs.declared.way.Way.{Way}
-use Rattle.frame_ways.proofs.Ticks.{next_after}
 use Rattle.document_traffic.proofs.LeaveLemmas.{leaving_waits}
 use Rattle.document_traffic.specs.Measured.{exchanges}
 use Rattle.document_traffic.specs.Replayed.{begins_at, landings_for, leaving_with}

@@ -6,7 +6,7 @@ use Rattle.std.proofs.lemmas.Int.{ints}
 use Rattle.std.proofs.lemmas.Bool.Decides.{Decides-int_eq}
 use Rattle.std.proofs.lemmas.List.Elements.{All-head, All-tail}
 use Rattle.air_source.specs.declared.events.Side.{Side}
-use Rattle.fh_base.proofs.Orders.{next_order}
+use Rattle.fh_base.proofs.Orders.{next_order, next_after}
 use Rattle.frame_ways.specs.Landing.{copies_among, copies_in, injected_to, landing_at, landing_with}
 use Rattle.frame_ways.specs.Leaving.{Delayed, Leaving, SentCounts, counted, counted_all, delayed, delayed_behind, none_sent}
 use Rattle.frame_ways.specs.Ways.{IsCalmTo, LandsFrom, StandsFor, document_of, having_sent_all, landings_on, nothing_sent}
@@ -14,7 +14,6 @@ use Rattle.frame_ways.specs.declared.way.Way.{Way}
 use Rattle.frame_ways.proofs.ComingLemmas.{all_come}
 use Rattle.frame_ways.proofs.FlightLemmas.{landing-append}
 use Rattle.frame_ways.proofs.MoreLemmas.{among-append, behind-append}
-use Rattle.frame_ways.proofs.Ticks.{next_after}
 use Rattle.frame_ways.proofs.TimeLemmas.{stands_until}
 use Rattle.document_traffic.specs.Replayed.{all_leaving, landings_for}
 use Rattle.fh_document.specs.Proper.{IsDocument}
@@ -22,6 +21,7 @@ use Rattle.fh_document.specs.declared.document.Document.{Document}
 use Rattle.unit_model.specs.Meetings.{Arrival}
 use Rattle.unit_model.specs.Radiated.{first_clock}
 use Rattle.fronthaul_replay.specs.Waiting.{LandsAfter, Waits, on_way}
+use Rattle.unit_laws.proofs.HistoryTicks.{next_of_last}
 
 -- ---- nothing was sent, and one more is
 
@@ -91,9 +91,6 @@ lands_at d side t sent left doc all later =
 
 -- ---- the time before a tick
 
-next_is : (tick : ℤ) → (tick -ℤ pos 1) +ℤ pos 1 ≡ tick
-next_is tick = omega (arith, ints)
-
 -- where nothing lands of those that were sent before a tick, the way is at the tick as it was
 pub waits_until : (d : Document) (side : Side) (now tick : ℤ) (left : List Leaving) (w : Way) → (h : Waits d side now left w) → now ≤ℤ tick
     → IsCalmTo (landings_on (on_way d side h.sent)) now (tick -ℤ pos 1) → Waits d side tick left w
@@ -102,6 +99,6 @@ waits_until d side now tick left w h order calm =
     record {
       sent = h.sent;
       all = h.all;
-      stands = subst (λ (t : ℤ). StandsFor v t w) (next_is tick)
-          (stands_until v now (tick -ℤ pos 1) w h.stands (subst (λ (t : ℤ). now ≤ℤ t) (sym (next_is tick)) order) calm);
+      stands = subst (λ (t : ℤ). StandsFor v t w) (next_of_last tick)
+          (stands_until v now (tick -ℤ pos 1) w h.stands (subst (λ (t : ℤ). now ≤ℤ t) (sym (next_of_last tick)) order) calm);
     }

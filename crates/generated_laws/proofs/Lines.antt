@@ -4,7 +4,7 @@ use Rattle.std.specs.List.{AllByRecursion, list_any}
 use Rattle.std.proofs.lemmas.Bool.{and_parts, cases_Bool, eqb-true}
 use Rattle.std.proofs.lemmas.Bool.Decides.{nat_tests}
 use Rattle.fh_base.specs.declared.values.Slot.{Slot}
-use Rattle.fh_base.proofs.Orders.{pos_same}
+use Rattle.fh_base.proofs.Orders.{pos_same, and_false_3}
 use Rattle.window_config.specs.declared.plan.PlanLine.{PlanLine}
 use Rattle.unit_model.specs.Claims.{same_slot, same_way}
 use Rattle.unit_model.specs.Commands.{is_full, is_uplink, uplink_in}
@@ -80,17 +80,13 @@ none_up ep slot (b ∷ earlier) h =
         let p = and_parts (b.ep == ep) (same_slot b.slot slot) (and_parts (is_uplink b) _ e).1 in
         absurd (h b (inl refl) (eqb-true b.ep ep p.0) (same_slot_is b.slot slot p.1))
 
-neither : (t : Bool) → (t && false) ≡ false
-neither true = refl
-neither false = refl
-
 -- a line of an endpoint and slot of which no line is
 pub fresh : (earlier : List Allocation) (a : Allocation) → ((b : Allocation) → IsIn b earlier → a.ep ≡ b.ep → a.slot ≡ b.slot → ⊥) → why_claimed earlier a ≡ None
 fresh earlier a h =
     ap (λ (b : Bool). let w : Option PlanWhy = if b then Some Overlap else (if is_full earlier a then Some TooManySections else None) in w)
     (none_any (clash a) earlier (λ b m. no_clash a b (h b m)))
     ∙ ap (λ (b : Bool). let w : Option PlanWhy = if b then Some TooManySections else None in w)
-    (ap (λ n. is_uplink a && nat_le SLOT_SECTIONS n) (none_up a.ep a.slot earlier (λ b m e s. h b m (sym e) (sym s))) ∙ neither (is_uplink a))
+    (ap (λ n. is_uplink a && nat_le SLOT_SECTIONS n) (none_up a.ep a.slot earlier (λ b m e s. h b m (sym e) (sym s))) ∙ and_false_3 (is_uplink a))
 
 few_slots : (x : ℕ) → x < 2 → nat_le 2 x ≡ false
 few_slots x h = grind (arith, nat_tests)

@@ -10,6 +10,7 @@ use Rattle.plan_model.specs.Departures.{start_of_part}
 use Rattle.plan_model.specs.Streams.{Part}
 use Rattle.generated_laws.specs.Sparse.{IsSpaced}
 use Rattle.generated_laws.proofs.Told.{Any, IsTold, Told, at_tick, ticks_apart}
+use Rattle.fh_base.proofs.Orders.{above_next}
 
 -- each starts so far after the one before it, the first no earlier than `low`
 abbrev pub AreSpaced : ℕ → ℤ → List Part → Type 0
@@ -21,9 +22,6 @@ some_none xs x a b = cc
 
 order : (a b : ℤ) → (a <ℤ b) ⊎ (b ≤ℤ a)
 order a b = by_lt_z a b (λ lt. inl lt) (λ ge. inr ge)
-
-next_low : (from t : ℤ) → (from +ℤ pos 1) ≤ℤ t → from ≤ℤ t
-next_low from t h = omega (arith, ints, h)
 
 own : (from : ℤ) → from ≤ℤ from
 own from = omega (arith, ints)
@@ -63,7 +61,7 @@ module _ (g : Slot → ℕ → List Part) (e : EndpointConfig) (least : ℕ) (sp
   all_spaced from (suc count) low none =
       let rest = each_tick (from +ℤ pos 1) count now in
       elim (at_tick g e least spaced told from) [
-        | inl nothing ↦ subst (AreSpaced least low) (sym (ap (λ (xs : List Part). xs ++ rest) nothing)) (all_spaced (from +ℤ pos 1) count low (λ t a b. none t (next_low from t a) b))
+        | inl nothing ↦ subst (AreSpaced least low) (sym (ap (λ (xs : List Part). xs ++ rest) nothing)) (all_spaced (from +ℤ pos 1) count low (λ t a b. none t (above_next from t a) b))
         | inr a ↦ subst (AreSpaced least low) (sym (ap (λ (xs : List Part). xs ++ rest) a.is)) (
           first a,
           all_spaced (from +ℤ pos 1) count (start_of_part a.part +ℤ pos least) (λ t h k. quiet from t a h k),

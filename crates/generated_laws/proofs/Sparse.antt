@@ -8,7 +8,7 @@ use Rattle.std.proofs.lemmas.List.{drop-drop}
 use Rattle.fh_base.specs.Air.{air_of}
 use Rattle.fh_base.specs.declared.numerology.Numerology.{Numerology}
 use Rattle.fh_base.specs.declared.values.Slot.{Slot}
-use Rattle.fh_base.proofs.Orders.{le_true}
+use Rattle.fh_base.proofs.Orders.{le_true, not_true}
 use Rattle.window_config.specs.declared.config.Config.{Config}
 use Rattle.window_config.specs.declared.endpoints.EndpointConfig.{EndpointConfig}
 use Rattle.unit_model.specs.Claims.{same_slot}
@@ -58,10 +58,6 @@ pub record TheOne {X : Type 0} (t : X → Bool) (xs : List X) : Type 0 where
   pub is : t x ≡ true
   pub all : filter t xs ≡ x ∷ []
 
-not_both : (b : Bool) → (b ≡ true → ⊥) → b ≡ false
-not_both true h = absurd (h refl)
-not_both false h = refl
-
 -- of which no two pass a test, one passes or none
 one_passes : {X : Type 0} (t : X → Bool) (xs : List X) → AreRelated (λ x y. t x ≡ true → t y ≡ true → ⊥) xs → (filter t xs ≡ []) ⊎ TheOne t xs
 one_passes t [] h = inl refl
@@ -73,7 +69,7 @@ one_passes {X = X} t (x ∷ xs) h = go (t x) refl (one_passes t xs h.1)
       there = inl refl;
       is = e;
       all = ap (λ (b : Bool). let ys : List X = if b then x ∷ filter t xs else filter t xs in ys) e
-          ∙ ap (λ (ys : List X). x ∷ ys) (filter_none t xs (all_map (λ y. t x ≡ true → t y ≡ true → ⊥) (λ y. t y ≡ false) (λ y f. not_both (t y) (f e)) xs h.0));
+          ∙ ap (λ (ys : List X). x ∷ ys) (filter_none t xs (all_map (λ y. t x ≡ true → t y ≡ true → ⊥) (λ y. t y ≡ false) (λ y f. not_true (t y) (f e)) xs h.0));
     })
     go false e later = elim later [
       | inl none ↦ inl (ap (λ (b : Bool). let ys : List X = if b then x ∷ filter t xs else filter t xs in ys) e ∙ none)

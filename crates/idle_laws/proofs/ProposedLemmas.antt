@@ -1,5 +1,5 @@
 -- What each proposed line is.
-use Rattle.std.proofs.Common.{◌≡◌, ℕ, zero, suc, ◌+◌, ◌*◌, ◌<◌, ◌≤◌, Bool, true, false, ◌==◌, if◌then◌else◌, List, [], ◌∷◌, ◌++◌, map, refl, sym, ap, subst, ◌∙◌, inl, inr, arith}
+use Rattle.std.proofs.Common.{◌≡◌, ℕ, zero, suc, ◌+◌, ◌*◌, ◌<◌, ◌≤◌, Bool, true, false, if◌then◌else◌, List, [], ◌∷◌, ◌++◌, map, refl, sym, ap, subst, ◌∙◌, inl, inr, arith}
 use Rattle.std.specs.Prelude.{nat_le, nat_lt}
 use Rattle.std.specs.List.{flat_map}
 use Rattle.std.proofs.lemmas.Bool.Decides.{nat_tests}
@@ -21,6 +21,7 @@ use Rattle.idle_text.specs.Proposed.{proposed, proposed_at}
 use Rattle.fh_base.specs.Members.{IsIn}
 use Rattle.fh_base.proofs.MemberLemmas.{in_either}
 use Rattle.fh_base.proofs.MadeLists.{of_each, of_map}
+use Rattle.fh_base.proofs.Orders.{not_none}
 
 -- an idle line for a free slot of an endpoint
 pub record IsProposed (es : List EndpointConfig) (first last : ℕ) (cells : List AirCell) (min : ℕ) (lines : List PlanLine) (x : PlanLine) : Type 0 where
@@ -67,15 +68,12 @@ lt_false a b h = grind (arith, nat_tests)
 le_false : (a b : ℕ) → b < a → nat_le a b ≡ false
 le_false a b h = grind (arith, nat_tests)
 
-some_false : (a : ℕ) → 0 < a → (a == 0) ≡ false
-some_false a h = grind (arith, nat_tests)
-
 pub line_inside : (e : EndpointConfig) (first k : ℕ) → is_out_of_range e (idle_line e (slot_at e.numerology first k)) ≡ false
 line_inside e first k =
     let n = e.numerology in
     let proper = symbol_proper n first (k * symbols_of n) in
     let slot = le_false (slots_of n) (slot_at n first k).slot proper.slot in
-    let some = some_false (symbols_of n) (symbols_few n).0 in
+    let some = not_none (symbols_of n) (symbols_few n).0 in
     let within = lt_false (symbols_of n) (0 + symbols_of n) (omega arith) in
     rw (slot, some, within) refl
 

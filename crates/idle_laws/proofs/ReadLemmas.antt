@@ -1,5 +1,5 @@
 -- The grammar reads the proposed lines.
-use Rattle.std.proofs.Common.{◌≡◌, ℕ, ◌+◌, ◌-◌, ◌*◌, ◌/◌, ◌<◌, ◌≤◌, ◌^◌, sym, ap, subst, ◌∙◌, arith}
+use Rattle.std.proofs.Common.{ℕ, ◌+◌, ◌-◌, ◌*◌, ◌/◌, ◌<◌, ◌≤◌, ◌^◌, sym, ap, subst, ◌∙◌, arith}
 use Rattle.std.proofs.lemmas.Int.{ints}
 use Rattle.std.proofs.lemmas.Nat.{div_below, mul-le}
 use Rattle.fh_base.proofs.Order.{slots_few, symbols_few}
@@ -17,9 +17,7 @@ use Rattle.idle_text.specs.Free.{slot_at, slot_count}
 use Rattle.idle_laws.specs.Proposals.{ProposedAreRead}
 use Rattle.idle_laws.proofs.ProposedLemmas.{proposed_is}
 use Rattle.fh_base.proofs.MadeLists.{in_all}
-
-product : (a b c : ℕ) → a * (b * c) ≡ a * b * c
-product a b c = omega arith
+use Rattle.fh_base.proofs.Orders.{product_grouped}
 
 -- a slot of the frames is in one of them
 frame_below : (n : Numerology) (first last k : ℕ) → AreFrames first last → k < slot_count n first last → first + k * symbols_of n / frame_symbols n ≤ last
@@ -28,7 +26,7 @@ frame_below n first last k frames below =
     let order = frames.order in
     let some = (symbols_few n).0 in
     let inside : k * symbols_of n < (last + 1 - first) * frame_symbols n =
-    subst (λ (x : ℕ). k * symbols_of n < x) (sym (product (last + 1 - first) (10 * slots_of n) (symbols_of n)) ∙ ap (λ (f : ℕ). (last + 1 - first) * f) (sym (frame_is n)))
+    subst (λ (x : ℕ). k * symbols_of n < x) (sym (product_grouped (last + 1 - first) (10 * slots_of n) (symbols_of n)) ∙ ap (λ (f : ℕ). (last + 1 - first) * f) (sym (frame_is n)))
     (times_lt k (slot_count n first last) (symbols_of n) below some) in
     let less : k * symbols_of n / frame_symbols n < last + 1 - first = div_below (k * symbols_of n) (frame_symbols n) (last + 1 - first) few inside in
     omega (arith, less, order)

@@ -14,7 +14,7 @@ use Rattle.idle_spans.proofs.NumberLemmas.{symbol_is, number_is, symbol_proper, 
 
 -- ---- one symbol or two
 
-same_own : (p : Place) → same_symbol p.slot p.symbol p ≡ true
+pub same_own : (p : Place) → same_symbol p.slot p.symbol p ≡ true
 same_own p =
     let f = int_own p.slot.frame in
     let g = eq-eqb p.slot.subframe p.slot.subframe refl in

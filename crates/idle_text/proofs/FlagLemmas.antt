@@ -15,6 +15,7 @@ use Rattle.fh_base.specs.declared.values.Slot.{Slot}
 use Rattle.plan_model.specs.Lines.{is_down_kind}
 use Rattle.unit_model.specs.Claims.{same_slot}
 use Rattle.idle_text.specs.Free.{has_slot, is_of_slot}
+use Rattle.fh_base.proofs.Orders.{or_false, nat_lt_true}
 
 -- ---- the slots that lie in some symbols
 
@@ -45,9 +46,6 @@ last_to end s k some within =
 under : (k at : ℕ) → nat_lt k at ≡ true → k < at
 under k at e = grind (arith, nat_tests)
 
-less : (k at : ℕ) → k < at → nat_lt k at ≡ true
-less k at h = grind (arith, nat_tests)
-
 not_less : (k at : ℕ) → at ≤ k → nat_lt k at ≡ false
 not_less k at h = grind (arith, nat_tests)
 
@@ -72,13 +70,9 @@ all_set first len s k at some past =
     let low : (first + s - 1) / s ≤ k = first_from first s k some (leb-true _ _ both.0) in
     let end : k < (first + len) / s = last_to (first + len) s k some (leb-true _ _ both.1) in
     let a = le-leb ((first + s - 1) / s) k low in
-    let b : nat_lt k at ≡ true = less k at (omega (arith, end, past)) in
-    let c : nat_lt k ((first + len) / s) ≡ true = less k ((first + len) / s) end in
+    let b : nat_lt k at ≡ true = nat_lt_true k at (omega (arith, end, past)) in
+    let c : nat_lt k ((first + len) / s) ≡ true = nat_lt_true k ((first + len) / s) end in
     rw (a, b, c) refl)
-
-or_false : (b t : Bool) → t ≡ false → b ≡ (b || t)
-or_false true t e = refl
-or_false false t e = sym e
 
 or_true : (b t : Bool) → t ≡ true → true ≡ (b || t)
 or_true true t e = refl
@@ -91,16 +85,16 @@ one_set a b at k flags old low high inside before = elim (cases_eq k at) [
   | inl same ↦
       let here : get_or (set flags at true) at false ≡ true = get_or-set_same flags at true false inside in
       let x = le-leb a k (omega (arith, low, same)) in
-      let y = less k (at + 1) (omega (arith, same)) in
-      let z = less k b (omega (arith, same, high)) in
+      let y = nat_lt_true k (at + 1) (omega (arith, same)) in
+      let z = nat_lt_true k b (omega (arith, same, high)) in
       let all : is_set a b (at + 1) k ≡ true = rw (x, y, z) refl in
       ap (λ (j : ℕ). get_or (set flags at true) j false) same ∙ here ∙ or_true old (is_set a b (at + 1) k) all
   | inr other ↦
       get_or-set_other flags at k true false other ∙ before
       ∙ ap (λ (t : Bool). old || (nat_le a k && (t && nat_lt k b)))
       (same_truth (nat_lt k at) (nat_lt k (at + 1))
-      (λ e. less k (at + 1) (let h = under k at e in omega (arith, h)))
-      (λ e. less k at (let h = under k (at + 1) e in omega (arith, h, other))))
+      (λ e. nat_lt_true k (at + 1) (let h = under k at e in omega (arith, h)))
+      (λ e. nat_lt_true k at (let h = under k (at + 1) e in omega (arith, h, other))))
 ]
 
 -- ---- the slots that lines touch
@@ -115,10 +109,6 @@ neither true true c = refl
 neither true false c = refl
 neither false b c = refl
 
-or_nothing : (b : Bool) → (b || false) ≡ b
-or_nothing true = refl
-or_nothing false = refl
-
 -- the flag of a slot, once one line more was looked at
 pub one_cleared : (test : PlanLine → Bool) (lines : List PlanLine) (i : ℕ) (line : PlanLine) (old middle new index : Bool) → i < length lines → slice_get lines i ≡ Some line
     → middle ≡ (old && not (list_any test (take i lines))) → new ≡ (middle && not index) → test line ≡ index
@@ -127,7 +117,7 @@ one_cleared test lines i line old middle new index below is before now same =
     now
     ∙ ap₂ (λ (m x : Bool). m && not x) before (sym same)
     ∙ neither old (list_any test (take i lines)) (test line)
-    ∙ ap (λ (x : Bool). old && not (list_any test (take i lines) || x)) (sym (or_nothing (test line)))
+    ∙ ap (λ (x : Bool). old && not (list_any test (take i lines) || x)) (sym (or_false (test line)))
     ∙ ap (λ (x : Bool). old && not x)
     (sym (list_any-append test (take i lines) (line ∷ []))
     ∙ ap (λ (l : PlanLine). list_any test (take i lines ++ l ∷ [])) (sym (get_or_from_slice_get lines i line line is))

@@ -30,6 +30,7 @@ use Rattle.idle_text.specs.Text.{flagged, flagged_slot, flagged_text, lines_text
 use Rattle.idle_text.proofs.TellLemmas.{count_is}
 use Rattle.fh_base.proofs.EachLemmas.{each_more, each_zero}
 use Rattle.fh_base.proofs.CommonLemmas.{each_same as each_alike}
+use Rattle.fh_base.proofs.Orders.{product_grouped}
 
 -- ---- the line of a slot whose flag is set
 
@@ -80,12 +81,9 @@ module _ (first : ℕ) (e : EndpointConfig) (flags : List Bool) where
 
 -- ---- the slots of the frames
 
-product : (a b c : ℕ) → a * (b * c) ≡ a * b * c
-product a b c = omega arith
-
 -- the frames have whole slots
 slots_total : (n : Numerology) (first last : ℕ) → symbol_count n first last ≡ slot_count n first last * symbols_of n
-slots_total n first last = ap (λ (f : ℕ). (last + 1 - first) * f) (frame_is n) ∙ product (last + 1 - first) (10 * slots_of n) (symbols_of n)
+slots_total n first last = ap (λ (f : ℕ). (last + 1 - first) * f) (frame_is n) ∙ product_grouped (last + 1 - first) (10 * slots_of n) (symbols_of n)
 
 quotient : (k s : ℕ) → 0 < s → k * s / s ≡ k
 quotient k s some = let plus : k * s ≡ k * s + 0 = omega arith in ap (λ (x : ℕ). x / s) plus ∙ div-mul-add k s 0 some

@@ -6,7 +6,6 @@ use Rattle.std.proofs.lemmas.Bool.{and_parts, eqb-true, eq-eqb}
 use Rattle.std.proofs.lemmas.Int.{ints}
 use Rattle.std.proofs.lemmas.Nat.{div-add-mod', div-mul-add, mod-mul-add, mod_below, mul-add-lt}
 use Rattle.fh_base.proofs.Order.{slots_few, symbols_few}
-use Rattle.fh_base.proofs.Orders.{int_own}
 use Rattle.fh_base.specs.Numbering.{slots_of, symbols_of}
 use Rattle.fh_base.specs.declared.numerology.Numerology.{Numerology}
 use Rattle.fh_base.specs.declared.values.Slot.{Slot}
@@ -16,6 +15,7 @@ use Rattle.idle_spans.specs.Symbols.{symbol_at}
 use Rattle.idle_spans.specs.declared.places.Place.{Place}
 use Rattle.idle_spans.proofs.NumberLemmas.{frame_is}
 use Rattle.idle_text.specs.Free.{slot_at}
+use Rattle.idle_spans.proofs.SameLemmas.{same_own}
 
 -- ---- a symbol of a slot
 
@@ -88,16 +88,9 @@ slots_differ n first j k same =
 
 -- ---- the number of a symbol
 
-own : (p : Place) → same_symbol p.slot p.symbol p ≡ true
-own p =
-    let f = int_own p.slot.frame in
-    let g = eq-eqb p.slot.subframe p.slot.subframe refl in
-    let h = eq-eqb p.slot.slot p.slot.slot refl in
-    let s = eq-eqb p.symbol p.symbol refl in rw (f, g, h, s) refl
-
 -- a test of a symbol against itself
 pub own_index : (n : Numerology) (first k : ℕ) (p : Place) (b : Bool) → p ≡ symbol_at n first k → same_symbol p.slot p.symbol (symbol_at n first k) ≡ b → b ≡ true
-own_index n first k p b is told = sym told ∙ ap (λ (q : Place). same_symbol p.slot p.symbol q) (sym is) ∙ own p
+own_index n first k p b is told = sym told ∙ ap (λ (q : Place). same_symbol p.slot p.symbol q) (sym is) ∙ same_own p
 
 -- ---- the number of a slot
 

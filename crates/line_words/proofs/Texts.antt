@@ -5,15 +5,11 @@ use Rattle.std.specs.List.{onto_first, slice_split}
 use Rattle.std.proofs.lemmas.List.Elements.{All-cons, All-head, All-tail}
 use Rattle.std.proofs.lemmas.List.Splits.{slice_split-cons_no, slice_split-cons_yes}
 use Rattle.line_words.specs.Words.{are_texts, is_text}
-use Rattle.fh_base.proofs.Orders.{both_true}
+use Rattle.fh_base.proofs.Orders.{both_true, right_true}
 
 -- each of these lines is printable
 abbrev pub AreTexts : List (List ℕ) → Type 0
 AreTexts = All (λ line. is_text line ≡ true)
-
-second_true : (a b : Bool) → (a && b) ≡ true → b ≡ true
-second_true true b h = h
-second_true false b h = absurd (cc h)
 
 other_true : (a b c : Bool) → a ≡ false → ((a || b) && c) ≡ true → b ≡ true
 other_true true b c h k = absurd (cc h)
@@ -37,7 +33,7 @@ lines_more false b bs e h all =
 
 pub lines_are_texts : (text : List ℕ) → are_texts text ≡ true → AreTexts (slice_split (λ b. b == 10) text)
 lines_are_texts [] h = All-cons (λ line. is_text line ≡ true) [] [] refl (λ k d lt. absurd (omega arith))
-lines_are_texts (b ∷ bs) h = lines_more (is_feed b) b bs refl h (lines_are_texts bs (second_true (b == 10 || (nat_le 32 b && nat_le b 126)) (are_texts bs) h))
+lines_are_texts (b ∷ bs) h = lines_more (is_feed b) b bs refl h (lines_are_texts bs (right_true (b == 10 || (nat_le 32 b && nat_le b 126)) (are_texts bs) h))
 
 -- of the lines that are left, the first, and those after it
 pub first_is_text : (lines rest : List (List ℕ)) (line : List ℕ) → lines ≡ line ∷ rest → AreTexts lines → is_text line ≡ true

@@ -22,11 +22,6 @@ hex_front (x ∷ piece) behind =
     let twice : 2 * length (x ∷ piece) ≡ suc (suc (2 * length piece)) = omega arith in
     ap (λ n. take n (hex_text (x ∷ piece ++ behind))) twice ∙ ap (λ t. hex2_text x ++ t) (hex_front piece behind)
 
--- two digits for each byte
-pub hex_length : (bytes : List ℕ) → length (hex_text bytes) ≡ 2 * length bytes
-hex_length [] = refl
-hex_length (b ∷ bytes) = omega (arith, hex_length bytes)
-
 -- a block's digits, put after a text's front
 pub front_more : (text more left all : List ℕ) (size place next : ℕ) → take place text ++ hex_text left ≡ all → take next more ≡ take place text ++ hex_text (take size left)
     → take next more ++ hex_text (drop size left) ≡ all

@@ -8,7 +8,7 @@ use Rattle.std.proofs.lemmas.Grind.{flat_map-append}
 use Rattle.std.proofs.lemmas.List.Elements.{All-append, All-cons, All-nil}
 use Rattle.std.proofs.lemmas.List.Folds.{list_all-append}
 use Rattle.fh_base.specs.Words.{spaced_text}
-use Rattle.pictures.specs.Each.{each}
+use Rattle.line_words.specs.Each.{each}
 use Rattle.picture_laws.specs.Parts.{IsIn, IsMadeOf, IsMere, Panel, Part, is_mere_byte, part_text}
 
 -- ---- texts without marks

@@ -6,7 +6,7 @@ use Rattle.std.specs.List.{list_all}
 use Rattle.std.proofs.lemmas.Bool.Decides.{nat_tests}
 use Rattle.std.proofs.lemmas.List.Folds.{list_all-append}
 use Rattle.fh_base.specs.Words.{spaced_text}
-use Rattle.pictures.specs.Each.{each}
+use Rattle.line_words.specs.Each.{each}
 use Rattle.pictures.specs.Elements.{across_text, anchor_text, area_text, attribute_text, class_text, down_text, grey_text, hatched_text, path_text, rect_text, text_text, titled_text}
 use Rattle.pictures.specs.Opening.{closing_text, ground_text, hatching_text, head_text, opening_text, style_text}
 use Rattle.pictures.specs.declared.rects.Area.{Area}

@@ -1,5 +1,5 @@
 -- What was drawn of a text.
-use Rattle.std.proofs.Common.{◌≡◌, ◌≢◌, ℕ, ◌≤◌, List, [], ◌∷◌, ◌++◌, length, Option, arith}
+use Rattle.std.proofs.Common.{◌≡◌, ◌≢◌, ℕ, ◌≤◌, List, [], ◌++◌, length, Option, arith}
 use Rattle.fh_base.specs.Told.{WritesPart}
 use Rattle.fh_base.proofs.Progress.{front_none}
 use Rattle.fh_base.proofs.Parts.{front_part}
@@ -13,6 +13,7 @@ use Rattle.pictures.specs.declared.rows.Rows.{Rows}
 use Rattle.pictures.specs.declared.windows.Windows.{Windows}
 use Rattle.pictures.specs.Opening.{closing_text}
 use Rattle.pictures.specs.WindowPicture.{HasColumns, commands_text, data_text, foot_text, head_text, windows_picture}
+use Rattle.pictures.proofs.Writing.{append_some, closing_some}
 
 -- ---- columns
 
@@ -28,14 +29,6 @@ rows_columns came r is = record {
 }
 
 -- ---- nothing was written yet
-
-closing_some : closing_text ≢ []
-unfolding closing_text
-closing_some h = absurd (cc h)
-
-append_some : (xs ys : List ℕ) → ys ≢ [] → xs ++ ys ≢ []
-append_some [] ys some h = some h
-append_some (x ∷ xs) ys some h = absurd (cc h)
 
 foot_some : (ws : Windows) → foot_text ws ≢ []
 unfolding foot_text

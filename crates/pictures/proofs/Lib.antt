@@ -1,5 +1,4 @@
 pub mod Scaling
-pub mod LineTexts
 pub mod Ids
 pub mod Counting
 pub mod Flows

@@ -22,11 +22,11 @@ use Rattle.pictures.specs.Looks as looks
 use Rattle.pictures.specs.Picture.{cells_text, grid_picture}
 use Rattle.pictures.specs.declared.spans.Span.{Span}
 
-append_some : (xs ys : List ℕ) → ys ≢ [] → xs ++ ys ≢ []
+pub append_some : (xs ys : List ℕ) → ys ≢ [] → xs ++ ys ≢ []
 append_some [] ys some h = some h
 append_some (x ∷ xs) ys some h = absurd (cc h)
 
-closing_some : closing_text ≢ []
+pub closing_some : closing_text ≢ []
 unfolding closing_text
 closing_some h = absurd (cc h)
 

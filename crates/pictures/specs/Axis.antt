@@ -1,7 +1,7 @@
 -- The axis of times, in nanoseconds before and after the start of the symbol.
 use Rattle.std.specs.Prelude.{ℕ, ℤ, pos, ◌+◌, ◌*◌, ◌/◌, ◌-ℤ◌, List, ◌++◌, nat_le, if◌then◌else◌, codes, true}
 use Rattle.std.specs.Fmt.{signed_decimal}
-use Rattle.pictures.specs.Each.{each}
+use Rattle.line_words.specs.Each.{each}
 use Rattle.pictures.specs.Windows.{far_of, near_of, column_of}
 use Rattle.pictures.specs.declared.windows.Windows.{Windows}
 use Rattle.pictures.specs.Elements.{down_text, text_text}

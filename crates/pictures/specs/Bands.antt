@@ -3,7 +3,7 @@ use Rattle.std.specs.Prelude.{ℕ, ◌+◌, ◌*◌, ◌/◌, ◌%◌, List, [],
 use Rattle.fh_base.specs.Numbering.{code_of, slots_of}
 use Rattle.fh_base.specs.declared.nanoseconds.TheConstants.{NANOSECOND}
 use Rattle.fh_base.specs.declared.symbols.TheConstants.{SUBFRAME}
-use Rattle.pictures.specs.Each.{each}
+use Rattle.line_words.specs.Each.{each}
 use Rattle.pictures.specs.declared.endpoints.Endpoint.{Endpoint}
 use Rattle.pictures.specs.Elements.{rect_text, down_text, text_text}
 use Rattle.pictures.specs.Opening.{opening_text, closing_text}

@@ -1,7 +1,7 @@
 -- Bars of arrivals.
 use Rattle.std.specs.Prelude.{ℕ, ◌+◌, ◌-◌, List, [], ◌++◌, length, max, ◌==◌, if◌then◌else◌, codes}
 use Rattle.std.specs.List.{fold, slice_index_or}
-use Rattle.pictures.specs.Each.{each}
+use Rattle.line_words.specs.Each.{each}
 use Rattle.pictures.specs.Scales.{scaled}
 use Rattle.pictures.specs.Counts.{no_counts}
 use Rattle.pictures.specs.declared.tallies.Counts.{Counts}

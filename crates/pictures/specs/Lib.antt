@@ -1,6 +1,5 @@
 pub mod Elements
 pub mod Opening
-pub mod Each
 pub mod Numbers
 pub mod Refusals
 pub mod Scales

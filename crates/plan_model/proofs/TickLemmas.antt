@@ -1,11 +1,10 @@
 -- Numbers and ticks that are the same or not, and lists over ticks.
-use Rattle.std.proofs.Common.{◌≡◌, ℕ, ℤ, zero, suc, pos, ◌+ℤ◌, ◌<ℤ◌, ◌≤ℤ◌, ◌⊎◌, inl, inr, Bool, true, false, List, ◌++◌, refl, ap₂, sym, ◌∙◌, arith}
+use Rattle.std.proofs.Common.{◌≡◌, ℕ, ℤ, zero, suc, pos, ◌+ℤ◌, ◌≤ℤ◌, ◌⊎◌, inl, inr, Bool, true, false, List, ◌++◌, refl, ap₂, sym, ◌∙◌, arith}
 use Rattle.std.specs.Ordering.{int_eq, int_cmp, nat_cmp}
 use Rattle.std.specs.declared.cmp.Ordering.TheVariants.{Equal}
 use Rattle.std.proofs.lemmas.Bool.Decides.{Decides-int_eq, nat_tests}
 use Rattle.std.proofs.lemmas.Int.{ints}
 use Rattle.fh_base.specs.Lists.{each_tick}
-use Rattle.fh_base.proofs.Orders.{not_eq}
 
 pub int_cases : (a b : ℤ) → (a ≡ b) ⊎ (int_eq a b ≡ false)
 int_cases a b = go (int_eq a b) refl
@@ -13,12 +12,6 @@ int_cases a b = go (int_eq a b) refl
     go : (r : Bool) → int_eq a b ≡ r → (a ≡ b) ⊎ (int_eq a b ≡ false)
     go true e = inl ((Decides-int_eq a b).0 e)
     go false e = inr e
-
-pub int_below : (a b : ℤ) → a <ℤ b → int_eq a b ≡ false
-int_below a b lt = not_eq a b (λ e. omega (arith, ints, lt, e))
-
-pub int_above : (a b : ℤ) → b <ℤ a → int_eq a b ≡ false
-int_above a b gt = not_eq a b (λ e. omega (arith, ints, gt, e))
 
 pub same_not : (a b : ℤ) → a ≡ b → int_eq a b ≡ false → ⊥
 same_not a b e h = let t : int_eq a b ≡ true = (Decides-int_eq a b).1 e in let d = sym t ∙ h in cc

@@ -16,7 +16,6 @@ use Rattle.window_config.specs.declared.config.Config.{Config}
 use Rattle.unit_model.specs.Meetings.{Arrival}
 use Rattle.unit_model.specs.Radiated.{first_clock}
 use Rattle.unit_model.proofs.SweepLemmas.{IsKept, each_tick_related}
-use Rattle.unit_laws.proofs.HistoryTicks.{next_is_later}
 use Rattle.replay_laws.specs.Events.{arrivals_at, cells_reported_at, count_event, count_events, events, events_at, events_between, number_of}
 use Rattle.unit_model.specs.Events.{arrival_event, arrival_told, arrivals_told, result_event}
 use Rattle.replay_laws.specs.Moments.{end_of_time, landing_at}
@@ -27,7 +26,7 @@ use Rattle.replay_laws.proofs.TickLemmas.{tick_alone, ticks_append}
 use Rattle.unit_model.proofs.ToldLemmas.{Results, none_told, told_next, told_next_alone}
 use Rattle.replay_laws.specs.Delays.{DelaysAreResults, DelaysFollowFrames, FollowsFrame, FramesAreTold, IsAmong, IsBehindFrame, IsLanding, IsResult, StandTogether, given_by}
 use Rattle.replay_laws.proofs.GivenLemmas.{first_inside, later_inside}
-use Rattle.fh_base.proofs.Orders.{at_most, next_order}
+use Rattle.fh_base.proofs.Orders.{at_most, next_order, next_is_later}
 
 -- ---- one of several, and those before it
 

@@ -12,7 +12,7 @@ use Rattle.window_config.specs.declared.config.Config.{Config}
 use Rattle.unit_model.specs.Meetings.{Arrival}
 use Rattle.unit_model.specs.Radiated.{first_clock, symbol_report, wait_of}
 use Rattle.unit_model.specs.Sweeps.{at_tick}
-use Rattle.unit_laws.proofs.HistoryTicks.{before_next, last_of_next, next_after, next_is_later}
+use Rattle.unit_laws.proofs.HistoryTicks.{before_next, last_of_next}
 use Rattle.replay_laws.specs.Events.{arrivals_at, cells_reported_at, events_at, events_between}
 use Rattle.unit_model.specs.Events.{arrivals_told}
 use Rattle.replay_laws.specs.Moments.{all_arrivals, arrivals_before, end_of_time}
@@ -22,7 +22,7 @@ use Rattle.unit_model.proofs.ToldLemmas.{none_told}
 use Rattle.replay_laws.proofs.CameLemmas.{calm_adds_nothing, calm_in_part}
 use Rattle.replay_laws.proofs.MomentLemmas.{calm_before, cells_settled, quiet_before, reported_before_moment, seen_by, seen_later}
 use Rattle.replay_laws.proofs.TickLemmas.{no_ticks, tick_alone, tick_empty, ticks_append}
-use Rattle.fh_base.proofs.Orders.{at_most}
+use Rattle.fh_base.proofs.Orders.{at_most, next_after, next_is_later}
 
 pub events_go_on : EventsGoOn
 events_go_on c x tick begun =

@@ -10,12 +10,12 @@ use Rattle.fh_base.specs.Lists.{onto}
 use Rattle.unit_model.specs.Meetings.{Arrival}
 use Rattle.unit_model.specs.Radiated.{first_clock}
 use Rattle.unit_model.proofs.CountLemmas.{no_time}
-use Rattle.unit_laws.proofs.HistoryTicks.{next_after, same_tick, clock_begins}
+use Rattle.unit_laws.proofs.HistoryTicks.{clock_begins}
 use Rattle.replay_laws.specs.Moments.{all_arrivals, arrivals_in, end_of_time, landing_at}
 use Rattle.replay_laws.proofs.CameLemmas.{none_first, next_first}
 use Rattle.replay_laws.proofs.EndLemmas.{lands_by_end}
 use Rattle.replay_laws.specs.Landed.{EachArrives}
-use Rattle.fh_base.proofs.Orders.{under_is as is_less, not_under_is as not_less, weak, not_later as less_differ, within_next, is_same, not_eq, more_differ, and_none}
+use Rattle.fh_base.proofs.Orders.{under_is as is_less, not_under_is as not_less, weak, not_later as less_differ, within_next, is_same, not_eq, more_differ, and_none, next_after, same_tick}
 use Rattle.fh_base.proofs.EachLemmas.{gap_is}
 
 -- ---- how many have something

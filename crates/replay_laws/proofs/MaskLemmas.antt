@@ -14,21 +14,21 @@ abbrev bit_of : (ℕ → Option Claim) → ℕ → ℕ
 bit_of claims re = if is_used (claims re) then 1 else 0
 
 -- a number is another one, shifted, and some lower bits
-record IsShifted (whole high k : ℕ) : Type 0 where
-  low : ℕ
-  is : whole ≡ high * 2 ^ k + low
-  below : low < 2 ^ k
+pub record IsShifted (whole high k : ℕ) : Type 0 where
+  pub low : ℕ
+  pub is : whole ≡ high * 2 ^ k + low
+  pub below : low < 2 ^ k
 
-pub twice : (h p l b : ℕ) → 2 * (h * p + l) + b ≡ h * (2 * p) + (2 * l + b)
+twice : (h p l b : ℕ) → 2 * (h * p + l) + b ≡ h * (2 * p) + (2 * l + b)
 twice h p l b = grind arith
 
 double : (l b p : ℕ) → l < p → b ≤ 1 → 2 * l + b < 2 * p
 double l b p h k = omega arith
 
-by_one : (whole high : ℕ) → whole ≡ high → whole ≡ high * 2 ^ 0 + 0
+pub by_one : (whole high : ℕ) → whole ≡ high → whole ≡ high * 2 ^ 0 + 0
 by_one whole high e = omega (arith, e)
 
-shift_more : (whole high k b next : ℕ) → IsShifted whole high k → b ≤ 1 → next ≡ 2 * whole + b → IsShifted next high (suc k)
+pub shift_more : (whole high k b next : ℕ) → IsShifted whole high k → b ≤ 1 → next ≡ 2 * whole + b → IsShifted next high (suc k)
 shift_more whole high k b next s small e =
     let more : 2 ^ suc k ≡ 2 * 2 ^ k = grind arith in
     record {
@@ -50,10 +50,10 @@ shifted claims n (suc k) =
     shift_more (used_below claims (n + k)) (used_below claims n) k (bit_of claims (n + k)) (used_below claims (n + suc k)) (shifted claims n k)
     (bit_small (is_used (claims (n + k)))) (ap (used_below claims) place ∙ next_below claims (n + k))
 
-shift_back : (whole high k : ℕ) → IsShifted whole high k → whole / 2 ^ k ≡ high
+pub shift_back : (whole high k : ℕ) → IsShifted whole high k → whole / 2 ^ k ≡ high
 shift_back whole high k s = ap (λ (w : ℕ). w / 2 ^ k) s.is ∙ shr_high high k s.low s.below
 
-last_bit : (u b x : ℕ) → b ≤ 1 → x ≡ 2 * u + b → x % 2 ≡ b
+pub last_bit : (u b x : ℕ) → b ≤ 1 → x ≡ 2 * u + b → x % 2 ≡ b
 last_bit u b x small e = omega arith
 
 mask_bit : (claims : ℕ → Option Claim) (re : ℕ) → re < 12 → used_mask claims / 2 ^ (11 - re) % 2 ≡ bit_of claims re

@@ -16,7 +16,7 @@ use Rattle.unit_model.specs.Standing.{due, past_of}
 use Rattle.unit_model.specs.Sweeps.{at_tick, sweep}
 use Rattle.unit_laws.proofs.DueLemmas.{all_is_due, due_in_pieces}
 use Rattle.unit_model.proofs.SweepLemmas.{sweep-append}
-use Rattle.unit_laws.proofs.HistoryTicks.{last_is_earlier, last_reached, next_is_later}
+use Rattle.unit_laws.proofs.HistoryTicks.{last_is_earlier, last_reached}
 use Rattle.replay_laws.specs.Events.{cells_reported_at}
 use Rattle.replay_laws.specs.Moments.{all_arrivals, arrivals_before, end_of_time}
 use Rattle.replay_laws.specs.Passing.{AreLandings, DueAtMoment, IsNextMoment, ReportedAtMoment, ReportedBeforeMoment, seen_at, seen_before}
@@ -24,7 +24,7 @@ use Rattle.replay_laws.specs.Traffic.{Traffic, known_at, landings_at, reported_a
 use Rattle.replay_laws.proofs.CameLemmas.{calm_adds_nothing}
 use Rattle.replay_laws.proofs.SettledLemmas.{reported_settled}
 use Rattle.replay_laws.proofs.TickLemmas.{sweep_alone}
-use Rattle.fh_base.proofs.Orders.{next_later as next_most, at_most, next_order}
+use Rattle.fh_base.proofs.Orders.{next_later as next_most, at_most, next_order, next_is_later}
 
 -- ---- what is reported, in pieces
 

@@ -7,9 +7,8 @@ use Rattle.window_config.specs.declared.endpoints.EndpointConfig.{EndpointConfig
 use Rattle.fh_base.specs.Lists.{each_tick}
 use Rattle.unit_model.specs.Sweeps.{OfSymbol, at_tick, sweep}
 use Rattle.unit_model.proofs.SweepLemmas.{sweep-append}
-use Rattle.unit_laws.proofs.HistoryTicks.{next_after, next_is_later}
 use Rattle.unit_laws.proofs.HistoryLists.{front_empty, back_empty}
-use Rattle.fh_base.proofs.Orders.{weak, same_gap as gap_sum, frame_low_is as step_above, next_later as next_most, at_most, and_none}
+use Rattle.fh_base.proofs.Orders.{weak, same_gap as gap_sum, frame_low_is as step_above, next_later as next_most, at_most, and_none, next_after, next_is_later}
 use Rattle.fh_base.proofs.EachLemmas.{gap_is, gap_none, ticks_none, ticks_split}
 
 -- ---- numbers

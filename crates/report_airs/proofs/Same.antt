@@ -1,20 +1,12 @@
 -- When two symbols are the same.
-use Rattle.std.proofs.Common.{◌≡◌, true, ◌==◌, refl}
+use Rattle.std.proofs.Common.{◌≡◌, true, ◌==◌}
 use Rattle.std.specs.Cmp.{first_so, second_so}
 use Rattle.std.specs.Ordering.{int_eq}
 use Rattle.std.proofs.lemmas.Bool.{eqb-true}
 use Rattle.fh_base.proofs.Orders.{same_z}
-use Rattle.air_source.specs.declared.events.Side.{Side}
-use Rattle.air_source.specs.declared.events.Side.TheVariants.{Ru, Du}
 use Rattle.report_airs.specs.declared.places.SymbolPlace.{SymbolPlace}
 use Rattle.report_airs.specs.Places.{same_place}
-use Rattle.air_source.specs.Units.{same_side}
-
-side_same : (a b : Side) → same_side a b ≡ true → a ≡ b
-side_same Ru Ru h = refl
-side_same Ru Du h = absurd cc
-side_same Du Ru h = absurd cc
-side_same Du Du h = refl
+use Rattle.air_source.proofs.Sides.{side_same}
 
 -- the same symbol is one symbol
 pub same_is : (p q : SymbolPlace) → same_place p q ≡ true → p ≡ q

@@ -19,7 +19,6 @@ use Rattle.unit_laws.proofs.FrameLemmas.{symbols_are_swept}
 use Rattle.unit_laws.proofs.TickLemmas.{due_after_now}
 use Rattle.unit_cells.proofs.KeepLemmas.{at_config}
 use Rattle.unit_laws.specs.First.{FirstIsFirst, IsSweptIn, NothingIsNothing, told_of}
-use Rattle.unit_laws.proofs.HistoryTicks.{next_after}
 use Rattle.unit_laws.proofs.HistoryLists.{front_empty}
 use Rattle.unit_symbols.specs.declared.cursor.JobCursor.{JobCursor}
 use Rattle.unit_memory.specs.declared.memory.UnitMemory.{UnitMemory}
@@ -28,7 +27,7 @@ use Rattle.unit_symbols.specs.Symbols.{IsSymbol}
 use Rattle.ru_buffers.specs.Reporting.{DueBegins, DueGoesOn, FirstIsDue, IsFirstLeft, IsLeftAfter, NothingBeforeFirst, NothingIsDue, SomethingAtFirst, due_of}
 use Rattle.ru_buffers.specs.Units.{RadioKeeps}
 use Rattle.ru_buffers.proofs.SymbolLemmas.{clock_first, looked_up, none_is_left, quiet}
-use Rattle.fh_base.proofs.Orders.{not_under, weak, beyond_next as after_next, within_next}
+use Rattle.fh_base.proofs.Orders.{not_under, weak, beyond_next as after_next, within_next, next_after}
 
 -- ---- times
 

@@ -6,10 +6,10 @@ use Rattle.std.proofs.lemmas.Int.{ints}
 use Rattle.std.proofs.lemmas.Bool.{cases_eq, eq-eqb, ne_eqb, eqb-true, and_parts, and_right}
 use Rattle.std.proofs.lemmas.Bool.Decides.{Decides-int_eq}
 use Rattle.fh_base.specs.Lists.{each, each_tick}
-use Rattle.plan_model.proofs.TickLemmas.{int_cases, int_below, int_above, same_not, ticks_same}
+use Rattle.plan_model.proofs.TickLemmas.{int_cases, same_not, ticks_same}
 use Rattle.schedule_laws.specs.Sweeping.{of_key, timed_at, EachIsAll, TicksAreAll, Clock, PartSymbol, is_symbol, parts_of_symbol, parts_of_endpoint, IsPart, Precedes, AreOrdered, SweepsFindAll}
 use Rattle.std.specs.Int.{int_gap}
-use Rattle.fh_base.proofs.Orders.{same_z, not_eq}
+use Rattle.fh_base.proofs.Orders.{same_z, not_eq, int_below, int_above}
 use Rattle.fh_base.proofs.FilterLemmas.{related_filter, related_map}
 use Rattle.fh_base.proofs.MemberLemmas.{all_map, filter_none, all_from, filter_has}
 use Rattle.fh_base.proofs.EachLemmas.{each_none, ticks_none, each_same as each_alike, gap_is}

@@ -1,16 +1,14 @@
 -- When two places are the same, and what the map's order says of it.
-use Rattle.std.proofs.Common.{◌≡◌, ℕ, ℤ, Bool, true, false, ◌==◌, refl, sym, ◌∙◌, arith, subst}
+use Rattle.std.proofs.Common.{◌≡◌, ℤ, Bool, true, false, ◌==◌, refl, sym, ◌∙◌, arith, subst}
 use Rattle.std.specs.Cmp.{both_tied, first_so, second_so}
-use Rattle.std.specs.Ordering.{nat_cmp, int_cmp, int_eq, is_eq}
+use Rattle.std.specs.Ordering.{int_cmp, int_eq, is_eq}
 use Rattle.std.proofs.lemmas.Bool.Decides.{nat_tests}
 use Rattle.std.proofs.lemmas.Int.{ints}
 use Rattle.std.proofs.lemmas.Bool.{eq-eqb, eqb-true}
 use Rattle.fh_base.proofs.Orders.{int_own, same_z}
 use Rattle.shared_cell.specs.declared.places.CellPlace.{CellPlace}
 use Rattle.shared_cell.specs.Places.{is_same, place_cmp}
-
-eq_nat : (x y : ℕ) → is_eq (nat_cmp x y) ≡ (x == y)
-eq_nat x y = grind (arith, nat_tests)
+use Rattle.fh_base.proofs.CommonLemmas.{nat_equal}
 
 eq_int : (x y : ℤ) → is_eq (int_cmp x y) ≡ int_eq x y
 eq_int x y = grind (arith, ints, nat_tests)
@@ -19,9 +17,9 @@ eq_int x y = grind (arith, ints, nat_tests)
 pub is_eq-place_cmp : (p q : CellPlace) → is_eq (place_cmp p q) ≡ is_same p q
 is_eq-place_cmp p q =
     sym (both_tied _ _ _ _ (sym (eq_int p.frame q.frame))
-    (both_tied _ _ _ _ (sym (eq_nat p.subframe q.subframe))
-    (both_tied _ _ _ _ (sym (eq_nat p.slot q.slot))
-    (both_tied _ _ _ _ (sym (eq_nat p.symbol q.symbol)) (both_tied _ _ _ _ (sym (eq_nat p.id q.id)) (sym (eq_nat p.prb q.prb)))))))
+    (both_tied _ _ _ _ (sym (nat_equal p.subframe q.subframe))
+    (both_tied _ _ _ _ (sym (nat_equal p.slot q.slot))
+    (both_tied _ _ _ _ (sym (nat_equal p.symbol q.symbol)) (both_tied _ _ _ _ (sym (nat_equal p.id q.id)) (sym (nat_equal p.prb q.prb)))))))
 
 -- the same place is one place
 pub same_is : (p q : CellPlace) → is_same p q ≡ true → p ≡ q

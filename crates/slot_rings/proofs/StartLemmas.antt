@@ -6,7 +6,7 @@ use Rattle.fh_base.specs.Air.{air_of}
 use Rattle.fh_base.specs.Numbering.{symbols_of}
 use Rattle.fh_base.specs.declared.values.Slot.{Slot}
 use Rattle.fh_base.specs.declared.values.Ticks.{Ticks}
-use Rattle.fh_base.proofs.Orders.{both_ways as unequal}
+use Rattle.fh_base.proofs.Orders.{both_ways as unequal, at_most}
 use Rattle.unit_model.specs.Claims.{is_from}
 use Rattle.unit_model.specs.declared.allocations.Allocation.{Allocation}
 use Rattle.slot_rings.specs.Pending.{IsFlagged, due_in, flag_at}
@@ -20,9 +20,6 @@ use Rattle.std.proofs.lemmas.Int.{ints}
 use Rattle.fh_base.specs.declared.symbols.TheConstants.{SLOT_SYMBOLS}
 use Rattle.fh_base.proofs.Options.{some_is}
 
-int_le_trans : (a b c : ℤ) → a ≤ℤ b → b ≤ℤ c → a ≤ℤ c
-int_le_trans a b c p q = grind (arith, ints)
-
 -- a place with a tick that is not before the earlier one of its own and another
 pub least_lowered : (xs : List Ticks) (i : ℕ) (own new : Ticks) (least start next : ℤ) → i < length xs → own ≡ get_or xs i own → IsLeast xs least
     → next ≤ℤ least → next ≤ℤ start → ((t : ℤ) → t ≤ℤ own.0 → t ≤ℤ start → t ≤ℤ new.0) → IsLeast (set xs i new) next
@@ -32,11 +29,11 @@ least_lowered xs i own new least start next within read is low soon latest j bel
       let there : own ≡ get_or xs i none = get_or_read xs i own within read none in
       let first : least ≤ℤ own.0 = subst (λ (x : Ticks). least ≤ℤ x.0) (sym there) (is i within) in
       let now : get_or (set xs i new) j none ≡ new = ap (λ (k : ℕ). get_or (set xs i new) k none) e ∙ get_or-set_same xs i new none within in
-      subst (λ (x : Ticks). next ≤ℤ x.0) (sym now) (latest next (int_le_trans next least own.0 low first) soon)
+      subst (λ (x : Ticks). next ≤ℤ x.0) (sym now) (latest next (at_most next least own.0 low first) soon)
   | inr ne ↦
       let none : Ticks = record { 0 = pos 0 } in
       let here = is j (omega (arith, below, length-set xs i new)) in
-      subst (λ (x : Ticks). next ≤ℤ x.0) (sym (get_or-set_other xs i j new none ne)) (int_le_trans next least (start_at xs j) low here)
+      subst (λ (x : Ticks). next ≤ℤ x.0) (sym (get_or-set_other xs i j new none ne)) (at_most next least (start_at xs j) low here)
 ]
 
 -- another place, and other ticks
@@ -52,7 +49,7 @@ starts_put r old new i p q starts within read size lower changed = record {
         (subst (λ (x : PlaceValue). StartsFrom r x (start_at new i)) (sym (get_or-set_same r.places i q blank within)) (changed was))
     | inr ne ↦
         subst (λ (x : PlaceValue). StartsFrom r x (start_at new j)) (sym (get_or-set_other r.places i j q blank ne))
-        (λ s slot is few due. int_le_trans (start_at new j) (start_at old j) (air_of r.endpoint.numerology slot s) (lower j)
+        (λ s slot is few due. at_most (start_at new j) (start_at old j) (air_of r.endpoint.numerology slot s) (lower j)
         (starts.each j (omega (arith, below, length-set r.places i q)) s slot is few due))
   ];
 }
@@ -89,7 +86,7 @@ pub starts_claimed : (r : RingValue) (old new : List Ticks) (i : ℕ) (p q : Pla
     → HaveStarts (put r i q) new
 starts_claimed r old new i p q a have within read size lower slot own here quiet =
     starts_put r old new i p q have within read size lower (λ was s x is few due. elim (cases_Bool (due_in r.endpoint.prbs p s)) [
-      | inl on ↦ int_le_trans (start_at new i) (start_at old i) (air_of r.endpoint.numerology x s) (lower i) (was s x (sym slot ∙ is) few on)
+      | inl on ↦ at_most (start_at new i) (start_at old i) (air_of r.endpoint.numerology x s) (lower i) (was s x (sym slot ∙ is) few on)
       | inr off ↦
           let x_is : a.slot ≡ x = some_is a.slot x (sym (of_is p.slot a.slot own) ∙ sym slot ∙ is) in
           elim (cases_Bool (a.down && (not a.idle && is_from a.symbol a.num_symbol s))) [
@@ -148,7 +145,7 @@ due_at r starts slot s ep ring have few due = elim (cases_Bool (has_slot r slot)
 pub due_from_least : (r v : RingValue) (starts : List Ticks) (t : Ticks) → r ≡ v → IsRing r → HaveStarts r starts → IsLeast starts t.0
     → IsDueFrom v (λ slot. Unit {0}) (Some t)
 due_from_least r v starts t same ring have least = subst (λ (x : RingValue). IsDueFrom x (λ slot. Unit {0}) (Some t)) same
-    (λ slot s ep any few due. int_le_trans t.0 (start_at starts (place_index r slot)) (air_of r.endpoint.numerology slot s)
+    (λ slot s ep any few due. at_most t.0 (start_at starts (place_index r slot)) (air_of r.endpoint.numerology slot s)
     (least (place_index r slot) (omega (arith, index_within r slot ring.some, have.size))) (due_at r starts slot s ep ring have few due))
 
 pub due_from_at : (r v : RingValue) (starts : List Ticks) (i : ℕ) (t : Ticks) → r ≡ v → IsRing r → HaveStarts r starts → t.0 ≡ start_at starts i

@@ -4,12 +4,6 @@ use Rattle.std.proofs.lemmas.Int.{ints}
 use Rattle.unit_model.specs.Radiated.{first_clock}
 use Rattle.unit_model.specs.Times.{end_of_time}
 
-pub next_after : (a b : ℤ) → a <ℤ b → (a +ℤ pos 1) ≤ℤ b
-next_after a b h = omega (arith, ints)
-
-pub next_is_later : (a : ℤ) → a ≤ℤ (a +ℤ pos 1)
-next_is_later a = omega (arith, ints)
-
 pub last_is_earlier : (a : ℤ) → (a -ℤ pos 1) ≤ℤ a
 last_is_earlier a = omega (arith, ints)
 
@@ -46,9 +40,6 @@ later_then a b c d h k e = omega (arith, ints)
 
 pub same_most : (a b : ℤ) → a ≡ b → b ≤ℤ a
 same_most a b e = omega (arith, ints)
-
-pub same_tick : (a b : ℤ) → b ≤ℤ a → a ≤ℤ b → a ≡ b
-same_tick a b h k = omega (arith, ints)
 
 -- time is gone over from its first tick
 pub clock_begins : first_clock ≤ℤ (end_of_time +ℤ pos 1)

@@ -8,14 +8,13 @@ use Rattle.std.proofs.lemmas.List.Elements.{All-head, All-tail}
 use Rattle.std.proofs.lemmas.Option.{slice_get-get_or}
 use Rattle.delay_laws.specs.Ticks.{Begin, due}
 use Rattle.fh_document.specs.declared.document.Measure.{Measure}
-use Rattle.fh_base.proofs.Orders.{at_most, beyond_next, is_same, later_than}
+use Rattle.fh_base.proofs.Orders.{at_most, beyond_next, is_same, later_than, int_above, int_below, next_after}
 use Rattle.fh_base.specs.declared.values.Ticks.{Ticks}
 use Rattle.frame_ways.proofs.QueueLemmas.{none_below}
 use Rattle.frame_ways.specs.Queues.{AreRising, at_time, first_time, landing_of}
 use Rattle.frame_ways.specs.declared.landings.Landing.{Landing}
 use Rattle.frame_ways.proofs.LandLemmas.{below_from, from_less, under_next, with_one}
 use Rattle.frame_ways.proofs.TimeLemmas.{above_it}
-use Rattle.frame_ways.proofs.Ticks.{int_above, int_below, next_after}
 use Rattle.frame_ways.specs.Listed.{AreFrom}
 use Rattle.fh_base.specs.Least.{IsLeastOf}
 use Rattle.unit_meters.specs.Begins.{AreWithin, Awaits, NoneBeginsTo, begin_of, begins_among, measure_at}

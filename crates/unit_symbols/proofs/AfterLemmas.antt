@@ -1,6 +1,5 @@
 -- For callers: what is left after cells of a symbol were reported.
 use Rattle.std.proofs.Common.{◌≡◌, ℕ, zero, suc, ◌+◌, ◌<◌, ◌≤◌, ◌==◌, Bool, true, false, not, ◌&&◌, inl, inr, List, refl, sym, ap, ◌∙◌, arith, Option}
-use Rattle.std.specs.Prelude.{◌||◌}
 use Rattle.std.specs.List.{list_any}
 use Rattle.std.proofs.lemmas.Bool.{and_from, cases_Bool, cases_eq, eq-eqb}
 use Rattle.std.proofs.lemmas.List.Folds.{list_any-append}
@@ -19,13 +18,10 @@ use Rattle.unit_symbols.specs.DueSymbols.{ReportsTold, cell_in, is_left, is_told
 use Rattle.unit_symbols.specs.Symbols.{IsSymbol}
 use Rattle.unit_symbols.proofs.ReportedLemmas.{symbol_cell, told_alone}
 use Rattle.unit_model.proofs.ClaimLemmas.{slot_self as slot_own}
+use Rattle.fh_base.proofs.Orders.{or_second}
 
 same_claims : (old new : CellsValue) (m : SymbolStart) (prb : ℕ) → SameKnown old new → cells_claim new (cell_in m prb) ≡ cells_claim old (cell_in m prb)
 same_claims old new m prb same = λ i re. same.claims (cell_in m prb) re i
-
-or_second : (a b : Bool) → b ≡ true → (a || b) ≡ true
-or_second true b e = refl
-or_second false b e = e
 
 -- ---- of the symbol itself
 

@@ -1,5 +1,5 @@
 -- The report of a symbol's lent cells as far as a PRB, one PRB more, and what it says of the rings.
-use Rattle.std.proofs.Common.{◌≡◌, ℕ, ◌+◌, ◌-◌, ◌<◌, ◌≤◌, ◌==◌, Bool, true, false, not, inl, inr, refl, List, [], ◌∷◌, ◌++◌, map, sym, ap, ◌∙◌, subst, arith, append_assoc, append-nil, Option, Some, Result, Ok, Err}
+use Rattle.std.proofs.Common.{◌≡◌, ℕ, ◌+◌, ◌-◌, ◌<◌, ◌≤◌, ◌==◌, Bool, true, false, inl, inr, refl, List, [], ◌∷◌, ◌++◌, map, sym, ap, ◌∙◌, subst, arith, append_assoc, append-nil, Option, Some, Result, Ok, Err}
 use Rattle.std.specs.Prelude.{OnOk, if◌then◌else◌}
 use Rattle.std.proofs.lemmas.Bool.{cases_Bool}
 use Rattle.std.proofs.lemmas.List.{map-append}
@@ -23,6 +23,7 @@ use Rattle.unit_symbols.specs.Tellings.{StopsAtPrb, StopsInOne, lent_below, lent
 use Rattle.unit_symbols.proofs.CountLemmas.{counts_none, counts_then}
 use Rattle.fh_base.proofs.EachLemmas.{each_more, each_none, each_split}
 use Rattle.fh_base.proofs.CommonLemmas.{each_same}
+use Rattle.fh_base.proofs.Orders.{is_true}
 
 -- ---- one PRB more
 
@@ -58,10 +59,6 @@ counts_more cells m n old middle new before told =
 
 -- ---- the PRBs outside of which no cell is in use
 
-not_used : (b : Bool) → not b ≡ false → b ≡ true
-not_used true e = refl
-not_used false e = cc
-
 none_told : (from n : ℕ) (f : ℕ → List AirCell) → ((k : ℕ) → from ≤ k → k < from + n → f k ≡ []) → each from n f ≡ []
 none_told from n f none = each_same from n f (λ k. []) none ∙ each_none from n (λ k. []) (λ k. refl)
 
@@ -71,7 +68,7 @@ module _ (cells : SymbolCells) (m : SymbolStart) (within : cells.span.end ≤ m.
   outside_none prb below outside = elim (cases_Bool (lent_reported cells prb)) [
     | inl reported ↦ rw reported refl
     | inr fresh ↦
-        let idle : (used_mask (lent_claim cells prb) == 0) ≡ true = not_used (used_mask (lent_claim cells prb) == 0) (unused prb below outside) in
+        let idle : (used_mask (lent_claim cells prb) == 0) ≡ true = is_true (used_mask (lent_claim cells prb) == 0) (unused prb below outside) in
         rw (fresh, idle) refl
   ]
 

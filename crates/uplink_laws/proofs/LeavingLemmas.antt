@@ -8,7 +8,7 @@ use Rattle.fh_base.specs.Lists.{each_tick}
 use Rattle.unit_model.specs.Radiated.{first_clock}
 use Rattle.unit_model.specs.Times.{end_of_time}
 use Rattle.unit_model.specs.declared.jobs.UplinkJob.{UplinkJob}
-use Rattle.unit_laws.proofs.HistoryTicks.{last_of_next, next_after, next_is_later, last_before, after_all, same_then}
+use Rattle.unit_laws.proofs.HistoryTicks.{last_of_next, last_before, after_all, same_then}
 use Rattle.replay_laws.proofs.TickLemmas.{no_ticks, tick_alone, ticks_append}
 use Rattle.uplink_model.specs.Frames.{frames_behind}
 use Rattle.uplink_model.specs.Messages.{uplink_messages_of}
@@ -18,7 +18,7 @@ use Rattle.uplink_laws.proofs.ListLemmas.{tick_within}
 use Rattle.uplink_laws.specs.TurnLaws.{LeavingIsSettled, LeftEnds, LeftGoesOn, LeftIsAll, LeftLeaveLater, LeftWaits}
 use Rattle.uplink_laws.specs.Turns.{handed_between, handed_until, leaving_of_handed, left_from}
 use Rattle.uplink_laws.proofs.HandedLemmas.{handed_go_on_from, handed_leave_from}
-use Rattle.fh_base.proofs.Orders.{at_most, next_order}
+use Rattle.fh_base.proofs.Orders.{at_most, next_order, next_after, next_is_later}
 use Rattle.uplink_laws.proofs.MessageLemmas.{last_by}
 use Rattle.fh_base.proofs.MemberLemmas.{all_of}
 use Rattle.fh_base.proofs.MadeLists.{in_all}

@@ -7,13 +7,14 @@ use Rattle.unit_model.specs.Radiated.{first_clock}
 use Rattle.unit_model.specs.Sweeps.{sweep}
 use Rattle.unit_model.specs.Uplink.{symbol_jobs}
 use Rattle.unit_model.specs.declared.jobs.UplinkJob.{UplinkJob}
-use Rattle.unit_laws.proofs.HistoryTicks.{next_is_later, next_of_last}
+use Rattle.unit_laws.proofs.HistoryTicks.{next_of_last}
 use Rattle.replay_laws.proofs.TickLemmas.{sweep_alone}
 use Rattle.uplink_model.specs.Messages.{uplink_messages_of}
 use Rattle.uplink_laws.proofs.TurnLemmas.{messages_end_in_time}
 use Rattle.uplink_laws.specs.TurnLaws.{MessagesGoOn, MessagesGoOnFrom}
 use Rattle.uplink_laws.specs.Turns.{all_accepted, jobs_between, messages_between, messages_until}
 use Rattle.uplink_laws.proofs.TurnJobs.{jobs_go_on_from, no_jobs_before}
+use Rattle.fh_base.proofs.Orders.{next_is_later}
 
 pub last_by : (tick end : ℤ) → tick ≤ℤ (end +ℤ pos 1) → (tick -ℤ pos 1) ≤ℤ end
 last_by tick end h = omega (arith, ints)

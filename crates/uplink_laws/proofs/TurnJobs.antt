@@ -14,7 +14,7 @@ use Rattle.unit_model.specs.Uplink.{jobs, symbol_jobs}
 use Rattle.unit_model.specs.declared.allocations.Allocation.{Allocation}
 use Rattle.unit_model.specs.declared.jobs.UplinkJob.{UplinkJob}
 use Rattle.unit_model.proofs.SweepLemmas.{sweep-append, sweep-none, tick-nothing}
-use Rattle.unit_laws.proofs.HistoryTicks.{next_after, next_is_later, next_of_last}
+use Rattle.unit_laws.proofs.HistoryTicks.{next_of_last}
 use Rattle.replay_laws.specs.Moments.{arrivals_before}
 use Rattle.replay_laws.proofs.CameLemmas.{none_yet}
 use Rattle.replay_laws.proofs.SettledLemmas.{messages_settled}
@@ -25,6 +25,7 @@ use Rattle.uplink_laws.specs.Turns.{all_accepted, jobs_of_tick, jobs_between, jo
 use Rattle.unit_model.proofs.SweepLaws.{sweep_quiet as sweep-nothing}
 use Rattle.unit_laws.proofs.AheadLemmas.{no_jobs}
 use Rattle.fh_base.proofs.MemberLemmas.{all_of}
+use Rattle.fh_base.proofs.Orders.{next_after, next_is_later}
 
 -- ---- up to a time
 

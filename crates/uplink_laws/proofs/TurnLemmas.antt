@@ -36,6 +36,7 @@ use Rattle.fh_base.specs.Members.{IsIn}
 use Rattle.fh_base.proofs.MemberLemmas.{in_either, in_right, all_of, InOrder, order_join}
 use Rattle.fh_base.proofs.MadeLists.{in_all, of_each}
 use Rattle.fh_base.proofs.EachLemmas.{gap_is}
+use Rattle.air_source.specs.Grown.{grown_none}
 
 -- ---- messages that end where the symbol does
 
@@ -78,10 +79,6 @@ module _ (c : Config) where
     | inl same ↦ ap₂ ◌&&◌ same (symbols_differ c.endpoints x y p q (eqb-true x.ep y.ep same) h)
   ]
 
-no_more : {X : Type 0} (xs : List X) → xs ≡ xs ++ []
-no_more [] = refl
-no_more {X = X} (x ∷ xs) = ap (λ (ys : List X). x ∷ ys) (no_more xs)
-
 pub messages_end_in_time : MessagesEndInTime
 messages_end_in_time c accepted to later low high =
     let es = c.endpoints in
@@ -93,7 +90,7 @@ messages_end_in_time c accepted to later low high =
 
     go : (rest : List UplinkJob) → ((j : UplinkJob) → IsIn j rest → IsSweptJob c.endpoints (to +ℤ pos 1) (later +ℤ pos 1) j)
         → uplink_messages_of c (jobs c.endpoints accepted to ++ rest) ≡ uplink_messages_of c (jobs c.endpoints accepted to) ++ uplink_messages_of c rest
-    go [] h = ap (uplink_messages_of c) (sym (no_more (jobs c.endpoints accepted to))) ∙ no_more (uplink_messages_of c (jobs c.endpoints accepted to))
+    go [] h = ap (uplink_messages_of c) (sym (grown_none (jobs c.endpoints accepted to))) ∙ grown_none (uplink_messages_of c (jobs c.endpoints accepted to))
     go (y ∷ ys) h =
         messages_split c (jobs c.endpoints accepted to) y ys (λ x i.
         (let a = job_swept accepted c.endpoints to x i in
@@ -251,7 +248,7 @@ module _ (c : Config) where
       ∙ ap (λ (ms : List (Message UplinkJob)). uplink_messages_of c xs ++ ms) (go zs r)
     where
       go : (zs : List UplinkJob) → ((x : UplinkJob) → IsIn x zs → of_symbol j x ≡ false) → uplink_messages_of c ((y ∷ ys) ++ zs) ≡ uplink_messages_of c (y ∷ ys) ++ uplink_messages_of c zs
-      go [] h = ap (uplink_messages_of c) (sym (no_more (y ∷ ys))) ∙ no_more (uplink_messages_of c (y ∷ ys))
+      go [] h = ap (uplink_messages_of c) (sym (grown_none (y ∷ ys))) ∙ grown_none (uplink_messages_of c (y ∷ ys))
       go (z ∷ zs) h = messages_split c (y ∷ ys) z zs (λ x k. apart_swap j x z (q x k) (h z (inl refl)))
 
   -- ---- counts

@@ -53,7 +53,7 @@ any_same p q (x ∷ xs) h = ap₂ (λ a b. a || b) h.0 (any_same p q xs h.1)
 one_more : (first n prb : ℕ) → is_from first (suc n) prb ≡ ((first == prb) || is_from (first + 1) n prb)
 one_more first n prb = grind (arith, nat_tests)
 
-none_from : (first prb : ℕ) → is_from first 0 prb ≡ false
+pub none_from : (first prb : ℕ) → is_from first 0 prb ≡ false
 none_from first prb = grind (arith, nat_tests)
 
 spread : (a m e f : Bool) → (((a && e) && m) || ((a && f) && m)) ≡ ((a && (e || f)) && m)

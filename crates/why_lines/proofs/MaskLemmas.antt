@@ -11,6 +11,7 @@ use Rattle.explain_model.specs.declared.sections.CommandRecord.{CommandRecord}
 use Rattle.why_lines.specs.Silent.{has_element, silent_item, silent_item_if, silent_items_at, silent_mask_by}
 use Rattle.why_lines.specs.declared.items.LineSymbol.{LineSymbol}
 use Rattle.why_lines.specs.declared.items.SilentItem.{SilentItem}
+use Rattle.fh_base.proofs.Orders.{or_false}
 
 -- ---- the bits of a number
 
@@ -57,10 +58,6 @@ or_chain : (a b c : Bool) → (a || (b || c)) ≡ ((a || b) || c)
 or_chain true b c = refl
 or_chain false b c = refl
 
-or_none : (b : Bool) → (b || false) ≡ b
-or_none true = refl
-or_none false = refl
-
 any_more : {X : Type 0} (p : X → Bool) (xs : List X) (y : X) → list_any p (xs ++ y ∷ []) ≡ (list_any p xs || p y)
 any_more p [] y = or_last false (p y)
 any_more p (x ∷ xs) y = ap (λ b. p x || b) (any_more p xs y) ∙ or_chain (p x) (list_any p xs) (p y)
@@ -72,7 +69,7 @@ any_next p xs i d lt =
 
 with_mask : (heard mask now re : ℕ) (b : Bool) → now ≡ (if b then bit_or heard mask else heard) → in_mask now re ≡ (in_mask heard re || (b && in_mask mask re))
 with_mask heard mask now re true is = ap (λ n. in_mask n re) is ∙ in_either heard mask re
-with_mask heard mask now re false is = ap (λ n. in_mask n re) is ∙ sym (or_none (in_mask heard re))
+with_mask heard mask now re false is = ap (λ n. in_mask n re) is ∙ sym (or_false (in_mask heard re))
 
 pub heard_next : (cells : List CellRun) (id prb heard i : ℕ) (d : CellRun) (now : ℕ) → i < length cells → ((re : ℕ) → in_mask heard re ≡ list_any (has_element id prb re) (take i cells))
     → now ≡ (if ((get_or cells i d).id == id) && is_from (get_or cells i d).prb (get_or cells i d).count prb then bit_or heard (get_or cells i d).mask else heard)

@@ -1,10 +1,9 @@
 -- The order in which symbols are sorted is the one in which they are told, and those that tie are the same symbol.
-use Rattle.std.proofs.Common.{◌≡◌, ℕ, ℤ, Bool, true, false, not, cond, List, filter, refl, sym, ap, subst, ◌∙◌, arith}
+use Rattle.std.proofs.Common.{◌≡◌, ℕ, ℤ, Bool, true, false, not, List, filter, sym, ap, subst, ◌∙◌, arith}
 use Rattle.std.specs.Prelude.{◌&&◌, ◌||◌, ◌==◌, nat_lt, int_lt}
 use Rattle.std.specs.Cmp.{IsStrictWeakOrder, IsTotalOrder}
 use Rattle.std.specs.List.Sorted.{IsSortedBy, IsStableBy, ties}
-use Rattle.std.specs.Ordering.{int_eq, is_lt, nat_cmp}
-use Rattle.std.specs.declared.cmp.Ordering.TheVariants.{Less, Equal, Greater}
+use Rattle.std.specs.Ordering.{int_eq, is_lt}
 use Rattle.std.proofs.lemmas.Bool.{and_from, and_parts, not-true}
 use Rattle.std.proofs.lemmas.Bool.Decides.{nat_tests, Decides-int_eq}
 use Rattle.std.proofs.lemmas.Cmp.{int_cmp_total, nat_cmp_total, on_total, then_total}
@@ -19,17 +18,7 @@ use Rattle.explain_model.specs.Unused.{same_start}
 use Rattle.why_lines.specs.Starts.{start_cmp, start_key}
 use Rattle.why_lines.specs.declared.starts.StartKey.{StartKey}
 use Rattle.fh_base.proofs.Orders.{neither as or_parts}
-use Rattle.fh_base.proofs.CommonLemmas.{int_lex, nat_lex, then_symbol}
-
--- ---- one number after the other
-
-nat_last : (x y : ℕ) → is_lt (nat_cmp x y) ≡ nat_lt x y
-nat_last x y = go (nat_lt x y) (x == y)
-  where
-    go : (l e : Bool) → is_lt (cond l Less (cond e Equal Greater)) ≡ l
-    go true e = refl
-    go false true = refl
-    go false false = refl
+use Rattle.fh_base.proofs.CommonLemmas.{int_lex, nat_lex, then_symbol, nat_last}
 
 -- ---- the order
 

@@ -3,7 +3,6 @@ use Rattle.std.proofs.Common.{◌≡◌, ℕ, ◌+◌, ◌^◌, ◌≤◌, Bool,
 use Rattle.std.specs.Prelude.{◌==◌, ◌&&◌, ◌||◌, ◌⊎◌, not, nat_lt, if◌then◌else◌, Option, Some, slice_index}
 use Rattle.std.specs.List.{list_all}
 use Rattle.std.proofs.lemmas.Bool.{eq-eqb}
-use Rattle.std.proofs.lemmas.Bool.Decides.{nat_tests}
 use Rattle.std.proofs.lemmas.List.Folds.{list_all-append}
 use Rattle.air_source.specs.Units.{same_side}
 use Rattle.air_source.specs.declared.events.Side.{Side}
@@ -20,6 +19,7 @@ use Rattle.why_lines.specs.declared.sums.ReasonSums.{ReasonSums}
 use Rattle.why_lines.specs.declared.words.SumWord.{SumWord}
 use Rattle.why_lines.specs.declared.words.SumWord.TheVariants.{Shown, Missing, Silent}
 use Rattle.why_lines.proofs.AddLemmas.{sum_push}
+use Rattle.fh_base.proofs.Orders.{not_lt}
 
 -- ---- the number at the place of a word
 
@@ -65,9 +65,6 @@ same_self (Silent word) = eq-eqb (place_of word) (place_of word) refl
 
 -- ---- one number that does not fit
 
-not_below : (a b : ℕ) → nat_lt a b ≡ false → b ≤ a
-not_below a b h = grind (arith, nat_tests)
-
 own_number : (a b : Bool) (w : SumWord) (n : ℕ) → (a && b) ≡ true → (if a && (b && same_sum w w) then n else 0) ≡ n
 own_number true true w n h = ap (λ (x : Bool). if x then n else 0) (same_self w)
 own_number true false w n h = absurd cc
@@ -91,7 +88,7 @@ module _ (ls : List ExplainLine) (l : ExplainLine) (s : LineSum) (is : sum_of_li
       ∙ ap (λ (o : Option LineSum). sum_in side e.id s.word ls + number_by side e.id s.word o) is
       ∙ ap (λ (n : ℕ). sum_in side e.id s.word ls + n) (own_number (same_side s.side side) (s.id == e.id) s.word s.number two.0)
       ∙ ap (λ (n : ℕ). n + s.number) (sym number) in
-      at_least (number_of (sums_by side ls e) s.word) s.number (2 ^ 64) (not_below (number_of (sums_by side ls e) s.word + s.number) (2 ^ 64) two.1)
+      at_least (number_of (sums_by side ls e) s.word) s.number (2 ^ 64) (not_lt (number_of (sums_by side ls e) s.word + s.number) (2 ^ 64) two.1)
       (sum_in side e.id s.word (ls ++ l ∷ [])) more
 
   one_of : (side : Side) (e : EndpointConfig) (es : List EndpointConfig) (b : Bool) → has_room s (sums_by side ls e) ≡ b

@@ -1,6 +1,6 @@
 -- The runs of a symbol show a block exactly where a cell shows it.
 use Rattle.std.proofs.Common.{◌≡◌, ◌≢◌, ℕ, zero, suc, ◌+◌, Bool, true, false, ◌&&◌, ◌||◌, ◌==◌, List, [], ◌∷◌, refl, sym, ap, ap₂, ◌∙◌, arith, true≢false}
-use Rattle.std.specs.List.{AllByRecursion, flat_map, list_any}
+use Rattle.std.specs.List.{AllByRecursion, list_any}
 use Rattle.std.proofs.lemmas.Bool.{eq-eqb, eqb-true}
 use Rattle.std.proofs.lemmas.Bool.Decides.{nat_tests}
 use Rattle.fh_base.specs.declared.values.Slot.{Slot}
@@ -15,8 +15,8 @@ use Rattle.fh_base.specs.Lists.{each}
 use Rattle.unit_model.specs.Proper.{IsAt}
 use Rattle.unit_model.specs.declared.symbol_start.SymbolStart.{SymbolStart}
 use Rattle.unit_laws.proofs.UnitLemmas.{same_ids}
-use Rattle.explain_model.specs.Cells.{Entry, Lines, Of, runs}
-use Rattle.explain_model.specs.Seen.{Seen, cell_runs, ep_found, ep_of, is_at, is_shown_at, run_of, seen, seen_at, seen_in}
+use Rattle.explain_model.specs.Cells.{runs}
+use Rattle.explain_model.specs.Seen.{Seen, cell_runs, ep_found, ep_of, is_at, is_shown_at, seen, seen_at, seen_in}
 use Rattle.explain_model.specs.Unused.{key_at}
 use Rattle.explain_model.proofs.SeenLemmas.{runs_hold_cells}
 use Rattle.explain_model.specs.Keys.{run_key, same_symbol}
@@ -24,17 +24,13 @@ use Rattle.explain_model.specs.declared.keys.SymbolKey.{SymbolKey}
 use Rattle.explain_model.specs.declared.runs.CellRun.{CellRun}
 use Rattle.explain_records.specs.Keys.{of_symbol}
 use Rattle.why_lines.specs.Unused.{is_shown_by, shows}
-use Rattle.fh_base.proofs.MemberLemmas.{all_join}
 use Rattle.slot_rings.proofs.RangeLemmas.{same_tests as alike}
-use Rattle.why_lines.proofs.HeardLemmas.{any_filter, any_flat, any_same}
+use Rattle.why_lines.proofs.HeardLemmas.{any_filter, any_flat, any_same, none_from}
 use Rattle.unit_model.proofs.CommonLemmas.{first_found}
-
--- ---- one of a list
+use Rattle.explain_records.proofs.MissingLemmas.{HasEndpoint, runs_have}
+use Rattle.fh_base.proofs.Orders.{and_false_3}
 
 -- ---- a number among those from one on
-
-from_none : (first prb : ℕ) → is_from first 0 prb ≡ false
-from_none first prb = grind (arith, nat_tests)
 
 from_first : (first n prb : ℕ) → ((first == prb) || is_from (first + 1) n prb) ≡ true → is_from first (suc n) prb ≡ true
 from_first first n prb h = grind (arith, nat_tests)
@@ -55,7 +51,7 @@ both_and false y c = refl
 any_each : {A : Type 0} (p : A → Bool) (f : ℕ → A) (first n prb : ℕ) (c : Bool) → ((k : ℕ) → p (f k) ≡ ((k == prb) && c))
     → list_any p (each first n (λ k. f k ∷ [])) ≡ (is_from first n prb && c)
 unfolding each
-any_each p f first zero prb c h = sym (ap (λ b. b && c) (from_none first prb))
+any_each p f first zero prb c h = sym (ap (λ b. b && c) (none_from first prb))
 any_each p f first (suc n) prb c h =
     ap₂ (λ a b. a || b) (h first) (any_each p f (first + 1) n prb c h)
     ∙ both_and (first == prb) (is_from (first + 1) n prb) c
@@ -63,26 +59,22 @@ any_each p f first (suc n) prb c h =
 
 -- ---- tests in another order
 
-no_end : (x : Bool) → (x && false) ≡ false
-no_end true = refl
-no_end false = refl
-
 turn : (a i l y k f : Bool) → ((a && (i && (l && (y && k)))) && f) ≡ (k && ((a && (i && (l && y))) && f))
 turn true true true true k f = refl
-turn true true true false k f = sym (no_end k)
-turn true true false y k f = sym (no_end k)
-turn true false l y k f = sym (no_end k)
-turn false i l y k f = sym (no_end k)
+turn true true true false k f = sym (and_false_3 k)
+turn true true false y k f = sym (and_false_3 k)
+turn true false l y k f = sym (and_false_3 k)
+turn false i l y k f = sym (and_false_3 k)
 
 swap : (z f h : Bool) → (z && (f && h)) ≡ (f && (z && h))
 swap true f h = refl
-swap false f h = sym (no_end f)
+swap false f h = sym (and_false_3 f)
 
 -- where the second test follows from the fourth
 shuffle : (a e i l y f h : Bool) → (i ≡ true → e ≡ true) → ((a && (e && (l && y))) && (i && (f && h))) ≡ (f && ((a && (i && (l && y))) && h))
 shuffle a true true l y f h m = swap (a && (l && y)) f h
 shuffle a false true l y f h m = absurd (true≢false (sym (m refl)))
-shuffle a e false l y f h m = no_end (a && (e && (l && y))) ∙ sym (ap (λ (b : Bool). f && (b && h)) (no_end a) ∙ no_end f)
+shuffle a e false l y f h m = and_false_3 (a && (e && (l && y))) ∙ sym (ap (λ (b : Bool). f && (b && h)) (and_false_3 a) ∙ and_false_3 f)
 
 -- ---- the cells of a run
 
@@ -104,18 +96,6 @@ ep_is c ep e config at =
     ∙ here
 
 -- ---- the runs of a replay
-
-abbrev HasEndpoint : Config → CellRun → Type 0
-HasEndpoint c r = r.ep ≡ ep_of c r.id
-
-run_has : (c : Config) (es : List Entry) → AllByRecursion (HasEndpoint c) (run_of c es)
-run_has c [] = tt
-run_has c (Lines ls ∷ rest) = tt
-run_has c (Of a w ∷ rest) = (refl, tt)
-
-runs_have : (c : Config) (ps : List (List Entry)) → AllByRecursion (HasEndpoint c) (flat_map (run_of c) ps)
-runs_have c [] = tt
-runs_have c (p ∷ ps) = all_join (HasEndpoint c) (run_of c p) (flat_map (run_of c) ps) (run_has c p) (runs_have c ps)
 
 module _ (c : Config) (config : IsConfig c) (side : Side) (s : SymbolStart) (at : IsAt c.endpoints s.ep s.endpoint) (prb : ℕ) where
   abbrev shown_in : CellRun → Bool

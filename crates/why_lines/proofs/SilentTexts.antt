@@ -38,6 +38,7 @@ use Rattle.why_lines.proofs.MaskLemmas.{bits_same}
 use Rattle.why_lines.proofs.RunLemmas.{are_unrelated, lines_append, pieces_same}
 use Rattle.fh_base.proofs.EachLemmas.{each_same}
 use Rattle.fh_base.proofs.MemberLemmas.{all_join as all_append, all_map as all_weaker}
+use Rattle.fh_base.proofs.Orders.{and_false_3}
 
 -- ---- where items are
 
@@ -57,14 +58,10 @@ IsOfSymbol y x = x.of.symbol ≡ y
 abbrev pub IsFromSymbol : ℕ → SilentItem → Type 0
 IsFromSymbol y x = y ≤ x.of.symbol
 
-and_none : (b : Bool) → (b && false) ≡ false
-and_none true = refl
-and_none false = refl
-
 other_symbol : (y : ℕ) (a b : SilentItem) → IsOfSymbol y a → IsFromSymbol (y + 1) b → silent_related a b ≡ false
 other_symbol y a b is later =
     ap (λ (s : Bool). (a.of.planned.index == b.of.planned.index) && (s && goes_on_silent (prb_of a) (prb_of b))) (ne_eqb a.of.symbol b.of.symbol (λ same. omega (arith, is, later, same)))
-    ∙ and_none (a.of.planned.index == b.of.planned.index)
+    ∙ and_false_3 (a.of.planned.index == b.of.planned.index)
   where
     prb_of : SilentItem → SilentPrb
     prb_of x = record { prb = x.prb; mask = x.mask; reason = x.reason }

@@ -28,10 +28,11 @@ use Rattle.explain_records.specs.Order.{AreInOrder, comes_first, order_cmp, orde
 use Rattle.explain_records.proofs.RecordLemmas.{order_ranks, tied}
 use Rattle.explain_model.specs.Unused.{each_once, in_order_of_time, is_giver, key_at, same_start, start_of, start_with, symbols_given}
 use Rattle.explain_model.proofs.AloneLemmas.{filter_alone}
-use Rattle.explain_model.proofs.SameLemmas.{same_side_is}
 use Rattle.why_lines.specs.Starts.{fresh, fresh_starts, last_start, same_as, start_in, with_starts}
 use Rattle.why_lines.proofs.OrderLemmas.{same_in_order, tie_same}
 use Rattle.fh_base.proofs.MemberLemmas.{all_join, all_map, filter_all, filter_has, filter_same, kept_first}
+use Rattle.air_source.proofs.Sides.{side_same}
+use Rattle.explain_model.proofs.KeyLemmas.{same_start_key}
 
 -- ---- lists
 
@@ -89,15 +90,6 @@ same_right s t u h =
     let p = same_parts s t h in
     ap (λ (n : ℕ). told u n s.slot s.symbol) p.0 ∙ ap (λ (x : Slot). told u t.ep x s.symbol) p.1.0 ∙ ap (λ (y : ℕ). told u t.ep t.slot y) p.1.1
 
-key_with : Side → ℕ → Slot → ℕ → SymbolKey
-key_with side ep slot symbol = record { side = side; ep = ep; slot = slot; symbol = symbol }
-
-same_key : (side : Side) (s t : SymbolStart) → same_start s t ≡ true → key_at side s ≡ key_at side t
-unfolding key_with
-same_key side s t h =
-    let p = same_parts s t h in
-    ap (λ (n : ℕ). key_with side n s.slot s.symbol) p.0 ∙ ap (λ (x : Slot). key_with side t.ep x s.symbol) p.1.0 ∙ ap (λ (y : ℕ). key_with side t.ep t.slot y) p.1.1
-
 -- ---- each once
 
 abbrev others : SymbolStart → SymbolStart → Bool
@@ -143,7 +135,7 @@ module _ (side : Side) where
   off : (p s u : SymbolStart) → same_start p s ≡ false → first_key s p ≡ false → first_key u s ≡ false → same_start p u ≡ false
   off p s u other after later = elim (cases_Bool (same_start p u)) [
     | inl t ↦
-        let before : first_key p s ≡ false = ap (λ (k : SymbolKey). is_lt (order_cmp (order_of k) (order_of (key_at side s)))) (same_key side p u t) ∙ later in
+        let before : first_key p s ≡ false = ap (λ (k : SymbolKey). is_lt (order_cmp (order_of k) (order_of (key_at side s)))) (same_start_key side p u t) ∙ later in
         let tie : ties first_key p s ≡ true = and_from (not (first_key p s)) (not (first_key s p)) (ap not before) (ap not after) in
         let same : same_symbol (key_at side s) (key_at side p) ≡ true = sym (tied (key_at side) p s) ∙ tie in
         absurd (true≢false (sym (same_turned s p (and_parts (same_side side side) (same_start s p) same).1) ∙ other))
@@ -231,7 +223,7 @@ module _ (es : List EndpointConfig) (side : Side) where
   keyed_by r false o g = tt
   keyed_by r true None g = tt
   keyed_by r true (Some e) g = (
-    ap (λ (a : Side). let k : SymbolKey = record { side = a; ep = r.ep; slot = r.slot; symbol = r.symbol } in k) (sym (same_side_is r.side side (and_parts (same_side r.side side) _ g).0)),
+    ap (λ (a : Side). let k : SymbolKey = record { side = a; ep = r.ep; slot = r.slot; symbol = r.symbol } in k) (sym (side_same r.side side (and_parts (same_side r.side side) _ g).0)),
     tt,
   )
 

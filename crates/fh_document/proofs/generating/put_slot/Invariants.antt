@@ -1,5 +1,6 @@
 use Rattle.std.proofs.Common.{◌≡◌, ◌++◌}
-use Rattle.fh_document.specs.Generated.{each, plan_text}
+use Rattle.line_words.specs.Each.{each}
+use Rattle.fh_document.specs.Generated.{plan_text}
 use Rattle.fh_document.proofs.generating.put_slot.Given as goal
 
 abbrev pub invariant-loop-e : goal.invariant-loop-e

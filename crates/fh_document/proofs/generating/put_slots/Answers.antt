@@ -1,5 +1,5 @@
 use Rattle.fh_document.specs.Generated.{plans_text}
-use Rattle.fh_document.proofs.Texts.{each_none, each_more}
+use Rattle.line_words.proofs.EachTexts.{each_none, each_more}
 use Rattle.fh_document.proofs.generating.put_slots.Goals as goal
 
 pub loop-n-init : goal.loop-n-init

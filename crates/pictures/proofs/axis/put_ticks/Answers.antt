@@ -1,7 +1,7 @@
 use Rattle.std.proofs.Common.{rules, ◌++◌, ap, ◌∙◌, w64}
 use Rattle.std.proofs.lemmas.Int.{to_z-of_z}
 use mir.Val.{SFits}
-use Rattle.pictures.proofs.LineTexts.{each_none, each_more}
+use Rattle.line_words.proofs.EachTexts.{each_none, each_more}
 use Rattle.pictures.specs.Axis.{nth_tick, tick_text}
 use Rattle.pictures.proofs.axis.put_ticks.Goals as goal
 

@@ -1,5 +1,5 @@
 use Rattle.pictures.specs.Bands.{slots_text}
-use Rattle.pictures.proofs.LineTexts.{each_none, each_more}
+use Rattle.line_words.proofs.EachTexts.{each_none, each_more}
 use Rattle.pictures.proofs.bands.put_lines.Goals as goal
 
 pub loop-subframe-init : goal.loop-subframe-init

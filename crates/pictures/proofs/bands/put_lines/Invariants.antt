@@ -1,5 +1,5 @@
 use Rattle.std.proofs.Common.{◌≡◌, ◌++◌}
-use Rattle.pictures.specs.Each.{each}
+use Rattle.line_words.specs.Each.{each}
 use Rattle.pictures.specs.Bands.{slots_text}
 use Rattle.pictures.proofs.bands.put_lines.Given as goal
 

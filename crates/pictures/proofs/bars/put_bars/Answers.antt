@@ -1,5 +1,5 @@
 use Rattle.std.proofs.Common.{◌++◌, ap, ◌∙◌}
-use Rattle.pictures.proofs.LineTexts.{each_none, each_more}
+use Rattle.line_words.proofs.EachTexts.{each_none, each_more}
 use Rattle.pictures.specs.Bars.{column_text, most_of, nth_column}
 use Rattle.pictures.proofs.bars.put_bars.Goals as goal
 

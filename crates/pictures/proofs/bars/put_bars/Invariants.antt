@@ -1,5 +1,5 @@
 use Rattle.std.proofs.Common.{◌≡◌, ◌++◌}
-use Rattle.pictures.specs.Each.{each}
+use Rattle.line_words.specs.Each.{each}
 use Rattle.pictures.specs.Bars.{nth_column}
 use Rattle.pictures.proofs.bars.put_bars.Given as goal
 

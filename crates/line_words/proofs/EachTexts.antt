@@ -1,6 +1,6 @@
 -- The texts of the numbers below n, one after another.
 use Rattle.std.proofs.Common.{◌≡◌, ℕ, ◌+◌, List, ◌++◌, sym, ap, ◌∙◌, append_assoc, append-nil, add-one, refl}
-use Rattle.fh_document.specs.Generated.{each}
+use Rattle.line_words.specs.Each.{each}
 
 pub each_none : (text : ℕ → List ℕ) (old : List ℕ) → old ≡ old ++ each text 0
 unfolding each
