@@ -1,8 +1,6 @@
-//! Tests of bytes, lists and tables, by the public calls of `bfp_codec`, `fh_base`, `eaxc_map`, `fault_counters` and
-//! `window_config`, which are proved without them.
-//!
-//! Tests of messages and of the bytes of sent frames, by the public calls of `uplane_sections`, `uplane_messages`, `delay_measure`
-//! and `frame_bytes`, which are proved without them.
+//! Tests of bytes, lists, tables, messages and the bytes of sent frames, by the public calls of `bfp_codec`, `fh_base`, `eaxc_map`,
+//! `fault_counters`, `window_config`, `uplane_sections`, `uplane_messages`, `delay_measure` and `frame_bytes`, which are proved without
+//! them.
 #![tactic(auto)]
 
 #[cfg(test)]

@@ -1,24 +1,14 @@
-//! What lands at the units in a document's replay: at the radio unit the copies of all that the document's plan sends, at the
-//! distributed unit those of what the radio unit sends for the uplink sections that it accepted, each copy at its time, and after them
-//! the injected frames (`specs/Landing.antt`); and what holds of it.
+//! What lands at the units in a document's replay, and what holds of it.
 //!
-//! A law is stated in `specs/` and proved as a lemma in `proofs/`. The functions here do nothing: the contract of each is a law that
-//! pages promise.
+//! At the radio unit land the copies of all that the document's plan sends. At the distributed unit land those of what the radio unit sends
+//! for the uplink sections that it accepted. Each copy lands at its time, and after them the injected frames (`specs/Landing.antt`); with
+//! the frames of delay measurement it is `specs/Measured.antt` (eCPRI 2.0, section 3.2.4.6).
 //!
-//! Delay measurement of a document: what [`delay_laws`] says of what a document that was read begins, and of the frames that it delays
-//! (eCPRI 2.0, section 3.2.4.6).
+//! Laws say of a document what `uplink_laws`, `replay_laws` and [`delay_laws`] say of events: what radiates and is taken in, which delays
+//! are told, and in which documents one reads in the text that nothing disturbs their schedule.
 //!
-//! There are no functions: a law is stated in `specs/` and proved as a lemma in `proofs/`.
-//!
-//! Documents of which one reads in the text that nothing disturbs their schedule.
-//!
-//! Each law is the contract of a function that does nothing, stated in `specs/`.
-//!
-//! What lands at the units in a document's replay with the frames of delay measurement, by definition (`specs/Measured.antt`), and what
-//! holds of it (eCPRI 2.0, section 3.2.4.6).
-//!
-//! A law is stated in `specs/` and proved as a lemma in `proofs/`. The functions here do nothing: the contract of each is a law that
-//! pages promise.
+//! A law is stated in `specs/` and proved as a lemma in `proofs/`. The functions here do nothing: the contract of each is a law that pages
+//! promise.
 #![tactic(auto)]
 
 mod measured_traffic;

@@ -1,29 +1,21 @@
 //! The distributed unit's schedule: a plan that was tested, and the frames that it sends, one after the other.
 //!
-//! [`Plan::check`] tests the lines of a plan and takes all memory. [`Plan::next_frame`] lends the frames in their order, each
-//! written into one room: C-plane commands of the lines, and fragments of the downlink U-plane messages with a source's samples.
-//! Below it [`Table::make`] makes for a valid plan a queue of all its messages and a table of their parts, and [`Table::message`]
-//! lends the parts of the message of a frame. The plan, its tests and the order of frames are this project's profile; layouts and
-//! windows are those of O-RAN.WG4.CUS.
+//! [`Plan::check`] tests the lines of a plan and takes all memory. [`Plan::next_frame`] lends the frames in their order, each written into
+//! one room: C-plane commands of the lines, and fragments of the downlink U-plane messages with a source's samples. The plan, its tests and
+//! the order of frames are this project's profile; layouts and windows are those of O-RAN.WG4.CUS. Times are ticks of 1/1536 ns.
 //!
-//! The frames of many messages in one order: time, endpoint, stream, number and subsequence.
+//! Four things are below it, each in modules of its own:
 //!
-//! A [`Queue`] holds one [`Run`] for each message that has frames left, in a heap that is made with its room; [`queue_of`] makes one
-//! of a list of messages. [`Queue::next`] gives the first frame of all and puts its message back at the next one, so it takes no
-//! memory and cannot fail. The frames that `plan_model` lists tick by tick are all frames of all messages, in this order, by a lemma
-//! of `du_scheduler`. Times are ticks of 1/1536 ns.
-//!
-//! The parts of a plan's messages in their order, and the messages that they make as a queue takes them.
-//!
-//! A [`TimedPart`] is a line in its first symbol for a command, in each of its symbols for data; [`parts_of`] lists those of a stream.
-//! [`CompleteMessages`] cuts them into messages by the [`Limits`] of the stream, and [`stream_messages`] says when these leave.
-//! Times are ticks of 1/1536 ns.
-//!
-//! The tests of a plan: which of its lines is refused first, and why.
-//!
-//! [`tested`] answers what `plan_model` defines, for every list of lines in their ranges. Lines are judged slot by slot against the
-//! claims of the earlier ones, by the ring that the radio unit keeps; the parts of data messages are sorted once and gone over once.
-//! The plan and its tests are this project's profile; the fields are those of O-RAN.WG4.CUS.
+//! - the test: [`tested`] answers which line of a plan is refused first, and why, as `plan_model` defines it for every list of lines in
+//!   their ranges. Lines are judged slot by slot against the claims of the earlier ones, by the ring that the radio unit keeps; the parts
+//!   of data messages are sorted once and gone over once;
+//! - the parts: a [`TimedPart`] is a line in its first symbol for a command, in each of its symbols for data. [`parts_of`] lists those of a
+//!   stream, [`CompleteMessages`] cuts them into messages by the [`Limits`] of the stream, and [`stream_messages`] says when these leave;
+//! - the order: a [`Queue`] holds one [`Run`] for each message that has frames left, in a heap that is made with its room ([`queue_of`]).
+//!   [`Queue::next`] gives the first frame of all, by time, endpoint, stream, number and subsequence, and puts its message back at the next
+//!   one, so it takes no memory and cannot fail. These are the frames that `plan_model` lists tick by tick, by a lemma;
+//! - the table: [`Table::make`] makes for a valid plan the queue of all its messages and a table of their parts, and [`Table::message`]
+//!   lends the parts of the message of a frame.
 #![tactic(auto)]
 
 mod complete;

@@ -1,13 +1,11 @@
-//! A listener that keeps what a unit judges of a frame, as small values: what the lines and the reasons of an explanation need of it.
+//! What a unit judges of a frame, kept as small values ([`Heard`]): what the lines and the reasons of an explanation need of it.
 //!
-//! A [`Hearing`] cannot fail: where memory is refused it notes that and keeps no more, and what it has then says nothing. The lines of
-//! these values are made here too, but for what they say of earlier ones: which section an overlapping one clashes with, and how many
-//! PRBs had no block before, are given to them.
+//! A [`Hearing`] is the listener that keeps them. It cannot fail: where memory is refused it notes that and keeps no more, and what it has
+//! then says nothing. The lines of these values are made here too, but for what they say of earlier ones: which section an overlapping one
+//! clashes with, and how many PRBs had no block before, are given to them.
 //!
-//! One line for each run of items, told to whatever takes lines.
-//!
-//! [`LineRuns`] is given items one by one. It holds the run that is open, and tells its line to a [`LineSink`] when an item is given that
-//! does not go on with it, or at the end. What the items and the lines are is said by [`RunItem`].
+//! [`LineRuns`] makes one line of each run of items. It is given items one by one, holds the run that is open, and tells its line to a
+//! [`LineSink`] when an item is given that does not go on with it, or at the end. What the items and the lines are is said by [`RunItem`].
 #![tactic(auto)]
 
 mod building;

@@ -1,16 +1,11 @@
-//! Laws of explanations: their lines are what the units judge and count, and no accepted section names a silent element.
+//! Laws of explanations of events, replays and documents:
 //!
-//! There are no functions: a law is stated in `specs/` and proved as a lemma in `proofs/`.
+//! - their lines are what the units judge, and what is judged is what is counted;
+//! - the reasons of a replay are true: what is kept for them is what the units decoded of all that was received;
+//! - no accepted section names a silent element;
+//! - where nothing disturbs a document, nothing is missing and nothing is silent.
 //!
-//! What is judged is what is counted.
-//!
-//! The reasons of a replay are true: what is kept for them is what the units decoded of all that was received.
-//!
-//! There are no functions: a law is stated in `specs/` and proved as a lemma in `proofs/`.
-//!
-//! Reasons of complete documents: where nothing disturbs one, nothing is missing and nothing is silent.
-//!
-//! There are no functions: a law is stated in `specs/` and proved as a lemma in `proofs/`.
+//! A law is stated in `specs/` and proved as a lemma in `proofs/`; [`judgements_are_counted`] does nothing, and has one as its contract.
 #![tactic(auto)]
 
 mod laws;

@@ -1,15 +1,12 @@
-//! What waits in memory until the end of a replay, why a cell is missing or an element silent by it, and the lines at the end of an
-//! explanation that say why cells are missing ([`tell_missing`]).
-//!
-//! Records of what happened at symbols, kept until the records of one symbol are asked for.
+//! All that waits in memory of what both units heard, until the reasons of a replay are told ([`HeardRecords`]), why a cell is missing or
+//! an element silent by it ([`missing_reason`]), and the lines at the end of an explanation that say why cells are missing
+//! ([`tell_missing`]).
 //!
 //! [`SymbolRecords`] takes records in the order in which they are made. [`SymbolRecords::order`] sorts them once by their keys, and
 //! [`OrderedRecords::of_symbol`] then lends the records of one key as a slice, in the order in which they were appended.
 //!
-//! The fragments of data that were received at a unit, as far as reasons need them: which messages were received under a used sequence id,
-//! and which never became complete.
-//!
-//! All that waits in memory of what both units heard, until the reasons of a replay are told.
+//! [`FragmentRecords`] take the fragments of data that were received at a unit, as far as reasons need them: which messages were received
+//! under a used sequence id, and which never became complete.
 #![tactic(auto)]
 
 mod beginnings;

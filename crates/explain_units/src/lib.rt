@@ -1,10 +1,8 @@
-//! The lines of the frames of one unit, as they arrive, and the margins of its sections.
+//! The lines of the frames of one unit in the order in which they are received, and what an explanation keeps between events.
 //!
-//! [`UnitLines`] judges each frame of a unit once more, as the unit itself does, and tells a `LineSink` the lines of it.
-//!
-//! What earlier sections gave and claimed, found for one symbol or slot at a time.
-//!
-//! What an explanation keeps between events: the run of cells that may go on, and the margins of each endpoint.
+//! [`UnitLines`] tells a `LineSink` the lines of each frame, from what the unit judges of it, and in the end the margins of its sections
+//! ([`Margins`]). What earlier sections gave ([`Blocks`]) and claimed ([`Claims`]) is found for one symbol or slot at a time. An
+//! [`OpenRun`] is the run of cells that may go on.
 #![tactic(auto)]
 
 mod blocks;

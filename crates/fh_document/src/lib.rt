@@ -1,16 +1,14 @@
 //! Documents: what a fronthaul is configured with and what happens on it, as lines of text.
 //!
-//! [`read`] answers what a document says, or its first line that is refused and the first reason for that. The grammar is a
-//! definition on the bytes of the text, and the answer is exactly the grammar's. Lines are read one by one, and of a line only the
-//! bytes of an injected frame take memory. [`write`] writes a document from a seed and a number of slots. By laws of the grammar,
-//! stated in `specs/` and proved as lemmas in `proofs/`, what a program wrote is read back.
+//! [`read`] answers what a document says, or its first line that is refused and the first reason for that. The grammar is a definition on
+//! the bytes of the text, and the answer is exactly the grammar's. Lines are read one by one, and of a line only the bytes of an injected
+//! frame take memory. [`write`] writes a document from a seed and a number of slots.
 //!
-//! Beside the grammar are the lines of a report ([`cell_line`], [`delay_line`], [`count_line`]) and the samples that a [`Tone`]
-//! gives, of `air_source`.
+//! By laws of the grammar, stated in `specs/` and proved as lemmas in `proofs/`, what a program wrote is read back; and the text of a
+//! document gives, beside its limits, which spacings its endpoints have and how great the numbers of its lines are.
 //!
-//! What the text of a document gives beside its limits: which spacings its endpoints have, and how great the numbers of its lines are.
-//!
-//! There are no functions: the law is stated in `specs/` and proved as a lemma in `proofs/`.
+//! Beside the grammar are the lines of a report ([`cell_line`], [`delay_line`], [`count_line`]) and the samples that a [`Tone`] gives, of
+//! `air_source`.
 #![tactic(auto)]
 
 mod config_lines;

@@ -1,18 +1,11 @@
 //! When the endpoints of a document are idle, as text, and the plan lines that it proposes (this project's profile).
 //!
 //! [`idle_text`] writes for each endpoint its listed spans, and for each slot that lies in one of them and that no downlink line of the
-//! plan touches a plan line of section type 0; `end` is at the end.
+//! plan touches a plan line of section type 0; `end` is at the end. Each line is built in a [`fh_base::Line`], without memory, and ends
+//! with a line feed.
 //!
-//! The slots of an endpoint that lie in its listed spans and that no downlink line of the plan touches, as flags (this project's
-//! profile).
-//!
-//! The definitions are in `specs/`: the listed spans of an endpoint as a list, and its free slots. The functions here are the steps by
-//! which a text that tells of them reaches the free slots.
-//!
-//! The lines that tell of idle endpoints (this project's profile): a span in which a transmitter is silent, and a plan line of section
-//! type 0 for a slot that nobody touches.
-//!
-//! Each line is built in a [`fh_base::Line`], without memory, and ends with a line feed.
+//! The definitions are in `specs/`: the listed spans of an endpoint as a list, and its free slots. Free slots are kept as flags
+//! ([`set_slots`], [`clear_touched`]).
 #![tactic(auto)]
 
 mod endpoints;

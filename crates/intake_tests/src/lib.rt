@@ -1,7 +1,7 @@
-//! The distributed unit's intake over its public calls: worked frames, with moments and counters worked out by hand.
+//! Tests of the distributed unit's intake by its public calls: worked frames, with moments and counters worked out by hand.
 //!
-//! What tests and a bench do with the distributed unit's intake: make one for the lines of a plan, deliver a frame and report cells
-//! where the intake's own `clock` and `due` say that it may be done.
+//! What they and a bench do with an intake is public: [`made`] and [`made_of`] make one for the lines of a plan, [`step`] delivers a frame,
+//! and [`close`] and [`close_before`] report cells where the intake's own `clock` and `due` say that it may be done.
 #![tactic(auto)]
 
 #[cfg(test)]

@@ -1,4 +1,4 @@
-// The frames that the tests deliver, and what they look for in an air and in the counters. The endpoint is that of `intake_samples`,
+// The frames that the tests deliver, and what they look for in an air and in the counters. The endpoint is that of `sample_plans`,
 // with id 0 and 4 PRBs that are not compressed. The bytes and the moments are worked out by hand: a nanosecond has 1536 ticks, and
 // frame 1 begins at 10 ms, which is tick 15360000000.
 ghost use Rattle.std.specs.Prelude.{IfSome};

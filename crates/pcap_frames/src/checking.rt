@@ -97,7 +97,7 @@ fn check_parts(
 /// `NoMemory` for want of memory for the interfaces of a pcapng file. Else `Refused`. A classic file: `Magic` at 0 where the first
 /// four bytes are none of the four magics, then `Cut` at 0 where there are fewer than 24 bytes, then `LinkType` at 20 where the link
 /// type's low 16 bits are not 1. Else the first record or block that is malformed, at its place: `Cut` where it is not complete, of a
-/// block what `block` of `pcapng_blocks` refuses, then, of a frame that is wanted, `LongFrame` where it has more than 9,216 bytes and
+/// block what [`block`](crate::block) refuses, then, of a frame that is wanted, `LongFrame` where it has more than 9,216 bytes and
 /// `TimeRange` where its time lies outside 0 to 1,000,000,000,000 ns.
 pub fn check(alloc: Global, bytes: &[u8], whose: Whose, start: u64) -> Result<PcapHead, PcapFault>
     ensures { Answers whose bytes.now start result }

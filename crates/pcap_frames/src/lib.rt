@@ -1,16 +1,13 @@
 //! Capture files, classic pcap and pcapng: the eCPRI frames in a capture of the outside (this project's profile).
 //!
-//! [`check`] tests a complete file, and [`frames`] goes over the eCPRI frames of one that passed: all of them, or those to or
-//! from one address ([`Whose`]). A classic file has 24 bytes and then records of 16 bytes and the bytes that were kept; a pcapng
-//! file is a list of blocks. All its own numbers are in the order of bytes that its magic tells, or the beginning of the section,
-//! which is never that of the Ethernet frames in it. Only [`check`] takes memory, for the interfaces of a pcapng file, and no bytes are
-//! copied.
+//! [`check`] tests a complete file, and [`frames`] goes over the eCPRI frames of one that passed: all of them, or those to or from one
+//! address ([`Whose`]). A classic file has 24 bytes and then records of 16 bytes and the bytes that were kept; a pcapng file is a list of
+//! blocks. All its own numbers are in the order of bytes that its magic tells, or the beginning of the section, which is never that of the
+//! Ethernet frames in it. Only [`check`] takes memory, for the interfaces of a pcapng file, and no bytes are copied.
 //!
-//! The blocks of a pcapng file, one at a time.
-//!
-//! [`block`] reads the block that some bytes begin with, in the order of bytes of its section and with the interfaces that the
-//! section has so far. It says where the block ends and what it holds: the beginning of a section, an interface, a packet with its
-//! time, or nothing that is looked at. Nothing allocates, and no bytes are copied.
+//! [`block`] reads the block of a pcapng file that some bytes begin with, in the order of bytes of its section and with the interfaces that
+//! the section has so far. It says where the block ends and what it holds: the beginning of a section, an interface, a packet with its
+//! time, or nothing that is looked at.
 #![tactic(auto)]
 
 mod blocks;

@@ -1,37 +1,17 @@
-//! The text of an explanation as SVG pictures: what its lines say, a resource grid, and the windows.
+//! The text of an explanation as SVG pictures: a resource grid, and the windows of delay management (this project's profile).
 //!
-//! The elements of a picture in Scalable Vector Graphics (W3C SVG 1.1) that is made of rectangles, paths and texts, each a line of
-//! the picture.
+//! [`draw_grid`] and [`draw_windows`] read the text that the command `explain` writes, test it, and write a picture. The grid has for each
+//! endpoint a band of the downlink and one of the uplink, in which the cells of some subframes are shown with the colour of what became of
+//! them. The picture of windows has for each flow of commands or data the window in which it is sent, the one in which it is awaited, and
+//! bars of the arrivals at their times; it is made in one pass and keeps numbers only.
 //!
-//! Each function appends one element to [`Bytes`](fh_base::Bytes). Lengths are in pixels, y grows downwards. No text is escaped: a
-//! caller passes none of the characters `<`, `>`, `&` and `"`.
+//! Below them, each in modules of its own:
 //!
-//! What the lines that the command `explain` writes are made of, for those who draw them: the numbers and names among their words,
-//! and why a text is refused (this project's profile).
-//!
-//! A text is refused by its first line that fails, for the first reason that holds there.
-//!
-//! The lines that the picture of a resource grid is drawn of: endpoints, cells, and why a cell is missing or silent, with their forms
-//! and places in the text that the command `explain` writes (this project's profile).
-//!
-//! [`read_grid`] tests a complete text and answers its endpoints, or the first line that fails and why. [`cell_of`] answers what the words
-//! of a line draw.
-//!
-//! The lines that the picture of reception windows is drawn of: windows, frames, and the sections of commands and of data with the
-//! margins at which they arrived, with their forms and places in the text that the command `explain` writes (this project's profile).
-//!
-//! [`read_arrivals`] tests a complete text in one pass and counts its arrivals, or answers the first line that fails and why.
-//!
-//! The picture of a resource grid (this project's profile): for each endpoint a band of the downlink and one of the uplink, in which
-//! the cells of some subframes are shown with the colour of what became of them.
-//!
-//! [`draw_grid`] reads the text that the command `explain` writes, tests all of it, and writes the picture as Scalable Vector Graphics.
-//!
-//! The picture of the windows of delay management, and of what arrived in them (this project's profile): for each flow of commands or
-//! data the window in which it is sent, the one in which it is awaited, and bars of the arrivals at their times.
-//!
-//! [`draw_windows`] reads the text that the command `explain` writes in one pass, and writes the picture as Scalable Vector Graphics. It
-//! keeps numbers only, as many for a long text as for a short one.
+//! - [`read_grid`] and [`read_arrivals`] test a complete text and answer what a picture is made of, or the first line that fails and the
+//!   first reason that holds there; [`cell_of`] answers what the words of a line draw;
+//! - the elements of a picture in Scalable Vector Graphics (W3C SVG 1.1) append rectangles, paths and texts to [`Bytes`](fh_base::Bytes), a
+//!   line each. Lengths are in pixels, and y grows downwards. No text is escaped: a caller passes none of the characters `<`, `>`, `&` and
+//!   `"`.
 #![tactic(auto)]
 
 mod areas;

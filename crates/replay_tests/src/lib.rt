@@ -1,10 +1,8 @@
-//! Tests of the replay of a document: what an air hears (`events`), sinks that fail (`sinks`), and some hundred messages of one
-//! endpoint (`many`). Documents and their reports, summaries and captures are in the table of `run_vectors`.
+//! Tests of the replay of a document: what an air hears (`events`), sinks that fail (`sinks`), and some hundred messages of one endpoint
+//! (`many`). Documents and their reports, summaries and captures are in the table of `run_vectors`.
 //!
-//! They are beside `fronthaul_replay`, so that it is proved without them.
-//!
-//! Tests of what is between both units, by the public calls of `frame_network`, `frame_ways`, `unit_meters`, `unit_moments`,
-//! `delay_exchange` and `frame_deliveries`, which are proved without them.
+//! Beside them are tests of what is between both units, by the public calls of `frame_ways`, `unit_meters`, `unit_moments` and
+//! `delay_exchange`. All these crates and `fronthaul_replay` are proved without the tests.
 #![tactic(auto)]
 
 #[cfg(test)]

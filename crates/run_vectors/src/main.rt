@@ -1,13 +1,11 @@
-//! Runs of the programs over inputs in memory, whose answers are from outside: reads a table from standard input, and prints
-//! for each run its status and what it wrote, or how much and its digest.
+//! Runs of the programs over inputs in memory, whose answers are from outside: reads a table from standard input, and prints for each run
+//! its status and what it wrote, or how much and its digest.
 //!
-//! Empty lines, and those that begin with `#`, are printed as they are. At a line that is no entry the program ends: it names
-//! the line on standard error, and its status is 2.
+//! Empty lines, and those that begin with `#`, are printed as they are. At a line that is no entry the program ends: it names the line on
+//! standard error, and its status is 2.
 //!
-//! Tests of complete runs with ends in memory that fail: sources and sinks (`faults`, `captures`, `explained`), and words that
-//! read nothing (`words`). Worked runs of every command are in the table of `run_vectors`.
-//!
-//! They are beside `top_call`, so that it is proved without them.
+//! Its tests are of complete runs with ends in memory that fail: sources and sinks (`faults`, `captures`, `explained`), and words that read
+//! nothing (`words`). They are beside `top_call`, so that it is proved without them.
 #![tactic(auto)]
 
 mod answers;

@@ -1,12 +1,9 @@
-//! Tests of the distributed unit's schedule: worked plans, whose frames and times are worked out by hand from the layout tables and the
-//! windows, by the public calls of `du_scheduler`; and tests of the crates below it that the schedule is made of.
+//! Tests of the distributed unit's schedule and of the radio unit's uplink frames, by the public calls of `du_scheduler` and `uplink_path`,
+//! and of `frame_bytes` and `sent_frames` below them. All are proved without these tests.
 //!
-//! They are beside these crates, so that these are proved without them. `steps` makes plans and compares what they give.
-//!
-//! Tests of the radio unit's uplink frames, by the public calls of `uplink_path`.
-//!
-//! They are beside this crate, which is proved without them. `samples` makes what the tests need, and `steps` calls the unit and
-//! what sends its frames, and keeps what the calls require.
+//! Plans are worked: their frames and times are worked out by hand from the layout tables and the windows. `steps` makes plans and compares
+//! what they give. `samples` makes what the tests of the uplink need, and `uplink_steps` calls the unit and what sends its frames, and
+//! keeps what the calls require.
 #![tactic(auto)]
 
 #[cfg(test)]

@@ -1,6 +1,6 @@
 // Sinks that take a byte a call and fail at each call in turn.
 use crate::draw_texts::{GRID, SHOWN, WINDOWS};
-use crate::pictures::windows;
+use crate::worked_pictures::windows;
 use fh_base::{List, MemorySink, NoMemory};
 use pictures::{DrawFault, draw_grid};
 use std::alloc::Global;

@@ -1,20 +1,9 @@
-//! Tests of documents, airs, pictures and neighbours, by the public calls of other crates, which are proved without them.
+//! Tests of documents, airs, pictures and calculators, by the public calls of `fh_document`, `air_source`, `report_airs`, `pictures`,
+//! `shared_cell`, `idle_spans` and `window_plan`, which are proved without them. What documents are refused for is in the table of
+//! `run_vectors`.
 //!
-//! Tests of what [`fh_document`] says of the documents that it reads. They are beside it, so that the library is proved
-//! without them. What it refuses is in the table of `run_vectors`.
-//!
-//! Tests of airs and of what they write, by the public calls of `air_source` and `report_airs`, which are proved without them.
-//!
-//! `built` makes what the tests need. `telling` has code over any air and any samples, and `line_air` an air of its own form, both with
-//! the contracts that callers of such code need.
-//!
-//! Tests of pictures: worked ones, texts that are refused, and sinks that fail.
-//!
-//! They are beside `grid_picture` and `window_picture`, so that these are proved without them.
-//!
-//! Tests of the neighbours by the public calls of `shared_cell`, `idle_spans` and `window_plan`, which are proved without them.
-//!
-//! `made` makes configurations, and `following` adds cells up and keeps what the calls require.
+//! `built` and `made` make what the tests need, and `following` adds cells up and keeps what the calls require. `telling` has code over any
+//! air and any samples, and `line_air` an air of its own form, both with the contracts that callers of such code need.
 #![tactic(auto)]
 
 #[cfg(test)]
@@ -48,8 +37,6 @@ mod made;
 #[cfg(test)]
 mod neighbour_texts;
 #[cfg(test)]
-mod pictures;
-#[cfg(test)]
 mod plans;
 #[cfg(test)]
 mod refused;
@@ -67,3 +54,5 @@ mod telling;
 mod texts;
 #[cfg(test)]
 mod tones;
+#[cfg(test)]
+mod worked_pictures;

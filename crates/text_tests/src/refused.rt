@@ -1,6 +1,6 @@
 // Texts that are refused, before anything is written.
 use crate::draw_texts::SHOWN;
-use crate::pictures::windows;
+use crate::worked_pictures::windows;
 use fh_base::{Bytes, PlainSink};
 use pictures::{DrawFault, TextWhy, draw_grid};
 use std::alloc::Global;

@@ -147,7 +147,7 @@ pub record Outcome (words : List (List ℕ)) (left_old left_new : Option (List �
   -- and of the lines that explain such a document: each judged thing has one, each counter is the number of lines with its word, runs of cells
   -- are maximal, and the text of its faults is of the same lines; each missing cell, silent element and unused block has its reason
   pub explained : IfOk (document_of came) IsExplainedPlan
-  -- and where it is explained to its end, fewer than 2 ^ 32 frames arrive: by the laws of `drawn_documents` no picture refuses its text
+  -- and where it is explained to its end, fewer than 2 ^ 32 frames arrive: by the laws of `drawn_laws` no picture refuses its text
   pub few : ExplainsFew (command_of words) came status
   -- and of the units of a cell that such a document's frames are shared by
   pub shared : (count step : ℕ) → 1 ≤ count → IfOk (document_of came) (IsSharedPlan count step)

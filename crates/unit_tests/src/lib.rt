@@ -1,12 +1,8 @@
-//! Tests of the radio unit in fixed memory, by the public calls of `ru_buffers` and `unit_symbols`.
+//! Tests of the radio unit in fixed memory and of what it is made of, by the public calls of `ru_buffers`, `unit_model`, `slot_rings`,
+//! `unit_memory` and `unit_symbols`, which are proved without them.
 //!
-//! They are beside these crates, which are proved without them. `samples` makes what the tests need, and `steps` calls the unit and
-//! keeps what its calls require.
-//!
-//! Tests of the memory of units by the public calls of `unit_model`, `slot_rings`, `unit_memory` and `unit_symbols`, which are proved
-//! without them.
-//!
-//! `samples` makes what the tests need, and `receiving` takes fragments and keeps what the calls require.
+//! `samples` and `memory_samples` make what the tests need. `steps` calls the unit, `receiving` takes fragments, and both keep what the
+//! calls require.
 #![tactic(auto)]
 
 #[cfg(test)]

@@ -1,13 +1,8 @@
-//! The lines that tell why cells have no samples, why elements are silent, which blocks no cell shows, and the sums of reasons.
+//! The lines at the end of an explanation: why elements of a plan are silent ([`tell_silent`]), which blocks were taken that no cell shows
+//! ([`tell_unused`]), and the sums of reasons.
 //!
-//! The lines at the end of an explanation that say why elements of a plan are silent.
-//!
-//! The lines at the end of an explanation that tell of blocks that were taken and that no cell shows.
-//!
-//! The sums at the end of an explanation, counted from the lines that were told before.
-//!
-//! [`ReasonSums`] is given each line of an explanation. In the end it tells, for each unit and endpoint, how many cells are shown, how
-//! many are missing and how many PRBs are silent for each reason.
+//! [`ReasonSums`] is given each line of an explanation. In the end it tells, for each unit and endpoint, how many cells are shown, how many
+//! are missing and how many PRBs are silent for each reason. The lines of missing cells themselves are told by `explain_records`.
 #![tactic(auto)]
 
 mod blocks;

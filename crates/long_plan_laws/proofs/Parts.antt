@@ -18,7 +18,7 @@ use Rattle.plan_model.specs.Lines.{line_allocation}
 use Rattle.plan_model.specs.Streams.{Part, has_part, part_in, symbol_parts}
 use Rattle.plan_model.specs.declared.lines.PlannedLine.{PlannedLine}
 use Rattle.plan_model.specs.declared.streams.Stream.TheVariants.{DownData}
-use Rattle.long_plans.proofs.Lines.{line_at, lines_from}
+use Rattle.long_plan_laws.proofs.Lines.{line_at, lines_from}
 use Rattle.fh_base.specs.declared.frames.TheConstants.{FRAME}
 use Rattle.unit_model.proofs.ClaimLemmas.{same_slot_is as slots_equal, from_within as from_high}
 use Rattle.fh_base.proofs.Orders.{pos_same}

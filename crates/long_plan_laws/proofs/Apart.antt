@@ -22,9 +22,9 @@ use Rattle.generated_laws.specs.Sparse.{AreAlone, HasRoom, IsSpaced, IsSparse}
 use Rattle.generated_laws.proofs.Lines.{NotBoth, not_both}
 use Rattle.generated_laws.proofs.Spaced.{khz30_spaced}
 use Rattle.generated_laws.proofs.Sparse.{each_alone, not_dense as sparse_not_dense}
-use Rattle.long_plans.specs.Lines.{frame_lines, long_config, LongPlansAreLong, LongPlansAreValid}
-use Rattle.long_plans.proofs.Lines.{line_at, lines_from, none_refused, planned_is}
-use Rattle.long_plans.proofs.Ticks.{parts_are, parts_from}
+use Rattle.long_plan_laws.specs.Lines.{frame_lines, long_config, LongPlansAreLong, LongPlansAreValid}
+use Rattle.long_plan_laws.proofs.Lines.{line_at, lines_from, none_refused, planned_is}
+use Rattle.long_plan_laws.proofs.Ticks.{parts_are, parts_from}
 use Rattle.fh_base.specs.Members.{IsIn}
 
 -- ---- no two lines have data in one symbol

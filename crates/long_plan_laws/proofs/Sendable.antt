@@ -19,9 +19,9 @@ use Rattle.unit_model.specs.Proper.{IsAt}
 use Rattle.plan_model.specs.Examples.{usual}
 use Rattle.uplink_laws.specs.Sent.{IsSendable}
 use Rattle.uplink_laws.proofs.RadiatedLemmas.{least_come}
-use Rattle.long_plans.specs.Lines.{frame_line, frame_lines, long_config}
-use Rattle.long_plans.specs.Sent.{LongPlansAreSent, silence, silent}
-use Rattle.long_plans.proofs.Apart.{are_valid}
+use Rattle.long_plan_laws.specs.Lines.{frame_line, frame_lines, long_config}
+use Rattle.long_plan_laws.specs.Sent.{LongPlansAreSent, silence, silent}
+use Rattle.long_plan_laws.proofs.Apart.{are_valid}
 use Rattle.window_config.specs.declared.plan.TheConstants.{LAST_FRAME}
 
 none_all : {X : Type 0} (P : X → Type 0) → All P []

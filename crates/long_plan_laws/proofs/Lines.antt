@@ -13,7 +13,7 @@ use Rattle.plan_model.specs.declared.lines.PlannedLine.{PlannedLine}
 use Rattle.plan_model.specs.declared.refusals.PlanWhy.{PlanWhy}
 use Rattle.plan_model.specs.declared.refusals.PlanWhy.TheVariants.{Overlap, TooManySections}
 use Rattle.generated_laws.proofs.Lines.{none_any}
-use Rattle.long_plans.specs.Lines.{frame_line, frame_lines}
+use Rattle.long_plan_laws.specs.Lines.{frame_line, frame_lines}
 use Rattle.unit_model.proofs.ClaimLemmas.{same_slot_is as slots_equal}
 use Rattle.fh_base.proofs.Orders.{more_differ as other_frame}
 use Rattle.fh_base.specs.Members.{IsIn}

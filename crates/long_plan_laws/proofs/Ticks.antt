@@ -10,8 +10,8 @@ use Rattle.unit_model.specs.Times.{end_of_time}
 use Rattle.plan_model.specs.Examples.{usual}
 use Rattle.plan_model.specs.Streams.{Part, part_in, parts_in}
 use Rattle.plan_model.specs.declared.streams.Stream.TheVariants.{DownData}
-use Rattle.long_plans.proofs.Lines.{line_at, lines_from}
-use Rattle.long_plans.proofs.Parts.{part_at, quiet, start, told}
+use Rattle.long_plan_laws.proofs.Lines.{line_at, lines_from}
+use Rattle.long_plan_laws.proofs.Parts.{part_at, quiet, start, told}
 use Rattle.window_config.specs.declared.plan.TheConstants.{LAST_FRAME}
 use Rattle.fh_base.proofs.EachLemmas.{gap_is, gap_parts, ticks_none, ticks_split}
 

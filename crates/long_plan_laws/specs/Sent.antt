@@ -8,7 +8,7 @@ use Rattle.sent_frames.specs.Frames.{sent_bytes}
 use Rattle.sent_frames.specs.Messages.{Source}
 use Rattle.uplink_laws.specs.Radiated.{CopiesArrive}
 use Rattle.uplink_laws.specs.Sent.{IsSendable}
-use Rattle.long_plans.specs.Lines.{frame_lines, long_config}
+use Rattle.long_plan_laws.specs.Lines.{frame_lines, long_config}
 use Rattle.window_config.specs.declared.plan.TheConstants.{LAST_FRAME}
 
 -- n samples of 0
