@@ -20,10 +20,7 @@ pub fn last_seen(
     ensures fault { IfErr result (IsFault whose file.now start) }
     ensures last { IfOk result (λ last. last ≡ last_or None (map (λ frame. frame.at) (frames_of whose file.now start))) }
 {
-    let head = match check(alloc, file, whose, start) {
-        Ok(head) => head,
-        Err(fault) => return Err(fault),
-    };
+    let head = check(alloc, file, whose, start)?;
     let mut last = None;
     for frame in frames(file, &head, whose, start) {
         last = Some(frame.at);

@@ -13,9 +13,6 @@ pub fn section_count(message: &[u8], shape: Shape) -> Result<usize, CRefusal>
     ensures count { IfOk (checked shape message.now) (λ head. result ≡ Ok head.count) }
     ensures some { IfOk result (λ count. 0 < count) }
 {
-    let head = match check(message, shape) {
-        Ok(head) => head,
-        Err(refusal) => return Err(refusal),
-    };
+    let head = check(message, shape)?;
     Ok(sections(message, &head).count())
 }

@@ -1,5 +1,5 @@
 -- The sections of a C-plane message, and what the tests say of a header and its sections.
-use Rattle.std.specs.Prelude.{◌≡◌, ℕ, zero, suc, pos, ◌+◌, ◌-◌, ◌<◌, ◌≤◌, ◌≤ℤ◌, ◌<ℤ◌, ◌^◌, neg_ℤ, Bool, List, [], ◌∷◌, length, drop, All, IsTrue, if◌then◌else◌}
+use Rattle.std.specs.Prelude.{◌≡◌, ℕ, zero, suc, pos, ◌+◌, ◌-◌, ◌<◌, ◌≤◌, ◌≤ℤ◌, ◌<ℤ◌, ◌^◌, neg_ℤ, List, [], ◌∷◌, length, drop, All, IsTrue}
 use Rattle.fh_base.specs.declared.values.Shape.{Shape}
 use Rattle.cplane_sections.specs.declared.values.CHead.{CHead}
 use Rattle.cplane_sections.specs.declared.values.CSection.{CSection}

@@ -74,10 +74,7 @@ fn walk(bytes: &[u8], head: &CHead, shape: Shape) -> Result<usize, CRefusal>
     let mut place = head_size(head.body);
     let mut symbol = head.start_symbol;
     for k in 0..head.count {
-        symbol = match symbol_at(bytes, place, size, shape.symbols, symbol) {
-            Ok(next) => next,
-            Err(refusal) => return Err(refusal),
-        };
+        symbol = symbol_at(bytes, place, size, shape.symbols, symbol)?;
         place += size;
     }
     Ok(place)
@@ -96,14 +93,8 @@ pub fn check(bytes: &[u8], shape: Shape) -> Result<CHead, CRefusal>
     ensures admitted { IfOk result (λ head. Admits shape head (sections_in head bytes.now)) }
     ensures fits { IfOk result (λ head. MessageFits head (sections_in head bytes.now)) }
 {
-    let head = match head_at(bytes, shape) {
-        Ok(head) => head,
-        Err(refusal) => return Err(refusal),
-    };
-    let end = match walk(bytes, &head, shape) {
-        Ok(end) => end,
-        Err(refusal) => return Err(refusal),
-    };
+    let head = head_at(bytes, shape)?;
+    let end = walk(bytes, &head, shape)?;
     if end < bytes.len() {
         return Err(CRefusal {
             place: end,

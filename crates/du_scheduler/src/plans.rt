@@ -124,13 +124,8 @@ impl Plan {
         requires few { length lines.now ≤ PLAN_LINES }
         ensures { Checks config.now lines.now result }
     {
-        match tested(alloc, config, lines) {
-            Ok(()) => match Plan::make(alloc, config, lines) {
-                Ok(plan) => Ok(plan),
-                Err(NoMemory) => Err(PlanRefusal::NoMemory),
-            },
-            Err(refusal) => Err(refusal),
-        }
+        tested(alloc, config, lines)?;
+        Ok(Plan::make(alloc, config, lines)?)
     }
 
     /// Writes the next frame into the room.

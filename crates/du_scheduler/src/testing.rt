@@ -33,6 +33,16 @@ pub enum PlanRefusal {
     NoMemory,
 }
 
+impl From<NoMemory> for PlanRefusal {
+    ghost use Rattle.du_scheduler.specs.declared.testing.PlanRefusal.TheVariants.{NoMemory as OutOfMemory};
+
+    ghost from_gives = { λ _ refusal. refusal ≡ OutOfMemory };
+
+    fn from(_: NoMemory) -> Self {
+        PlanRefusal::NoMemory
+    }
+}
+
 /// The data of one direction.
 fn stream_of(up: bool) -> Stream
     ensures { result ≡ stream_of up }
@@ -155,9 +165,8 @@ pub fn tested(alloc: Global, config: &Config, lines: &List<PlanLine>) -> Result<
     requires lines { All IsPlanLine lines.now }
     ensures { Answers (plan_refusal config.now lines.now) result }
 {
-    match refusal(alloc, config, lines) {
-        Ok(None) => Ok(()),
-        Ok(Some((index, why))) => Err(PlanRefusal::At { index, why }),
-        Err(NoMemory) => Err(PlanRefusal::NoMemory),
+    match refusal(alloc, config, lines)? {
+        None => Ok(()),
+        Some((index, why)) => Err(PlanRefusal::At { index, why }),
     }
 }

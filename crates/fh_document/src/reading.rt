@@ -49,14 +49,9 @@ fn setting_line(reading: &mut Reading, setting: Setting, words: &Words<'_>) -> R
     if is_seen(reading, setting) {
         return Err(DocWhy::Twice);
     }
-    match set(reading.version, reading.settings, setting, words) {
-        Err(why) => Err(why),
-        Ok(settings) => {
-            reading.settings = settings;
-            reading.seen[setting.number()] = true;
-            Ok(())
-        }
-    }
+    reading.settings = set(reading.version, reading.settings, setting, words)?;
+    reading.seen[setting.number()] = true;
+    Ok(())
 }
 
 /// The place of the latest kind of the lines so far.

@@ -7,6 +7,7 @@ use Rattle.fh_base.specs.Words.{hex4_text}
 use Rattle.window_config.specs.declared.plan.PlanKind.TheVariants.{Down, Up}
 use Rattle.window_config.specs.declared.plan.PlanLine.{PlanLine}
 use Rattle.fh_document.specs.declared.delivered.Delivery.{Delivery}
+use Rattle.line_words.specs.Each.{each}
 use Rattle.fh_document.specs.Generated as text
 use Rattle.fh_document.specs.Joined.{fed, spaced}
 use Rattle.fh_document.specs.LineWords.{deliver_words, plan_kind_word, plan_words}
@@ -76,8 +77,8 @@ unfoldable ordered : (ℕ → List (List ℕ)) → ℕ → List (List ℕ)
 ordered lines zero = []
 ordered lines (suc n) = ordered lines n ++ lines n
 
-each_fed : (of : ℕ → List ℕ) (lines : ℕ → List (List ℕ)) → ((n : ℕ) → of n ≡ fed (lines n)) → (n : ℕ) → text.each of n ≡ fed (ordered lines n)
-unfolding text.each ordered
+each_fed : (of : ℕ → List ℕ) (lines : ℕ → List (List ℕ)) → ((n : ℕ) → of n ≡ fed (lines n)) → (n : ℕ) → each of n ≡ fed (ordered lines n)
+unfolding each ordered
 each_fed of lines is zero = refl
 each_fed of lines is (suc n) = ap₂ (λ (xs ys : List ℕ). xs ++ ys) (each_fed of lines is n) (is n) ∙ sym (fed_append (ordered lines n) (lines n))
 
@@ -85,7 +86,7 @@ abbrev slot_lines : ℕ → List PlanLine
 slot_lines n = line_of n 0 ∷ line_of n 1 ∷ line_of n 2 ∷ line_of n 3 ∷ []
 
 four_texts : (n : ℕ) → text.plans_text n ≡ fed (map plan_line (slot_lines n))
-unfolding text.each
+unfolding each
 four_texts n =
     ap₂ (λ (xs ys : List ℕ). xs ++ ys) (ap₂ (λ (xs ys : List ℕ). xs ++ ys) (ap₂ (λ (xs ys : List ℕ). xs ++ ys) (plan_is n 0) (plan_is n 1)) (plan_is n 2)) (plan_is n 3)
     ∙ grouped (plan_line (line_of n 0)) (plan_line (line_of n 1)) (plan_line (line_of n 2)) (plan_line (line_of n 3))
@@ -128,20 +129,20 @@ deliveries_ordered seed (suc n) =
 
 -- ---- the whole text
 
-endpoints_are : (rest : List ℕ) → text.each text.endpoint_text 4 ++ rest ≡ endpoint_line 0 ++ 10 ∷ (endpoint_line 1 ++ 10 ∷ (endpoint_line 2 ++ 10 ∷ (endpoint_line 3 ++ 10 ∷ rest)))
-unfolding text.each
+endpoints_are : (rest : List ℕ) → each text.endpoint_text 4 ++ rest ≡ endpoint_line 0 ++ 10 ∷ (endpoint_line 1 ++ 10 ∷ (endpoint_line 2 ++ 10 ∷ (endpoint_line 3 ++ 10 ∷ rest)))
+unfolding each
 endpoints_are rest = refl
 
 pub text_is : (seed slots : ℕ) → text.generated seed slots ≡ fed (all_lines seed slots)
 text_is seed slots =
     let plans = map plan_line (lines_from 0 slots) in
     let deliveries = map deliver_line (deliveries_from seed 0 slots) in
-    let plans_is : text.each text.plans_text slots ≡ fed plans = each_fed text.plans_text (λ k. map plan_line (slot_lines k)) four_texts slots ∙ ap fed (plans_ordered slots) in
-    let deliveries_is : text.each (text.deliver_text seed) slots ≡ fed deliveries =
+    let plans_is : each text.plans_text slots ≡ fed plans = each_fed text.plans_text (λ k. map plan_line (slot_lines k)) four_texts slots ∙ ap fed (plans_ordered slots) in
+    let deliveries_is : each (text.deliver_text seed) slots ≡ fed deliveries =
     each_fed (text.deliver_text seed) (λ j. deliver_line (delivery_of seed j) ∷ []) (deliver_is seed) slots ∙ ap fed (deliveries_ordered seed slots) in
-    ap₂ (λ (p d : List ℕ). ((text.opening_text seed ++ text.each text.endpoint_text 4) ++ p) ++ d) plans_is deliveries_is
-    ∙ regroup (text.opening_text seed) (text.each text.endpoint_text 4) (fed plans) (fed deliveries)
-    ∙ ap (λ (r : List ℕ). text.opening_text seed ++ (text.each text.endpoint_text 4 ++ r)) (sym (fed_append plans deliveries))
+    ap₂ (λ (p d : List ℕ). ((text.opening_text seed ++ each text.endpoint_text 4) ++ p) ++ d) plans_is deliveries_is
+    ∙ regroup (text.opening_text seed) (each text.endpoint_text 4) (fed plans) (fed deliveries)
+    ∙ ap (λ (r : List ℕ). text.opening_text seed ++ (each text.endpoint_text 4 ++ r)) (sym (fed_append plans deliveries))
     ∙ ap (λ (r : List ℕ). text.opening_text seed ++ r) (endpoints_are (fed (plans ++ deliveries)))
     ∙ opening_is (endpoint_line 0 ++ 10 ∷ (endpoint_line 1 ++ 10 ∷ (endpoint_line 2 ++ 10 ∷ (endpoint_line 3 ++ 10 ∷ fed (plans ++ deliveries)))))
   where

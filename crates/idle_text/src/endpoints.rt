@@ -21,6 +21,16 @@ use idle_spans::Spans;
 use std::alloc::Global;
 use window_config::{EndpointConfig, PlanLine};
 
+/// What the lines of each endpoint are made of.
+#[derive(Clone, Copy)]
+struct Listing<'a> {
+    spans: &'a Spans,
+    /// The plan.
+    lines: &'a LineList<PlanLine>,
+    /// The fewest symbols of a span that is listed.
+    min: u32,
+}
+
 /// How many slots the frames have at an endpoint.
 fn slots(spans: &Spans, ep: usize, e: &EndpointConfig) -> usize
     requires ep { ep < length (endpoints_of spans.now) }
@@ -35,27 +45,26 @@ fn slots(spans: &Spans, ep: usize, e: &EndpointConfig) -> usize
 /// Tells the lines of an endpoint, by flags for its slots of which none is set: those of its listed spans, and then those that are
 /// proposed for its free slots.
 fn tell_flagged<K: Sink>(
-    spans: &Spans,
+    listing: &Listing<'_>,
     ep: usize,
     e: &EndpointConfig,
-    lines: &LineList<PlanLine>,
-    min: u32,
     flags: &mut [bool],
     owed: &mut OwedBytes,
     out: &mut K,
 ) -> Result<(), SinkFault>
-    requires ep { ep < length (endpoints_of spans.now) }
-    requires min { 1 ≤ min }
-    requires stands { StandsAt spans.now ep e.now }
-    requires size { length flags.old * symbols_of e.now.numerology ≡ symbols_in spans.now ep }
-    requires small { symbols_in spans.now ep ≤ 22400 }
+    requires ep { ep < length (endpoints_of listing.now.spans.now) }
+    requires min { 1 ≤ listing.now.min }
+    requires stands { StandsAt listing.now.spans.now ep e.now }
+    requires size { length flags.old * symbols_of e.now.numerology ≡ symbols_in listing.now.spans.now ep }
+    requires small { symbols_in listing.now.spans.now ep ≤ 22400 }
     requires blank { (k : ℕ) → get_or flags.old k false ≡ false }
-    ensures carried { (first last : ℕ) (cells : List AirCell) → IsTableOf spans.now ep e.now first last cells
-        → OnOk result (Carried (K.written out.old) owed.old (endpoint_text first last cells min lines.now e.now) (K.written out.new) owed.new) }
-    ensures front { (first last : ℕ) (cells : List AirCell) → IsTableOf spans.now ep e.now first last cells
-        → OnErr result (WritesFront (K.written out.old) (K.written out.new) (owed.old ++ endpoint_text first last cells min lines.now e.now)) }
+    ensures carried { (first last : ℕ) (cells : List AirCell) → IsTableOf listing.now.spans.now ep e.now first last cells
+        → OnOk result (Carried (K.written out.old) owed.old (endpoint_text first last cells listing.now.min listing.now.lines.now e.now) (K.written out.new) owed.new) }
+    ensures front { (first last : ℕ) (cells : List AirCell) → IsTableOf listing.now.spans.now ep e.now first last cells
+        → OnErr result (WritesFront (K.written out.old) (K.written out.new) (owed.old ++ endpoint_text first last cells listing.now.min listing.now.lines.now e.now)) }
     ensures cause { HasSinkCause (K.faults out.old) (K.faults out.new) (K.refusals out.old) (K.refusals out.new) result }
 {
+    let Listing { spans, lines, min } = *listing;
     tell_spans(spans, ep, e, min, flags, owed, out)?;
     clear_touched(flags, spans, ep, e, lines);
     tell_free(spans, ep, e, flags, owed, out)
@@ -64,47 +73,43 @@ fn tell_flagged<K: Sink>(
 /// Tells the lines of an endpoint.
 fn tell_endpoint<K: Sink>(
     alloc: Global,
-    spans: &Spans,
+    listing: &Listing<'_>,
     ep: usize,
     e: &EndpointConfig,
-    lines: &LineList<PlanLine>,
-    min: u32,
     owed: &mut OwedBytes,
     out: &mut K,
 ) -> Result<(), SinkFault>
-    requires ep { ep < length (endpoints_of spans.now) }
-    requires min { 1 ≤ min }
-    requires stands { StandsAt spans.now ep e.now }
-    ensures carried { (first last : ℕ) (cells : List AirCell) → IsTableOf spans.now ep e.now first last cells
-        → OnOk result (Carried (K.written out.old) owed.old (endpoint_text first last cells min lines.now e.now) (K.written out.new) owed.new) }
-    ensures front { (first last : ℕ) (cells : List AirCell) → IsTableOf spans.now ep e.now first last cells
-        → OnErr result (WritesFront (K.written out.old) (K.written out.new) (owed.old ++ endpoint_text first last cells min lines.now e.now)) }
+    requires ep { ep < length (endpoints_of listing.now.spans.now) }
+    requires min { 1 ≤ listing.now.min }
+    requires stands { StandsAt listing.now.spans.now ep e.now }
+    ensures carried { (first last : ℕ) (cells : List AirCell) → IsTableOf listing.now.spans.now ep e.now first last cells
+        → OnOk result (Carried (K.written out.old) owed.old (endpoint_text first last cells listing.now.min listing.now.lines.now e.now) (K.written out.new) owed.new) }
+    ensures front { (first last : ℕ) (cells : List AirCell) → IsTableOf listing.now.spans.now ep e.now first last cells
+        → OnErr result (WritesFront (K.written out.old) (K.written out.new) (owed.old ++ endpoint_text first last cells listing.now.min listing.now.lines.now e.now)) }
     ensures cause { Counts (has_failed result) (K.faults out.old) (K.faults out.new) }
 {
-    let mut flags = no_flags(alloc, slots(spans, ep, e))?;
-    tell_flagged(spans, ep, e, lines, min, flags.as_mut_slice(), owed, out)
+    let mut flags = no_flags(alloc, slots(listing.spans, ep, e))?;
+    tell_flagged(listing, ep, e, flags.as_mut_slice(), owed, out)
 }
 
 /// Tells the lines of all endpoints.
 fn tell_endpoints<K: Sink>(
     alloc: Global,
     endpoints: &[EndpointConfig],
-    lines: &LineList<PlanLine>,
-    spans: &Spans,
-    min: u32,
+    listing: &Listing<'_>,
     owed: &mut OwedBytes,
     out: &mut K,
 ) -> Result<(), SinkFault>
-    requires min { 1 ≤ min }
-    requires stands { StandsFor spans.now endpoints.now }
-    ensures carried { (config : Config) (first last : ℕ) (cells : List AirCell) → config.endpoints ≡ endpoints.now → Stands spans.now config first last cells
-        → OnOk result (Carried (K.written out.old) owed.old (flat_map (endpoint_text first last cells min lines.now) endpoints.now) (K.written out.new) owed.new) }
-    ensures front { (config : Config) (first last : ℕ) (cells : List AirCell) → config.endpoints ≡ endpoints.now → Stands spans.now config first last cells
-        → OnErr result (WritesFront (K.written out.old) (K.written out.new) (owed.old ++ flat_map (endpoint_text first last cells min lines.now) endpoints.now)) }
+    requires min { 1 ≤ listing.now.min }
+    requires stands { StandsFor listing.now.spans.now endpoints.now }
+    ensures carried { (config : Config) (first last : ℕ) (cells : List AirCell) → config.endpoints ≡ endpoints.now → Stands listing.now.spans.now config first last cells
+        → OnOk result (Carried (K.written out.old) owed.old (flat_map (endpoint_text first last cells listing.now.min listing.now.lines.now) endpoints.now) (K.written out.new) owed.new) }
+    ensures front { (config : Config) (first last : ℕ) (cells : List AirCell) → config.endpoints ≡ endpoints.now → Stands listing.now.spans.now config first last cells
+        → OnErr result (WritesFront (K.written out.old) (K.written out.new) (owed.old ++ flat_map (endpoint_text first last cells listing.now.min listing.now.lines.now) endpoints.now)) }
     ensures cause { Counts (has_failed result) (K.faults out.old) (K.faults out.new) }
 {
     for ep in 0..endpoints.len() {
-        tell_endpoint(alloc, spans, ep, &endpoints[ep], lines, min, owed, out)?;
+        tell_endpoint(alloc, listing, ep, &endpoints[ep], owed, out)?;
     }
     Ok(())
 }
@@ -136,7 +141,12 @@ pub fn idle_text<K: Sink>(
 {
     let mut owed = OwedBytes::new();
     let endpoints = document.config.endpoints.as_slice();
-    tell_endpoints(alloc, endpoints, &document.plan, spans, min, &mut owed, out)?;
+    let listing = Listing {
+        spans,
+        lines: &document.plan,
+        min,
+    };
+    tell_endpoints(alloc, endpoints, &listing, &mut owed, out)?;
     owed.tell(b"end\n", out)?;
     owed.push_out(out)
 }

@@ -105,14 +105,8 @@ fn content<'a>(
 {
     match kind {
         PACKET | SIMPLE_PACKET => Err(BlockWhy::OldPacket),
-        INTERFACE => match interface(body, little) {
-            Ok(interface) => Ok(Content::Interface(interface)),
-            Err(why) => Err(why),
-        },
-        ENHANCED_PACKET => match packet(body, little, interfaces) {
-            Ok(packet) => Ok(Content::Packet(packet)),
-            Err(why) => Err(why),
-        },
+        INTERFACE => Ok(Content::Interface(interface(body, little)?)),
+        ENHANCED_PACKET => Ok(Content::Packet(packet(body, little, interfaces)?)),
         _ => Ok(Content::Other),
     }
 }
@@ -128,10 +122,8 @@ fn other<'a>(bytes: &'a [u8], little: bool, interfaces: &[Interface]) -> Result<
     let Some(size) = size(bytes, little, least(kind)) else {
         return Err(BlockWhy::Cut);
     };
-    match content(kind, &bytes[HEAD..size - TAIL], little, interfaces) {
-        Ok(content) => Ok(Block { size, content }),
-        Err(why) => Err(why),
-    }
+    let content = content(kind, &bytes[HEAD..size - TAIL], little, interfaces)?;
+    Ok(Block { size, content })
 }
 
 /// The block that the bytes begin with, in a section whose numbers are lowest byte first where `little` is set, and that has these

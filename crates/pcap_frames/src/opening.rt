@@ -27,11 +27,9 @@ pub fn opening_of(bytes: &[u8]) -> Result<Opening, PcapRefusal>
             place: 0,
         });
     }
-    match head(bytes) {
-        Ok(format) => Ok(Opening {
-            layout: Layout::Records(format),
-            place: HEAD,
-        }),
-        Err(refusal) => Err(refusal),
-    }
+    let format = head(bytes)?;
+    Ok(Opening {
+        layout: Layout::Records(format),
+        place: HEAD,
+    })
 }

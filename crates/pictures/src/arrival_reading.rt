@@ -135,10 +135,8 @@ fn data_line(reading: &Reading, words: &Words<'_>) -> Result<Option<Arrival>, Te
 fn silent(answer: Result<(), TextWhy>) -> Result<Option<Arrival>, TextWhy>
     ensures { result ≡ silent answer }
 {
-    match answer {
-        Ok(()) => Ok(None),
-        Err(why) => Err(why),
-    }
+    answer?;
+    Ok(None)
 }
 
 fn used_line(reading: &mut Reading, words: &Words<'_>) -> Result<Option<Arrival>, TextWhy>

@@ -88,6 +88,15 @@ pub(crate) struct Plain {
     pub(crate) counters: Counters,
 }
 
+/// When something is received, and for which endpoint.
+#[derive(Clone, Copy)]
+struct Receipt {
+    at: Ticks,
+    /// The endpoint's index.
+    ep: usize,
+    endpoint: EndpointConfig,
+}
+
 impl Plain {
     /// A unit that received nothing.
     pub(crate) fn make(alloc: Global, side: Side, config: &Config) -> Result<Plain, NoMemory>
@@ -166,21 +175,20 @@ impl Plain {
         &mut self,
         alloc: Global,
         config: &Config,
-        at: Ticks,
-        ep: usize,
-        endpoint: &EndpointConfig,
+        receipt: Receipt,
         head: &CHead,
         bytes: &[u8],
     ) -> Result<(), NoMemory>
         requires config { IsConfig config.now }
-        requires read { IsRead endpoint.now head.now bytes.now }
-        requires endpoint { IsAt config.now.endpoints ep endpoint.now }
-        requires time { IsTime at.0 }
+        requires read { IsRead receipt.endpoint head.now bytes.now }
+        requires endpoint { IsAt config.now.endpoints receipt.ep receipt.endpoint }
+        requires time { IsTime receipt.at.0 }
         ensures { (side : Side) (n : SpecCounter → ℕ) (fs : Items Fragment) (cs : Items SpecControlSection) (ds : Items SpecUserSection)
             → PlainHolds self.old side config.now n fs cs ds
-            → OnOk result (PlainHolds self.new side config.now n fs (onto cs (commands_with ep endpoint.now at.0 head.now (sections_in head.now bytes.now))) ds) }
+            → OnOk result (PlainHolds self.new side config.now n fs (onto cs (commands_with receipt.ep receipt.endpoint receipt.at.0 head.now (sections_in head.now bytes.now))) ds) }
     {
-        let commands = commands(alloc, at, ep, endpoint, head, bytes)?;
+        let Receipt { at, ep, endpoint } = receipt;
+        let commands = commands(alloc, at, ep, &endpoint, head, bytes)?;
         for c in &commands {
             self.command_section(config, c)?;
         }
@@ -231,28 +239,27 @@ impl Plain {
         alloc: Global,
         side: Side,
         config: &Config,
-        at: Ticks,
-        ep: usize,
-        endpoint: &EndpointConfig,
+        receipt: Receipt,
         seq: SeqField,
         bytes: &[u8],
     ) -> Result<(), NoMemory>
         requires config { IsConfig config.now }
         requires unit { PlainHoldsSome self.old side config.now }
-        requires endpoint { IsAt config.now.endpoints ep endpoint.now }
-        requires time { IsTime at.0 }
+        requires endpoint { IsAt config.now.endpoints receipt.ep receipt.endpoint }
+        requires time { IsTime receipt.at.0 }
         requires sub { seq.sub < 128 }
         ensures { (n : SpecCounter → ℕ) (fs : Items Fragment) (cs : Items SpecControlSection) (ds : Items SpecUserSection)
             → PlainHolds self.old side config.now n fs cs ds
-            → let f = fragment_with ep at.0 seq bytes.now in
+            → let f = fragment_with receipt.ep receipt.at.0 seq bytes.now in
             let hold = hold_of side config.now.delays in
-            let told = data_now side hold endpoint.now f fs in
+            let told = data_now side hold receipt.endpoint f fs in
             OnOk result (PlainHolds self.new side config.now (λ k. n k + times (piece_counted hold f fs told) k) (f ∷ fs) cs (data_told told ++ ds)) }
     {
+        let Receipt { at, ep, endpoint } = receipt;
         let (verdict, whole) = take(alloc, &mut self.assembly, ep, at, seq, bytes)?;
         self.count(fragment_counter(verdict));
         match whole {
-            Some(message) => self.whole(alloc, side, config, ep, endpoint, &message),
+            Some(message) => self.whole(alloc, side, config, ep, &endpoint, &message),
             None => Ok(()),
         }
     }
@@ -284,13 +291,20 @@ impl Plain {
                 endpoint,
                 head,
                 bytes,
-            } => self.command_sections(alloc, config, at, ep, &endpoint, &head, bytes),
+            } => self.command_sections(alloc, config, Receipt { at, ep, endpoint }, &head, bytes),
             Met::Piece {
                 ep,
                 endpoint,
                 seq,
                 bytes,
-            } => self.piece(alloc, side, config, at, ep, &endpoint, seq, bytes),
+            } => self.piece(
+                alloc,
+                side,
+                config,
+                Receipt { at, ep, endpoint },
+                seq,
+                bytes,
+            ),
         }
     }
 

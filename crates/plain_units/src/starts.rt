@@ -95,31 +95,39 @@ fn slot_at(first: Slot, slot: u8) -> Slot
     Slot { slot, ..first }
 }
 
-/// Appends a symbol if it starts at a tick and something is claimed in it.
+/// What is looked for: the symbols of an endpoint that start at a tick, and in which one of these claims something in one direction.
+#[derive(Clone, Copy)]
+struct Sought<'a> {
+    accepted: &'a [Allocation],
+    /// Whether it is the downlink.
+    down: bool,
+    /// The endpoint's index.
+    ep: usize,
+    endpoint: &'a EndpointConfig,
+    start: Ticks,
+}
+
+/// Appends a symbol if it is looked for.
 fn push_symbol(
     found: &mut Vec<SymbolStart>,
-    accepted: &[Allocation],
-    down: bool,
-    ep: usize,
-    endpoint: &EndpointConfig,
-    s: Ticks,
+    sought: &Sought<'_>,
     slot: Slot,
     symbol: u8,
 ) -> Result<(), NoMemory>
-    requires slot { IsSlot endpoint.now.numerology slot }
-    requires symbol { symbol < symbols_of endpoint.now.numerology }
-    ensures { OnOk result (found.new.items ≡ found.old.items ++ of_symbol (claimed_start accepted.now down ep endpoint.now) endpoint.now s.0 slot symbol) }
+    requires slot { IsSlot sought.now.endpoint.now.numerology slot }
+    requires symbol { symbol < symbols_of sought.now.endpoint.now.numerology }
+    ensures { OnOk result (found.new.items ≡ found.old.items ++ of_symbol (claimed_start sought.now.accepted.now sought.now.down sought.now.ep sought.now.endpoint.now) sought.now.endpoint.now sought.now.start.0 slot symbol) }
 {
-    let start = air(&endpoint.numerology, slot, symbol);
-    if start.0 != s.0 {
+    let start = air(&sought.endpoint.numerology, slot, symbol);
+    if start.0 != sought.start.0 {
         return Ok(());
     }
-    if !is_claimed_in(accepted, ep, down, slot, symbol) {
+    if !is_claimed_in(sought.accepted, sought.ep, sought.down, slot, symbol) {
         return Ok(());
     }
     found.push(SymbolStart {
-        ep,
-        endpoint: *endpoint,
+        ep: sought.ep,
+        endpoint: *sought.endpoint,
         start,
         slot,
         symbol,
@@ -128,21 +136,13 @@ fn push_symbol(
 }
 
 /// The same for the symbols of a slot.
-fn push_slot(
-    found: &mut Vec<SymbolStart>,
-    accepted: &[Allocation],
-    down: bool,
-    ep: usize,
-    endpoint: &EndpointConfig,
-    s: Ticks,
-    slot: Slot,
-) -> Result<(), NoMemory>
-    requires { IsSlot endpoint.now.numerology slot }
-    ensures { OnOk result (found.new.items ≡ found.old.items ++ of_slot (claimed_start accepted.now down ep endpoint.now) endpoint.now s.0 slot) }
+fn push_slot(found: &mut Vec<SymbolStart>, sought: &Sought<'_>, slot: Slot) -> Result<(), NoMemory>
+    requires { IsSlot sought.now.endpoint.now.numerology slot }
+    ensures { OnOk result (found.new.items ≡ found.old.items ++ of_slot (claimed_start sought.now.accepted.now sought.now.down sought.now.ep sought.now.endpoint.now) sought.now.endpoint.now sought.now.start.0 slot) }
 {
-    let shape = shape(&endpoint.numerology);
+    let shape = shape(&sought.endpoint.numerology);
     for symbol in 0..shape.symbols {
-        push_symbol(found, accepted, down, ep, endpoint, s, slot, symbol)?;
+        push_symbol(found, sought, slot, symbol)?;
     }
     Ok(())
 }
@@ -150,21 +150,17 @@ fn push_slot(
 /// The same for the slots of a subframe, whose first slot is given.
 fn push_subframe(
     found: &mut Vec<SymbolStart>,
-    accepted: &[Allocation],
-    down: bool,
-    ep: usize,
-    endpoint: &EndpointConfig,
-    s: Ticks,
+    sought: &Sought<'_>,
     first: Slot,
 ) -> Result<(), NoMemory>
     requires low { neg_ℤ (pos 1000000) ≤ℤ first.frame }
     requires high { first.frame ≤ℤ pos 1000000 }
     requires subframe { first.subframe < 10 }
-    ensures { OnOk result (found.new.items ≡ found.old.items ++ of_subframe (claimed_start accepted.now down ep endpoint.now) endpoint.now s.0 first.frame first.subframe) }
+    ensures { OnOk result (found.new.items ≡ found.old.items ++ of_subframe (claimed_start sought.now.accepted.now sought.now.down sought.now.ep sought.now.endpoint.now) sought.now.endpoint.now sought.now.start.0 first.frame first.subframe) }
 {
-    let shape = shape(&endpoint.numerology);
+    let shape = shape(&sought.endpoint.numerology);
     for slot in 0..shape.slots {
-        push_slot(found, accepted, down, ep, endpoint, s, slot_at(first, slot))?;
+        push_slot(found, sought, slot_at(first, slot))?;
     }
     Ok(())
 }
@@ -172,27 +168,15 @@ fn push_subframe(
 /// The same for the subframes of a frame, whose first slot is given.
 fn push_frame(
     found: &mut Vec<SymbolStart>,
-    accepted: &[Allocation],
-    down: bool,
-    ep: usize,
-    endpoint: &EndpointConfig,
-    s: Ticks,
+    sought: &Sought<'_>,
     first: Slot,
 ) -> Result<(), NoMemory>
     requires low { neg_ℤ (pos 1000000) ≤ℤ first.frame }
     requires high { first.frame ≤ℤ pos 1000000 }
-    ensures { OnOk result (found.new.items ≡ found.old.items ++ of_frame (claimed_start accepted.now down ep endpoint.now) endpoint.now s.0 first.frame) }
+    ensures { OnOk result (found.new.items ≡ found.old.items ++ of_frame (claimed_start sought.now.accepted.now sought.now.down sought.now.ep sought.now.endpoint.now) sought.now.endpoint.now sought.now.start.0 first.frame) }
 {
     for subframe in 0..10 {
-        push_subframe(
-            found,
-            accepted,
-            down,
-            ep,
-            endpoint,
-            s,
-            subframe_at(first, subframe),
-        )?;
+        push_subframe(found, sought, subframe_at(first, subframe))?;
     }
     Ok(())
 }
@@ -200,38 +184,27 @@ fn push_frame(
 /// The same for a frame, which is passed over if no allocation is of it.
 fn push_named_frame(
     found: &mut Vec<SymbolStart>,
-    accepted: &[Allocation],
-    down: bool,
-    ep: usize,
-    endpoint: &EndpointConfig,
-    s: Ticks,
+    sought: &Sought<'_>,
     first: Slot,
 ) -> Result<(), NoMemory>
     requires low { neg_ℤ (pos 1000000) ≤ℤ first.frame }
     requires high { first.frame ≤ℤ pos 1000000 }
-    ensures { OnOk result (found.new.items ≡ found.old.items ++ of_frame (claimed_start accepted.now down ep endpoint.now) endpoint.now s.0 first.frame) }
+    ensures { OnOk result (found.new.items ≡ found.old.items ++ of_frame (claimed_start sought.now.accepted.now sought.now.down sought.now.ep sought.now.endpoint.now) sought.now.endpoint.now sought.now.start.0 first.frame) }
 {
-    if !names_frame(accepted, ep, first) {
+    if !names_frame(sought.accepted, sought.ep, first) {
         return Ok(());
     }
-    push_frame(found, accepted, down, ep, endpoint, s, first)
+    push_frame(found, sought, first)
 }
 
 /// The same for all symbols of an endpoint.
-fn push_endpoint(
-    found: &mut Vec<SymbolStart>,
-    accepted: &[Allocation],
-    down: bool,
-    ep: usize,
-    endpoint: &EndpointConfig,
-    s: Ticks,
-) -> Result<(), NoMemory>
-    requires low { neg_ℤ (pos (2 ^ 53)) ≤ℤ s.0 }
-    requires high { s.0 ≤ℤ pos (2 ^ 53) }
-    ensures { OnOk result (found.new.items ≡ found.old.items ++ of_endpoint (claimed_start accepted.now down ep endpoint.now) endpoint.now s.0) }
+fn push_endpoint(found: &mut Vec<SymbolStart>, sought: &Sought<'_>) -> Result<(), NoMemory>
+    requires low { neg_ℤ (pos (2 ^ 53)) ≤ℤ sought.now.start.0 }
+    requires high { sought.now.start.0 ≤ℤ pos (2 ^ 53) }
+    ensures { OnOk result (found.new.items ≡ found.old.items ++ of_endpoint (claimed_start sought.now.accepted.now sought.now.down sought.now.ep sought.now.endpoint.now) sought.now.endpoint.now sought.now.start.0) }
 {
     for k in 0..FRAMES {
-        push_named_frame(found, accepted, down, ep, endpoint, s, frame_at(s, k))?;
+        push_named_frame(found, sought, frame_at(sought.start, k))?;
     }
     Ok(())
 }
@@ -249,7 +222,14 @@ fn push_tick(
     ensures { OnOk result (found.new.items ≡ found.old.items ++ at_tick (claimed_start accepted.now down) endpoints.now s.0) }
 {
     for ep in 0..endpoints.len() {
-        push_endpoint(found, accepted, down, ep, &endpoints[ep], s)?;
+        let sought = Sought {
+            accepted,
+            down,
+            ep,
+            endpoint: &endpoints[ep],
+            start: s,
+        };
+        push_endpoint(found, &sought)?;
     }
     Ok(())
 }

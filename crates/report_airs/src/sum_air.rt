@@ -45,10 +45,8 @@ impl<'a, K: Sink> SumAir<'a, K> {
         ensures owed { IfOk result (λ a. owed_of a ≡ []) }
         ensures sums { IfOk result (λ a. sums_of a ≡ sum_start) }
     {
-        match Sums::make(alloc) {
-            Ok(sums) => Ok(SumAir::over(sums, sink)),
-            Err(NoMemory) => Err(NoMemory),
-        }
+        let sums = Sums::make(alloc)?;
+        Ok(SumAir::over(sums, sink))
     }
 
     /// An air that heard what these sums tell, wrote nothing and owes nothing. This takes no memory.

@@ -240,8 +240,12 @@ used_upto s y few is (suc n) within =
 pub without_each : (a b re : ℕ) → b < 2 ^ 16 → in_mask (bit_and (bit_and a (65535 - b)) 4095) re ≡ (in_mask a re && not (in_mask b re))
 without_each a b re fits = in_twelve (bit_and a (65535 - b)) re ∙ in_both a (65535 - b) re ∙ ap (λ c. in_mask a re && c) (in_other b re fits)
 
-pub used_is : (s : CellClaims) (y : ℕ) → y < 2 ^ 12 → ((re : ℕ) → in_mask y re ≡ (in_mask s.claimed re && not (in_mask s.idle re))) → y ≡ used_mask (claim_in s)
-used_is s y few each = sym (used_upto s y few (λ re below. used_one (in_mask s.claimed re) (in_mask s.idle re) s.id ∙ sym (each re)) 12 (omega arith) ∙ omega arith)
+pub used_is : (s : CellClaims) → s.idle < 2 ^ 16 → bit_and (bit_and s.claimed (65535 - s.idle)) 4095 ≡ used_mask (claim_in s)
+used_is s fits =
+    let in_use = bit_and (bit_and s.claimed (65535 - s.idle)) 4095 in
+    let each : (re : ℕ) → in_mask in_use re ≡ (in_mask s.claimed re && not (in_mask s.idle re)) = λ re. without_each s.claimed s.idle re fits in
+    sym (used_upto s in_use (omega (arith, and_le_r (bit_and s.claimed (65535 - s.idle)) 4095)) (λ re below. used_one (in_mask s.claimed re) (in_mask s.idle re) s.id ∙ sym (each re)) 12 (omega arith)
+    ∙ omega arith)
 
 id_upto : (s : CellClaims) (from n : ℕ) → id_from (claim_in s) from n ≡ (let i : ℕ = if some from n (λ re. in_mask s.claimed re) then s.id else 0 in i)
 unfolding id_from some

@@ -1,17 +1,9 @@
 // The claims of one cell.
-ghost use Rattle.std.specs.Prelude.{◌≡◌, ℕ, ◌<◌, ◌^◌, ◌&&◌, not, false, if◌then◌else◌, Some};
+ghost use Rattle.std.specs.Prelude.{◌≡◌, ℕ, ◌<◌, false, if◌then◌else◌, Some};
 ghost use Rattle.unit_model.specs.Claims.{in_mask};
 
 /// The bits of all 12 elements.
 const ALL: u16 = 0xFFF;
-
-/// The elements of a mask that another one does not have.
-fn without(mask: u16, gone: u16) -> u16
-    ensures small { result < 2 ^ 12 }
-    ensures each { (re : ℕ) → in_mask result re ≡ (in_mask mask re && not (in_mask gone re)) }
-{
-    mask & !gone & ALL
-}
 
 /// The claimed elements of a cell, all under one section id, and whether the cell was reported.
 #[derive(Clone, Copy, Debug, PartialEq, Eq)]
@@ -83,7 +75,7 @@ impl CellClaims {
     pub(crate) fn used(self) -> u16
         ensures { result ≡ used_mask (claim_in self) }
     {
-        without(self.claimed, self.idle)
+        self.claimed & !self.idle & ALL
     }
 
     /// The section id of the claims, 0 where there are none.

@@ -14,7 +14,7 @@ use crate::claims::{CellClaims, NONE};
 use crate::lists::{put_all, reach};
 use crate::rows::{Row, note, row_at};
 use crate::written::{Spans, is_unwritten, widen};
-use fh_base::SLOT_SYMBOLS;
+use fh_base::{SLOT_SYMBOLS, is_outside};
 use unit_model::{Allocation, CommandVerdict, SLOT_SECTIONS};
 
 /// The first PRB that an allocation covers.
@@ -29,13 +29,6 @@ pub(crate) fn prb_count(a: &Allocation) -> usize
     ensures { result ≡ prb_count a.now }
 {
     a.prbs().count as usize
-}
-
-/// Whether it goes past its carrier.
-fn is_outside(a: &Allocation) -> bool
-    ensures { result ≡ is_outside a.now.endpoint.prbs a.now.start_prb a.now.num_prb }
-{
-    fh_base::is_outside(a.start_prb, a.num_prb, a.endpoint.prbs)
 }
 
 /// Whether the radio unit sends data for it.
@@ -154,7 +147,7 @@ pub(crate) fn verdict(
     requires some { 0 < a.now.endpoint.prbs }
     ensures { result ≡ verdict_by (claims_in a.now.endpoint.prbs claims.now) uplinks a.now }
 {
-    if is_outside(a) {
+    if is_outside(a.start_prb, a.num_prb, a.endpoint.prbs) {
         CommandVerdict::Range
     } else if repeats(claims, rows, a) {
         CommandVerdict::Repeat

@@ -78,16 +78,6 @@ fn same_slot(a: Slot, b: Slot) -> bool
     a.frame == b.frame && a.subframe == b.subframe && a.slot == b.slot
 }
 
-/// Whether a slot is the owner.
-fn is_of(owner: Option<Slot>, slot: Slot) -> bool
-    ensures { result ≡ is_place_of owner slot }
-{
-    match owner {
-        None => false,
-        Some(s) => same_slot(s, slot),
-    }
-}
-
 /// Appends an accepted section, where it is one for which the radio unit sends data.
 fn keep(uplink: &mut Vec<Allocation>, a: &Allocation)
     requires room { SLOT_SECTIONS ≤ vec_capacity uplink.old }
@@ -177,7 +167,10 @@ impl Place {
     pub(crate) fn has(&self, slot: Slot) -> bool
         ensures { result ≡ is_place_of self.now.slot slot }
     {
-        is_of(self.slot, slot)
+        match self.slot {
+            None => false,
+            Some(s) => same_slot(s, slot),
+        }
     }
 
     /// Whose slot it is.

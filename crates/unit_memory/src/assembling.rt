@@ -26,35 +26,51 @@ use unit_cells::UnitCells;
 use unit_model::Listener;
 use window_config::EndpointConfig;
 
-/// Takes a fragment to an endpoint, and treats the message that it makes whole, if it does.
+/// A fragment that is received for an endpoint.
+#[derive(Clone, Copy)]
+pub(crate) struct ReceivedFragment<'a> {
+    /// When it is received.
+    pub at: Ticks,
+    /// The endpoint's index.
+    pub ep: usize,
+    pub endpoint: &'a EndpointConfig,
+    pub seq: SeqField,
+    /// What it has of its message.
+    pub bytes: &'a [u8],
+}
+
+/// Takes a fragment to its endpoint, and treats the message that it makes whole, if it does.
 pub(crate) fn assemble<L: Listener>(
     assembly: &mut Assembly,
     cells: &mut UnitCells,
     counters: &mut Counters,
     listener: &mut L,
-    at: Ticks,
-    ep: usize,
-    endpoint: &EndpointConfig,
-    seq: SeqField,
-    bytes: &[u8],
+    received: &ReceivedFragment<'_>,
 ) -> Verdict
-    requires fragments { CameSome at.0 assembly.old }
-    requires place { ep < places_of assembly.old }
-    requires endpoint { IsAt (endpoints_of cells.old) ep endpoint.now }
-    requires width { HasWidth endpoint.now.format.method }
-    requires time { IsTime at.0 }
-    requires sub { seq.sub < 128 }
-    ensures took { Took assembly.old assembly.new (fragment ep at seq bytes.now) }
-    ensures verdict { (fs : List Fragment) → StandsFor assembly.old fs → result ≡ verdict_on (hold_of assembly.old) (fragment ep at seq bytes.now) fs }
+    requires fragments { CameSome received.now.at.0 assembly.old }
+    requires place { received.now.ep < places_of assembly.old }
+    requires endpoint { IsAt (endpoints_of cells.old) received.now.ep received.now.endpoint.now }
+    requires width { HasWidth received.now.endpoint.now.format.method }
+    requires time { IsTime received.now.at.0 }
+    requires sub { received.now.seq.sub < 128 }
+    ensures took { Took assembly.old assembly.new (fragment received.now.ep received.now.at received.now.seq received.now.bytes.now) }
+    ensures verdict { (fs : List Fragment) → StandsFor assembly.old fs → result ≡ verdict_on (hold_of assembly.old) (fragment received.now.ep received.now.at received.now.seq received.now.bytes.now) fs }
     ensures holds { (side : SpecSide) (c : Config) (n : SpecCounter → ℕ) (acc : List Allocation) (fs : List Fragment) (ds : List UserSection)
-        → StandsFor assembly.old fs → HoldsData side c at.0 n acc ds cells.old counters.old
-        → let told = data_now side (hold_of assembly.old) endpoint.now (fragment ep at seq bytes.now) fs in
-        HoldsData side c at.0 (λ k. n k + times (decoded_counted told) k) acc (data_told told ++ ds) cells.new counters.new }
+        → StandsFor assembly.old fs → HoldsData side c received.now.at.0 n acc ds cells.old counters.old
+        → let told = data_now side (hold_of assembly.old) received.now.endpoint.now (fragment received.now.ep received.now.at received.now.seq received.now.bytes.now) fs in
+        HoldsData side c received.now.at.0 (λ k. n k + times (decoded_counted told) k) acc (data_told told ++ ds) cells.new counters.new }
     ensures told { (side : SpecSide) (c : Config) (n : SpecCounter → ℕ) (acc : List Allocation) (fs : List Fragment) (ds : List UserSection)
-        → StandsFor assembly.old fs → HoldsData side c at.0 n acc ds cells.old counters.old
-        → L.heard listener.old (judged_piece side c.delays (hold_of assembly.old) endpoint.now (fragment ep at seq bytes.now) fs ds) listener.new }
-    ensures reports { LeavesReported at.0 cells.old cells.new }
+        → StandsFor assembly.old fs → HoldsData side c received.now.at.0 n acc ds cells.old counters.old
+        → L.heard listener.old (judged_piece side c.delays (hold_of assembly.old) received.now.endpoint.now (fragment received.now.ep received.now.at received.now.seq received.now.bytes.now) fs ds) listener.new }
+    ensures reports { LeavesReported received.now.at.0 cells.old cells.new }
 {
+    let ReceivedFragment {
+        at,
+        ep,
+        endpoint,
+        seq,
+        bytes,
+    } = *received;
     match assembly.take(ep, at, seq, bytes) {
         Taken::Stored => {
             listener.fragment(at, ep, endpoint, seq, bytes, Verdict::Stored);

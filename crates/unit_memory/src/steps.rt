@@ -22,10 +22,9 @@ ghost use Rattle.unit_model.specs.Commands.{accepted, command_verdict};
 ghost use Rattle.unit_model.specs.Judgements.{Commanded, judged_commands, judged_message, judged_piece};
 
 use crate::UnitMemory;
-use crate::assembling::assemble;
+use crate::assembling::{ReceivedFragment, assemble};
 use air_source::Side;
 use cplane_sections::{CHead, sections};
-use ecpri_fragments::SeqField;
 use ecpri_frames::{PduRefusal, WholeMessage};
 use fault_counters::Counter;
 use fh_base::Ticks;
@@ -108,40 +107,28 @@ impl UnitMemory {
     }
 
     /// Treats a fragment.
-    fn piece<L: Listener>(
-        &mut self,
-        listener: &mut L,
-        at: Ticks,
-        ep: usize,
-        endpoint: &EndpointConfig,
-        seq: SeqField,
-        bytes: &[u8],
-    )
-        requires unit { HoldsSomeParts at.0 self.old }
-        requires endpoint { IsAt (endpoints_of self.old.cells) ep endpoint.now }
-        requires time { IsTime at.0 }
-        requires sub { seq.sub < 128 }
+    fn piece<L: Listener>(&mut self, listener: &mut L, received: &ReceivedFragment<'_>)
+        requires unit { HoldsSomeParts received.now.at.0 self.old }
+        requires endpoint { IsAt (endpoints_of self.old.cells) received.now.ep received.now.endpoint.now }
+        requires time { IsTime received.now.at.0 }
+        requires sub { received.now.seq.sub < 128 }
         ensures holds { (side : SpecSide) (c : Config) (n : SpecCounter → ℕ) (fs : List Fragment) (cs : List SpecControlSection) (ds : List UserSection)
-            → HoldsParts side c at.0 self.old n fs cs ds
-            → let f = fragment_with ep at.0 seq bytes.now in
+            → HoldsParts side c received.now.at.0 self.old n fs cs ds
+            → let f = fragment_with received.now.ep received.now.at.0 received.now.seq received.now.bytes.now in
             let hold = hold_of side c.delays in
-            let told = data_now side hold endpoint.now f fs in
-            HoldsParts side c at.0 self.new (λ k. n k + times (piece_counted hold f fs told) k) (f ∷ fs) cs (data_told told ++ ds) }
+            let told = data_now side hold received.now.endpoint.now f fs in
+            HoldsParts side c received.now.at.0 self.new (λ k. n k + times (piece_counted hold f fs told) k) (f ∷ fs) cs (data_told told ++ ds) }
         ensures told { (side : SpecSide) (c : Config) (n : SpecCounter → ℕ) (fs : List Fragment) (cs : List SpecControlSection) (ds : List UserSection)
-            → HoldsParts side c at.0 self.old n fs cs ds
-            → L.heard listener.old (judged_piece side c.delays (hold_of side c.delays) endpoint.now (fragment_with ep at.0 seq bytes.now) fs ds) listener.new }
-        ensures reports { LeavesReported at.0 self.old.cells self.new.cells }
+            → HoldsParts side c received.now.at.0 self.old n fs cs ds
+            → L.heard listener.old (judged_piece side c.delays (hold_of side c.delays) received.now.endpoint.now (fragment_with received.now.ep received.now.at.0 received.now.seq received.now.bytes.now) fs ds) listener.new }
+        ensures reports { LeavesReported received.now.at.0 self.old.cells self.new.cells }
     {
         let verdict = assemble(
             &mut self.assembly,
             &mut self.cells,
             &mut self.counters,
             listener,
-            at,
-            ep,
-            endpoint,
-            seq,
-            bytes,
+            received,
         );
         self.count(fragment_counter(verdict));
     }
@@ -178,7 +165,16 @@ impl UnitMemory {
                 endpoint,
                 seq,
                 bytes,
-            } => self.piece(listener, at, ep, &endpoint, seq, bytes),
+            } => self.piece(
+                listener,
+                &ReceivedFragment {
+                    at,
+                    ep,
+                    endpoint: &endpoint,
+                    seq,
+                    bytes,
+                },
+            ),
         }
     }
 }

@@ -69,31 +69,44 @@ fn write_piece<F: Fn(RePlace) -> Wide>(
     piece(id, seq, &data, &source, span, into)
 }
 
+/// A message that is complete, with what its frames go by.
+#[derive(Clone, Copy)]
+pub(crate) struct NumberedMessage<'a> {
+    pub message: &'a Pending,
+    /// Its sequence id.
+    pub number: u8,
+    /// How long its first frame waits after the first frame of its symbol.
+    pub wait: u64,
+}
+
 /// Hands over the frames of a message, and answers how long the next frame of its symbol waits then.
 pub(crate) fn send_message<F: Fn(RePlace) -> Wide, L: Link>(
     rules: &Rules,
     endpoint: &EndpointConfig,
     antenna: &Samples<F>,
-    message: &Pending,
-    number: u8,
-    wait: u64,
+    numbered: &NumberedMessage<'_>,
     buffer: &mut [u8],
     link: &mut L,
 ) -> Result<u64, NoMemory>
     requires kept { IsKept F.pre F.post antenna.now }
-    requires sendable { CanBeSent rules.now endpoint.now message.now }
-    requires wait { wait ≤ rules.now.departures.spread }
+    requires sendable { CanBeSent rules.now endpoint.now numbered.now.message.now }
+    requires wait { numbered.now.wait ≤ rules.now.departures.spread }
     requires room { 8 + rules.now.fragment ≤ length buffer.old }
     ensures len { length buffer.new ≡ length buffer.old }
     ensures sent { (c : SpecConfig) (answer : Antenna) (m : Message SpecJob) (n before : ℕ) → AnswersBy (F.post (closure_of antenna.now)) answer
-        → IsBehind c rules.now message.now number wait m n before
+        → IsBehind c rules.now numbered.now.message.now numbered.now.number numbered.now.wait m n before
         → OnOk result (L.sent link.new ≡ L.sent link.old ++ uplink_frames_from c answer endpoint.now m n before 0 (frame_count c m)) }
-    ensures wait { (c : SpecConfig) (m : Message SpecJob) (n before : ℕ) → IsBehind c rules.now message.now number wait m n before
+    ensures wait { (c : SpecConfig) (m : Message SpecJob) (n before : ℕ) → IsBehind c rules.now numbered.now.message.now numbered.now.number numbered.now.wait m n before
         → IfOk result (λ w. w ≡ wait_behind c (before + frame_count c m)) }
     ensures err { (c : SpecConfig) (answer : Antenna) (m : Message SpecJob) (n before : ℕ) → AnswersBy (F.post (closure_of antenna.now)) answer
-        → IsBehind c rules.now message.now number wait m n before
+        → IsBehind c rules.now numbered.now.message.now numbered.now.number numbered.now.wait m n before
         → OnErr result (SentSome (uplink_frames_from c answer endpoint.now m n before 0 (frame_count c m)) (L.sent link.old) (L.sent link.new)) }
 {
+    let NumberedMessage {
+        message,
+        number,
+        wait,
+    } = *numbered;
     let count = frame_count(rules.fragment, message.size.bytes);
     let mut next = wait;
     for sub in 0..count {

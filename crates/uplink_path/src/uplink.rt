@@ -16,7 +16,7 @@ ghost use Rattle.ru_buffers.specs.Calls.{HasGivenPast, StandsFor};
 
 use crate::pending::Pending;
 use crate::rules::{Rules, Run, rules_of, wait_in};
-use crate::sending::send_message;
+use crate::sending::{NumberedMessage, send_message};
 use air_source::{Link, RePlace, Samples};
 use bfp_codec::Wide;
 use fh_base::NoMemory;
@@ -87,9 +87,11 @@ impl<F: Fn(RePlace) -> Wide> Uplink<F> {
             &self.rules,
             &endpoint,
             &self.antenna,
-            message,
-            number,
-            wait,
+            &NumberedMessage {
+                message,
+                number,
+                wait,
+            },
             self.buffer.as_mut_slice(),
             link,
         )?;

@@ -1,12 +1,12 @@
 -- Sections that pass the test are proper.
-use Rattle.std.proofs.Common.{◌≡◌, ◌<◌, ◌≤ℤ◌, ℕ, pos, Bool, true, List, [], ◌∷◌, Option, Some, refl, sym, ap, ◌∙◌}
-use Rattle.std.specs.Prelude.{neg_ℤ, int_le, nat_lt, slice_get}
+use Rattle.std.proofs.Common.{◌≡◌, ◌<◌, pos, true, List, [], ◌∷◌, Option, Some, sym, ap, ◌∙◌}
+use Rattle.std.specs.Prelude.{neg_ℤ, int_le, nat_lt}
 use Rattle.std.specs.List.{AllByRecursion, list_all}
 use Rattle.std.proofs.lemmas.Bool.{and_parts, ltb-true}
 use Rattle.fh_base.proofs.Orders.{le_true}
 use Rattle.fh_base.specs.Numbering.{slots_of, symbols_of}
 use Rattle.explain_model.specs.declared.data.DataRecord.{DataRecord}
-use Rattle.unit_model.specs.Proper.{IsAt, IsSlot}
+use Rattle.unit_model.specs.Proper.{IsSlot}
 use Rattle.why_lines.specs.Starts.{IsGivenRecord, is_proper, is_proper_at}
 use Rattle.window_config.specs.declared.endpoints.EndpointConfig.{EndpointConfig}
 

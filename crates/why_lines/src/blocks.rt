@@ -157,10 +157,7 @@ fn put_blocks<W: LineSink>(
     ensures cause { HasAirCause (W.faults out.old) (W.faults out.new) result }
 {
     for prb in 0..of.start.endpoint.prbs {
-        match put_block(of, given, cells, prb, lines, out) {
-            Ok(()) => {}
-            Err(fault) => return Err(fault),
-        }
+        put_block(of, given, cells, prb, lines, out)?;
     }
     Ok(())
 }
@@ -178,8 +175,6 @@ pub(crate) fn tell_symbol<W: LineSink>(
     ensures cause { HasAirCause (W.faults out.old) (W.faults out.new) result }
 {
     let mut lines = LineRuns::new();
-    match put_blocks(of, given, cells, &mut lines, out) {
-        Ok(()) => lines.finish(out),
-        Err(fault) => Err(fault),
-    }
+    put_blocks(of, given, cells, &mut lines, out)?;
+    lines.finish(out)
 }

@@ -74,10 +74,7 @@ fn put_symbol<W: LineSink>(
 {
     let prbs = of.planned.prbs();
     for prb in prbs.first..prbs.first + prbs.count {
-        match put_prb(of, commanded, cells, prb, lines, out) {
-            Ok(()) => {}
-            Err(fault) => return Err(fault),
-        }
+        put_prb(of, commanded, cells, prb, lines, out)?;
     }
     Ok(())
 }
@@ -115,10 +112,7 @@ fn put_line<W: LineSink>(
             slot: p.line.slot,
             symbol,
         };
-        match put_symbol(&of, commanded, cells.of_symbol(key), lines, out) {
-            Ok(()) => {}
-            Err(fault) => return Err(fault),
-        }
+        put_symbol(&of, commanded, cells.of_symbol(key), lines, out)?;
     }
     Ok(())
 }
@@ -173,10 +167,7 @@ fn put_lines<W: LineSink>(
     ensures cause { HasAirCause (W.faults out.old) (W.faults out.new) result }
 {
     for p in planned {
-        match put_planned(kept, cells, p, numbers, lines, out) {
-            Ok(()) => {}
-            Err(fault) => return Err(fault),
-        }
+        put_planned(kept, cells, p, numbers, lines, out)?;
     }
     Ok(())
 }
@@ -198,8 +189,6 @@ pub fn tell_silent<W: LineSink>(
     ensures cause { HasAirCause (W.faults out.old) (W.faults out.new) result }
 {
     let mut lines = LineRuns::new();
-    match put_lines(kept, cells, planned, numbers, &mut lines, out) {
-        Ok(()) => lines.finish(out),
-        Err(fault) => Err(fault),
-    }
+    put_lines(kept, cells, planned, numbers, &mut lines, out)?;
+    lines.finish(out)
 }

@@ -45,10 +45,7 @@ fn tell_all<W: LineSink>(all: &[UnitSums], side: Side, out: &mut W) -> Result<()
     ensures cause { HasAirCause (W.faults out.old) (W.faults out.new) result }
 {
     for sums in all {
-        match sums.tell_at(side, out) {
-            Ok(()) => {}
-            Err(fault) => return Err(fault),
-        }
+        sums.tell_at(side, out)?;
     }
     Ok(())
 }
@@ -116,9 +113,6 @@ impl ReasonSums {
         ensures same { W.same out.old out.new }
         ensures cause { HasAirCause (W.faults out.old) (W.faults out.new) result }
     {
-        match tell_all(self.all.as_slice(), side, out) {
-            Ok(()) => Ok(()),
-            Err(fault) => Err(fault),
-        }
+        tell_all(self.all.as_slice(), side, out)
     }
 }

@@ -50,10 +50,7 @@ fn tell_symbols<W: LineSink>(
     ensures cause { HasAirCause (W.faults out.old) (W.faults out.new) result }
 {
     for start in symbols {
-        match tell_start(kept, cells, side, start, out) {
-            Ok(()) => {}
-            Err(fault) => return Err(fault),
-        }
+        tell_start(kept, cells, side, start, out)?;
     }
     Ok(())
 }
@@ -71,10 +68,8 @@ fn tell_units<W: LineSink>(
     ensures same { W.same out.old out.new }
     ensures cause { HasAirCause (W.faults out.old) (W.faults out.new) result }
 {
-    match tell_symbols(kept, cells, Side::Ru, radio, out) {
-        Ok(()) => tell_symbols(kept, cells, Side::Du, distributed, out),
-        Err(fault) => Err(fault),
-    }
+    tell_symbols(kept, cells, Side::Ru, radio, out)?;
+    tell_symbols(kept, cells, Side::Du, distributed, out)
 }
 
 /// Tells the blocks that were taken and that no cell shows: first those of the radio unit, at a unit symbol by symbol in the order in
@@ -95,16 +90,7 @@ pub fn tell_unused<W: LineSink>(
     ensures cause { HasAirCause (W.faults out.old) (W.faults out.new) result }
 {
     let given = kept.given();
-    let radio = match symbols_given(alloc, endpoints, Side::Ru, given) {
-        Ok(radio) => radio,
-        Err(fault) => return Err(AirFault::from(fault)),
-    };
-    let distributed = match symbols_given(alloc, endpoints, Side::Du, given) {
-        Ok(distributed) => distributed,
-        Err(fault) => return Err(AirFault::from(fault)),
-    };
-    match tell_units(kept, cells, radio.as_slice(), distributed.as_slice(), out) {
-        Ok(()) => Ok(()),
-        Err(fault) => Err(fault),
-    }
+    let radio = symbols_given(alloc, endpoints, Side::Ru, given)?;
+    let distributed = symbols_given(alloc, endpoints, Side::Du, given)?;
+    tell_units(kept, cells, radio.as_slice(), distributed.as_slice(), out)
 }

@@ -123,10 +123,7 @@ impl UnitSums {
         ensures cause { HasAirCause (W.faults out.old) (W.faults out.new) result }
     {
         for word in SumWord::told() {
-            match self.tell_word(word, out) {
-                Ok(()) => {}
-                Err(fault) => return Err(fault),
-            }
+            self.tell_word(word, out)?;
         }
         Ok(())
     }

@@ -7,13 +7,13 @@ pub returns-clause-passed : goal.returns-clause-passed
 returns-clause-passed c = record {
   shape = c.args.shape;
   symbols = omega arith;
-  is = check_passes c.args.shape c.in-Ok.head c.args.bytes.now c.in-Ok-walk.end (sym c.in-Ok.ensures.value) (sym c.in-Ok-walk.ensures.value) c.if-end-bytes.false;
+  is = check_passes c.args.shape c.in_ok-head.head c.args.bytes.now c.in_ok-end.end (sym c.in_ok-head.ensures.value) (sym c.in_ok-end.ensures.value) c.if-end-bytes.false;
 }
 
 pub returns-clause-admitted : goal.returns-clause-admitted
 returns-clause-admitted c =
-    admitted c.args.shape c.in-Ok.head c.args.bytes.now (check_passes c.args.shape c.in-Ok.head c.args.bytes.now c.in-Ok-walk.end (sym c.in-Ok.ensures.value) (sym c.in-Ok-walk.ensures.value) c.if-end-bytes.false)
+    admitted c.args.shape c.in_ok-head.head c.args.bytes.now (check_passes c.args.shape c.in_ok-head.head c.args.bytes.now c.in_ok-end.end (sym c.in_ok-head.ensures.value) (sym c.in_ok-end.ensures.value) c.if-end-bytes.false)
 
 pub returns-clause-fits : goal.returns-clause-fits
 returns-clause-fits c =
-    fits c.args.shape c.in-Ok.head c.args.bytes.now (check_passes c.args.shape c.in-Ok.head c.args.bytes.now c.in-Ok-walk.end (sym c.in-Ok.ensures.value) (sym c.in-Ok-walk.ensures.value) c.if-end-bytes.false)
+    fits c.args.shape c.in_ok-head.head c.args.bytes.now (check_passes c.args.shape c.in_ok-head.head c.args.bytes.now c.in_ok-end.end (sym c.in_ok-head.ensures.value) (sym c.in_ok-end.ensures.value) c.if-end-bytes.false)

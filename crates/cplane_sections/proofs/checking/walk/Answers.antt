@@ -1,4 +1,5 @@
 use Rattle.std.proofs.Common.{◌≡◌, ℕ, suc, ◌+◌, ◌-◌, ◌<◌, ◌≤◌, List, Result, Ok, Err, refl, sym, ap, ◌∙◌, arith}
+use Rattle.std.proofs.lemmas.Result.{err_from_is_err_and}
 use Rattle.cplane_sections.specs.declared.values.CRefusal.{CRefusal}
 use Rattle.cplane_sections.specs.Tests.{◌>>=◌, symbol_checked, walked}
 use Rattle.cplane_sections.proofs.checking.walk.Goals as goal
@@ -29,15 +30,16 @@ is_done count k size symbols bytes place before total ge so_far =
     let one : walked (count - k) size symbols bytes place before ≡ Ok place = rw left refl in
     sym one ∙ so_far
 
-pub returns-in-Err-clause-value : goal.returns-in-Err-clause-value
-returns-in-Err-clause-value c =
-    ends c.args.head.now.count c.loop-k.k c.section_size-size.result c.args.shape.symbols c.args.bytes.now c.loop-k.place c.loop-k.symbol c.in-Err.refusal _ c.loop-k-test.true (sym c.in-Err.ensures.value) c.loop-k.invariant.rest
+pub returns-in_err-symbol-clause-value : goal.returns-in_err-symbol-clause-value
+returns-in_err-symbol-clause-value c =
+    let e : (y : CRefusal) × (c.from_residual.result ≡ Err y) × (y ≡ _) = err_from_is_err_and c.from_residual.result c.from_residual.ensures.1 in
+    e.1 ∙ ap Err e.2 ∙ ends c.args.head.now.count c.loop-k.k c.section_size-size.result c.args.shape.symbols c.args.bytes.now c.loop-k.place c.loop-k.symbol _ _ c.loop-k-test.true (sym c.in_err-symbol.ensures.value) c.loop-k.invariant.rest
 
 pub loop-k-preserved : goal.loop-k-preserved
 loop-k-preserved c = record {
-  rest = goes_on c.args.head.now.count c.loop-k.k c.section_size-size.result c.args.shape.symbols c.args.bytes.now c.loop-k.place c.loop-k.symbol c.in-Ok.next _ c.loop-k-test.true (sym c.in-Ok.ensures.value) c.loop-k.invariant.rest;
-  place = c.in-Ok.ensures.room;
-  symbol = c.in-Ok.ensures.below;
+  rest = goes_on c.args.head.now.count c.loop-k.k c.section_size-size.result c.args.shape.symbols c.args.bytes.now c.loop-k.place c.loop-k.symbol c.in_ok-symbol.symbol _ c.loop-k-test.true (sym c.in_ok-symbol.ensures.value) c.loop-k.invariant.rest;
+  place = c.in_ok-symbol.ensures.room;
+  symbol = c.in_ok-symbol.ensures.below;
 }
 
 pub returns-clause-value : goal.returns-clause-value

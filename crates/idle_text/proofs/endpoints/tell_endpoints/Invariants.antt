@@ -9,7 +9,7 @@ use Rattle.idle_text.proofs.endpoints.tell_endpoints.Given as goal
 
 abbrev pub invariant-loop-ep : goal.invariant-loop-ep
 invariant-loop-ep g l = record {
-  carried : (config : Config) (first last : ℕ) (cells : List AirCell) → config.endpoints ≡ l.endpoints → Stands l.spans config first last cells
-      → Carried (g.K.Sink.written l.initial.out) l.initial.owed (flat_map (endpoint_text first last cells l.min l.lines) (take l.ep l.endpoints)) (g.K.Sink.written l.out) l.owed;
+  carried : (config : Config) (first last : ℕ) (cells : List AirCell) → config.endpoints ≡ l.endpoints → Stands l.listing.spans.now config first last cells
+      → Carried (g.K.Sink.written l.initial.out) l.initial.owed (flat_map (endpoint_text first last cells l.listing.min l.listing.lines.now) (take l.ep l.endpoints)) (g.K.Sink.written l.out) l.owed;
   still : g.K.Sink.faults l.out ≡ g.K.Sink.faults l.initial.out;
 }

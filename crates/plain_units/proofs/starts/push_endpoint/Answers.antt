@@ -11,17 +11,17 @@ loop-k-init c = none_yet c.args.found.now.items _
 
 pub loop-k-preserved : goal.loop-k-preserved
 loop-k-preserved c =
-    let e = c.args.endpoint.now in
-    let g = claimed_start c.args.accepted.now c.args.down c.args.ep e in
+    let e = c.args.sought.now.endpoint.now in
+    let g = claimed_start c.args.sought.now.accepted.now c.args.sought.now.down c.args.sought.now.ep e in
     one_more c.args.found.now.items c.loop-k.found.items c.push_named_frame.new.found.items c.loop-k.k
-    (λ (k : ℕ). of_frame g e c.args.s.0 (first_swept c.args.s.0 +ℤ pos k))
-    (c.in_ok-push_named_frame.ensures ∙ ap (λ (x : Slot). c.loop-k.found.items ++ of_frame g e c.args.s.0 x.frame) c.frame_at.ensures.value)
+    (λ (k : ℕ). of_frame g e c.args.sought.now.start.0 (first_swept c.args.sought.now.start.0 +ℤ pos k))
+    (c.in_ok-push_named_frame.ensures ∙ ap (λ (x : Slot). c.loop-k.found.items ++ of_frame g e c.args.sought.now.start.0 x.frame) c.frame_at.ensures.value)
     c.loop-k.invariant
 
 pub returns : goal.returns
 unfolding of_endpoint
 returns c =
-    let e = c.args.endpoint.now in
-    let g = claimed_start c.args.accepted.now c.args.down c.args.ep e in
+    let e = c.args.sought.now.endpoint.now in
+    let g = claimed_start c.args.sought.now.accepted.now c.args.sought.now.down c.args.sought.now.ep e in
     let all : c.loop-k.k ≡ 6 = omega arith in
-    c.loop-k.invariant ∙ ap (λ n. c.args.found.now.items ++ each 0 n (λ (k : ℕ). of_frame g e c.args.s.0 (first_swept c.args.s.0 +ℤ pos k))) all
+    c.loop-k.invariant ∙ ap (λ n. c.args.found.now.items ++ each 0 n (λ (k : ℕ). of_frame g e c.args.sought.now.start.0 (first_swept c.args.sought.now.start.0 +ℤ pos k))) all

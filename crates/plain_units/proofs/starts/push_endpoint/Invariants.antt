@@ -7,4 +7,4 @@ use Rattle.plain_units.proofs.starts.push_endpoint.Given as goal
 abbrev pub invariant-loop-k : goal.invariant-loop-k
 invariant-loop-k l =
     l.found.items
-    ≡ l.initial.found.items ++ each 0 l.k (λ k. of_frame (claimed_start l.accepted l.down l.ep l.endpoint) l.endpoint l.s.0 (first_swept l.s.0 +ℤ pos k))
+    ≡ l.initial.found.items ++ each 0 l.k (λ k. of_frame (claimed_start l.sought.accepted.now l.sought.down l.sought.ep l.sought.endpoint.now) l.sought.endpoint.now l.sought.start.0 (first_swept l.sought.start.0 +ℤ pos k))

@@ -11,17 +11,17 @@ loop-subframe-init c = none_yet c.args.found.now.items _
 
 pub loop-subframe-preserved : goal.loop-subframe-preserved
 loop-subframe-preserved c =
-    let e = c.args.endpoint.now in
-    let g = claimed_start c.args.accepted.now c.args.down c.args.ep e in
+    let e = c.args.sought.now.endpoint.now in
+    let g = claimed_start c.args.sought.now.accepted.now c.args.sought.now.down c.args.sought.now.ep e in
     one_more c.args.found.now.items c.loop-subframe.found.items c.push_subframe.new.found.items c.loop-subframe.subframe
-    (of_subframe g e c.args.s.0 c.args.first.frame)
-    (c.in_ok-push_subframe.ensures ∙ ap (λ (x : Slot). c.loop-subframe.found.items ++ of_subframe g e c.args.s.0 x.frame x.subframe) c.subframe_at.ensures)
+    (of_subframe g e c.args.sought.now.start.0 c.args.first.frame)
+    (c.in_ok-push_subframe.ensures ∙ ap (λ (x : Slot). c.loop-subframe.found.items ++ of_subframe g e c.args.sought.now.start.0 x.frame x.subframe) c.subframe_at.ensures)
     c.loop-subframe.invariant
 
 pub returns : goal.returns
 unfolding of_frame
 returns c =
-    let e = c.args.endpoint.now in
+    let e = c.args.sought.now.endpoint.now in
     let all : c.loop-subframe.subframe ≡ 10 = omega arith in
     c.loop-subframe.invariant
-    ∙ ap (λ n. c.args.found.now.items ++ each 0 n (of_subframe (claimed_start c.args.accepted.now c.args.down c.args.ep e) e c.args.s.0 c.args.first.frame)) all
+    ∙ ap (λ n. c.args.found.now.items ++ each 0 n (of_subframe (claimed_start c.args.sought.now.accepted.now c.args.sought.now.down c.args.sought.now.ep e) e c.args.sought.now.start.0 c.args.first.frame)) all

@@ -13,12 +13,12 @@ loop-symbol-init c = none_yet c.args.found.now.items _
 pub loop-symbol-preserved : goal.loop-symbol-preserved
 loop-symbol-preserved c =
     one_more c.args.found.now.items c.loop-symbol.found.items c.push_symbol.new.found.items c.loop-symbol.symbol
-    (of_symbol (claimed_start c.args.accepted.now c.args.down c.args.ep c.args.endpoint.now) c.args.endpoint.now c.args.s.0 c.args.slot)
+    (of_symbol (claimed_start c.args.sought.now.accepted.now c.args.sought.now.down c.args.sought.now.ep c.args.sought.now.endpoint.now) c.args.sought.now.endpoint.now c.args.sought.now.start.0 c.args.slot)
     c.in_ok-push_symbol.ensures c.loop-symbol.invariant
 
 pub returns : goal.returns
 unfolding of_slot
 returns c =
-    let e = c.args.endpoint.now in
+    let e = c.args.sought.now.endpoint.now in
     let all : c.loop-symbol.symbol ≡ symbols_of e.numerology = omega (arith, ap (λ (x : Shape). x.symbols) c.shape-shape.ensures) in
-    c.loop-symbol.invariant ∙ ap (λ n. c.args.found.now.items ++ each 0 n (of_symbol (claimed_start c.args.accepted.now c.args.down c.args.ep e) e c.args.s.0 c.args.slot)) all
+    c.loop-symbol.invariant ∙ ap (λ n. c.args.found.now.items ++ each 0 n (of_symbol (claimed_start c.args.sought.now.accepted.now c.args.sought.now.down c.args.sought.now.ep e) e c.args.sought.now.start.0 c.args.slot)) all

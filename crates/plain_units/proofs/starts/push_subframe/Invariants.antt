@@ -7,4 +7,4 @@ use Rattle.plain_units.proofs.starts.push_subframe.Given as goal
 abbrev pub invariant-loop-slot : goal.invariant-loop-slot
 invariant-loop-slot l =
     l.found.items
-    ≡ l.initial.found.items ++ each 0 l.slot (λ slot. of_slot (claimed_start l.accepted l.down l.ep l.endpoint) l.endpoint l.s.0 (slot_at l.first.frame l.first.subframe slot))
+    ≡ l.initial.found.items ++ each 0 l.slot (λ slot. of_slot (claimed_start l.sought.accepted.now l.sought.down l.sought.ep l.sought.endpoint.now) l.sought.endpoint.now l.sought.start.0 (slot_at l.first.frame l.first.subframe slot))

@@ -1,5 +1,5 @@
 -- PRB by PRB.
-use Rattle.std.proofs.Common.{◌-◌, refl, subst, ◌∙◌, arith}
+use Rattle.std.proofs.Common.{◌-◌, refl, subst, ◌∙◌, arith, rules}
 use Rattle.fh_base.specs.Lists.{each}
 use Rattle.explain_heard.specs.Runs.{HasPut}
 use Rattle.explain_heard.proofs.PutLemmas.{each_none, each_put, each_stop}
@@ -17,17 +17,18 @@ pub loop-prb-preserved : goal.loop-prb-preserved
 loop-prb-preserved g c = record {
   put =
       each_put unused_related unused_line_of g.W.LineSink.grew 0 c.loop-prb.prb (unused_prbs_at c.args.given.now c.args.cells.now c.args.of.now) (omega arith)
-      c.args.lines.now c.loop-prb.lines c.put_block.new.lines c.args.out.now c.loop-prb.out c.put_block.new.out c.loop-prb.invariant.put c.in-Ok.ensures.ok;
-  same = g.met.W.LineSink.same_more _ _ _ c.loop-prb.invariant.same c.in-Ok.ensures.same;
-  still = c.in-Ok.ensures.cause ∙ c.loop-prb.invariant.still;
+      c.args.lines.now c.loop-prb.lines c.put_block.new.lines c.args.out.now c.loop-prb.out c.put_block.new.out c.loop-prb.invariant.put c.in_ok-put_block.ensures.ok;
+  same = g.met.W.LineSink.same_more _ _ _ c.loop-prb.invariant.same c.in_ok-put_block.ensures.same;
+  still = c.in_ok-put_block.ensures.cause ∙ c.loop-prb.invariant.still;
 }
 
-pub returns-in-Err-clause-stop : goal.returns-in-Err-clause-stop
-returns-in-Err-clause-stop g c =
+pub returns-in_err-put_block-clause-stop : goal.returns-in_err-put_block-clause-stop
+returns-in_err-put_block-clause-stop g c =
     let lt = c.loop-prb-test.true in
-    each_stop unused_related unused_line_of g.W.LineSink.grew (g.W.LineSink.stopped c.in-Err.fault) 0 c.loop-prb.prb c.args.of.now.start.endpoint.prbs
+    let stop = each_stop unused_related unused_line_of g.W.LineSink.grew (g.W.LineSink.stopped c.in_err-put_block.field-0.0) 0 c.loop-prb.prb c.args.of.now.start.endpoint.prbs
     (unused_prbs_at c.args.given.now c.args.cells.now c.args.of.now) (omega arith) (omega (arith, lt))
-    c.args.lines.now c.loop-prb.lines c.args.out.now c.loop-prb.out c.put_block.new.out c.loop-prb.invariant.put c.in-Err.ensures.stop
+    c.args.lines.now c.loop-prb.lines c.args.out.now c.loop-prb.out c.put_block.new.out c.loop-prb.invariant.put c.in_err-put_block.ensures.stop in
+    search (rules, stop)
 
 pub returns-clause-ok : goal.returns-clause-ok
 returns-clause-ok g c =

@@ -1,5 +1,5 @@
 -- Symbol by symbol.
-use Rattle.std.proofs.Common.{◌-◌, List, refl, subst, ◌∙◌, arith}
+use Rattle.std.proofs.Common.{◌-◌, List, refl, subst, ◌∙◌, arith, rules}
 use Rattle.fh_base.specs.Lists.{each}
 use Rattle.explain_heard.specs.Runs.{HasPut, StopsPutting}
 use Rattle.explain_heard.proofs.PutLemmas.{each_none, each_put, each_stop}
@@ -23,18 +23,19 @@ loop-symbol-preserved g c =
       put =
           each_put silent_related silent_line_of g.W.LineSink.grew c.args.p.now.line.symbol c.loop-symbol.symbol (silent_items_of_symbol c.args.kept.now c.args.cells.now c.args.number c.args.p.now) c.loop-symbol.auto.symbol
           c.args.lines.now c.loop-symbol.lines c.put_symbol.new.lines c.args.out.now c.loop-symbol.out c.put_symbol.new.out c.loop-symbol.invariant.put
-          (subst (λ (xs : List SilentItem). HasPut silent_related silent_line_of g.W.LineSink.grew xs c.loop-symbol.lines c.loop-symbol.out c.put_symbol.new.lines c.put_symbol.new.out) e c.in-Ok.ensures.ok);
-      same = g.met.W.LineSink.same_more _ _ _ c.loop-symbol.invariant.same c.in-Ok.ensures.same;
-      still = c.in-Ok.ensures.cause ∙ c.loop-symbol.invariant.still;
+          (subst (λ (xs : List SilentItem). HasPut silent_related silent_line_of g.W.LineSink.grew xs c.loop-symbol.lines c.loop-symbol.out c.put_symbol.new.lines c.put_symbol.new.out) e c.in_ok-put_symbol.ensures.ok);
+      same = g.met.W.LineSink.same_more _ _ _ c.loop-symbol.invariant.same c.in_ok-put_symbol.ensures.same;
+      still = c.in_ok-put_symbol.ensures.cause ∙ c.loop-symbol.invariant.still;
     }
 
-pub returns-in-Err-clause-stop : goal.returns-in-Err-clause-stop
-returns-in-Err-clause-stop g c =
+pub returns-in_err-put_symbol-clause-stop : goal.returns-in_err-put_symbol-clause-stop
+returns-in_err-put_symbol-clause-stop g c =
     let e = symbol_is c.args.kept.now c.args.cells.now c.args.number c.args.p.now c.loop-symbol.symbol c.commanded_in-commanded.result.now c.of_symbol.result.now c.air.result
     c.commanded_in-commanded.ensures c.of_symbol.ensures c.air.ensures.value in
-    each_stop silent_related silent_line_of g.W.LineSink.grew (g.W.LineSink.stopped c.in-Err.fault) c.args.p.now.line.symbol c.loop-symbol.symbol c.args.p.now.line.count (silent_items_of_symbol c.args.kept.now c.args.cells.now c.args.number c.args.p.now) c.loop-symbol.auto.symbol c.loop-symbol-test.true
+    let stop = each_stop silent_related silent_line_of g.W.LineSink.grew (g.W.LineSink.stopped c.in_err-put_symbol.field-0.0) c.args.p.now.line.symbol c.loop-symbol.symbol c.args.p.now.line.count (silent_items_of_symbol c.args.kept.now c.args.cells.now c.args.number c.args.p.now) c.loop-symbol.auto.symbol c.loop-symbol-test.true
     c.args.lines.now c.loop-symbol.lines c.args.out.now c.loop-symbol.out c.put_symbol.new.out c.loop-symbol.invariant.put
-    (subst (λ (xs : List SilentItem). StopsPutting silent_related silent_line_of g.W.LineSink.grew (g.W.LineSink.stopped c.in-Err.fault) xs c.loop-symbol.lines c.loop-symbol.out c.put_symbol.new.out) e c.in-Err.ensures.stop)
+    (subst (λ (xs : List SilentItem). StopsPutting silent_related silent_line_of g.W.LineSink.grew (g.W.LineSink.stopped c.in_err-put_symbol.field-0.0) xs c.loop-symbol.lines c.loop-symbol.out c.put_symbol.new.out) e c.in_err-put_symbol.ensures.stop) in
+    search (rules, stop)
 
 pub returns-clause-ok : goal.returns-clause-ok
 returns-clause-ok g c =

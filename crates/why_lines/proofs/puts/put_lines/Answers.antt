@@ -1,5 +1,5 @@
 -- Line by line.
-use Rattle.std.proofs.Common.{refl, subst, ◌∙◌}
+use Rattle.std.proofs.Common.{refl, subst, ◌∙◌, rules}
 use Rattle.std.specs.List.{flat_map}
 use Rattle.plan_model.specs.declared.lines.PlannedLine.{PlannedLine}
 use Rattle.explain_records.proofs.NearestLemmas.{take_all}
@@ -22,17 +22,18 @@ loop-p-preserved g c = record {
       some_put silent_related silent_line_of g.W.LineSink.grew (silent_items_if c.args.kept.now c.args.cells.now c.args.numbers.now) c.args.planned.now c.loop-p.p-index c.p-item.result c.loop-p-test.true
       c.args.lines.now c.loop-p.lines c.put_planned.new.lines c.args.out.now c.loop-p.out c.put_planned.new.out c.loop-p.invariant.put
       (subst (λ (p : PlannedLine). HasPut silent_related silent_line_of g.W.LineSink.grew (silent_items_if c.args.kept.now c.args.cells.now c.args.numbers.now p) c.loop-p.lines c.loop-p.out c.put_planned.new.lines c.put_planned.new.out)
-      c.p-item.is c.in-Ok.ensures.ok);
-  same = g.met.W.LineSink.same_more _ _ _ c.loop-p.invariant.same c.in-Ok.ensures.same;
-  still = c.in-Ok.ensures.cause ∙ c.loop-p.invariant.still;
+      c.p-item.is c.in_ok-put_planned.ensures.ok);
+  same = g.met.W.LineSink.same_more _ _ _ c.loop-p.invariant.same c.in_ok-put_planned.ensures.same;
+  still = c.in_ok-put_planned.ensures.cause ∙ c.loop-p.invariant.still;
 }
 
-pub returns-in-Err-clause-stop : goal.returns-in-Err-clause-stop
-returns-in-Err-clause-stop g c =
-    some_stop silent_related silent_line_of g.W.LineSink.grew (silent_items_if c.args.kept.now c.args.cells.now c.args.numbers.now) (g.W.LineSink.stopped c.in-Err.fault) c.args.planned.now c.loop-p.p-index c.p-item.result c.loop-p-test.true
+pub returns-in_err-put_planned-clause-stop : goal.returns-in_err-put_planned-clause-stop
+returns-in_err-put_planned-clause-stop g c =
+    let stop = some_stop silent_related silent_line_of g.W.LineSink.grew (silent_items_if c.args.kept.now c.args.cells.now c.args.numbers.now) (g.W.LineSink.stopped c.in_err-put_planned.field-0.0) c.args.planned.now c.loop-p.p-index c.p-item.result c.loop-p-test.true
     c.args.lines.now c.loop-p.lines c.args.out.now c.loop-p.out c.put_planned.new.out c.loop-p.invariant.put
-    (subst (λ (p : PlannedLine). StopsPutting silent_related silent_line_of g.W.LineSink.grew (g.W.LineSink.stopped c.in-Err.fault) (silent_items_if c.args.kept.now c.args.cells.now c.args.numbers.now p) c.loop-p.lines c.loop-p.out c.put_planned.new.out)
-    c.p-item.is c.in-Err.ensures.stop)
+    (subst (λ (p : PlannedLine). StopsPutting silent_related silent_line_of g.W.LineSink.grew (g.W.LineSink.stopped c.in_err-put_planned.field-0.0) (silent_items_if c.args.kept.now c.args.cells.now c.args.numbers.now p) c.loop-p.lines c.loop-p.out c.put_planned.new.out)
+    c.p-item.is c.in_err-put_planned.ensures.stop) in
+    search (rules, stop)
 
 pub returns-clause-ok : goal.returns-clause-ok
 returns-clause-ok g c =

@@ -26,7 +26,7 @@ returns c side n fs cs ds h =
     let a = c.args in
     let i = c.loop-c.c-index in
     let all = c.deref-c-items.result.now in
-    let read = commands_with a.ep a.endpoint.now a.at.0 a.head.now (sections_in a.head.now a.bytes.now) in
+    let read = commands_with a.receipt.ep a.receipt.endpoint a.receipt.at.0 a.head.now (sections_in a.head.now a.bytes.now) in
     let whole : take i all ≡ read = take_all i all c.loop-c-test.false ∙ c.deref-c-items.ensures.value ∙ c.in_ok-commands.ensures.value in
     let P : List ControlSection → Type 0 = λ (xs : List ControlSection). PlainHolds c.loop-c.self side a.config.now n fs (onto cs xs) ds in
     subst P whole (c.loop-c.invariant side n fs cs ds h)

@@ -17,7 +17,7 @@ pub whole-requires-clause-unit : goal.whole-requires-clause-unit
 whole-requires-clause-unit c =
     let a = c.args in
     let u = c.requires.unit in
-    let f = fragment a.ep a.at a.seq a.bytes.now in
+    let f = fragment a.receipt.ep a.receipt.at a.seq a.bytes.now in
     let h = taken_holds a.self.now c.take.new.assembly a.side a.config.now u.counted u.fragments u.commands u.sections f c.take.ensures.took c.requires.time u.holds in
     record {
       counted = λ k. u.counted k + once c.fragment_counter.result k;
@@ -31,7 +31,7 @@ pub whole-requires-clause-first : goal.whole-requires-clause-first
 whole-requires-clause-first c =
     let a = c.args in
     let u = c.requires.unit in
-    let f = fragment a.ep a.at a.seq a.bytes.now in
+    let f = fragment a.receipt.ep a.receipt.at a.seq a.bytes.now in
     let taken = c.in_ok-verdict.ensures.answer u.fragments u.holds.fragments in
     (whole_came _ f u.fragments c.in-Some.message (sym c.in-Some.is ∙ taken.message_is) c.requires.time u.holds.came).first
 
@@ -39,7 +39,7 @@ pub whole-requires-clause-last : goal.whole-requires-clause-last
 whole-requires-clause-last c =
     let a = c.args in
     let u = c.requires.unit in
-    let f = fragment a.ep a.at a.seq a.bytes.now in
+    let f = fragment a.receipt.ep a.receipt.at a.seq a.bytes.now in
     let taken = c.in_ok-verdict.ensures.answer u.fragments u.holds.fragments in
     (whole_came _ f u.fragments c.in-Some.message (sym c.in-Some.is ∙ taken.message_is) c.requires.time u.holds.came).last
 
@@ -47,7 +47,7 @@ pub returns-in-Some : goal.returns-in-Some
 returns-in-Some c n fs cs ds h =
     let a = c.args in
     let conf = a.config.now in
-    let f = fragment a.ep a.at a.seq a.bytes.now in
+    let f = fragment a.receipt.ep a.receipt.at a.seq a.bytes.now in
     let v = c.in_ok-verdict.verdict in
     let held = taken_holds a.self.now c.take.new.assembly a.side conf n fs cs ds f c.take.ensures.took c.requires.time h in
     let counted = c.count.ensures a.side conf n (f ∷ fs) cs ds held in
@@ -56,13 +56,13 @@ returns-in-Some c n fs cs ds h =
     let T : ℤ → Type 0 = λ (z : ℤ). IsTaken z f fs v c.in_ok-verdict.whole in
     let Q : Option OwnedMessage → Type 0 = λ (m : Option OwnedMessage). IsTaken (hold_of a.side conf.delays) f fs v m in
     let taken = subst Q c.in-Some.is (subst T h.hold (c.in_ok-verdict.ensures.answer fs h.fragments)) in
-    on_ok_weaker c.whole.result (piece_some c.whole.new.self a.side conf n fs cs ds a.endpoint.now f v c.in-Some.message taken) told
+    on_ok_weaker c.whole.result (piece_some c.whole.new.self a.side conf n fs cs ds a.receipt.endpoint f v c.in-Some.message taken) told
 
 pub returns-in-None : goal.returns-in-None
 returns-in-None c n fs cs ds h =
     let a = c.args in
     let conf = a.config.now in
-    let f = fragment a.ep a.at a.seq a.bytes.now in
+    let f = fragment a.receipt.ep a.receipt.at a.seq a.bytes.now in
     let v = c.in_ok-verdict.verdict in
     let held = taken_holds a.self.now c.take.new.assembly a.side conf n fs cs ds f c.take.ensures.took c.requires.time h in
     let counted = c.count.ensures a.side conf n (f ∷ fs) cs ds held in
@@ -70,4 +70,4 @@ returns-in-None c n fs cs ds h =
     let T : ℤ → Type 0 = λ (z : ℤ). IsTaken z f fs v c.in_ok-verdict.whole in
     let Q : Option OwnedMessage → Type 0 = λ (m : Option OwnedMessage). IsTaken (hold_of a.side conf.delays) f fs v m in
     let taken = subst Q c.in-None.is (subst T h.hold (c.in_ok-verdict.ensures.answer fs h.fragments)) in
-    piece_none c.count.new.self a.side conf n fs cs ds a.endpoint.now f v taken (subst P c.fragment_counter.ensures counted)
+    piece_none c.count.new.self a.side conf n fs cs ds a.receipt.endpoint f v taken (subst P c.fragment_counter.ensures counted)

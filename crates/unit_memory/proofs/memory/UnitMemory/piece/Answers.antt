@@ -14,9 +14,9 @@ use Rattle.unit_memory.proofs.memory.UnitMemory.piece.Goals as goal
 pub returns-clause-holds : goal.returns-clause-holds
 returns-clause-holds g c side conf n fs cs ds h =
     let a = c.args in
-    let at = a.at.0 in
-    let e = a.endpoint.now in
-    let f = fragment a.ep a.at a.seq a.bytes.now in
+    let at = a.received.now.at.0 in
+    let e = a.received.now.endpoint.now in
+    let f = fragment a.received.now.ep a.received.now.at a.received.now.seq a.received.now.bytes.now in
     let hold = assembly_hold a.self.now.assembly in
     let told = data_now side hold e f fs in
     let new = c.assemble-verdict.new in
@@ -32,8 +32,8 @@ returns-clause-holds g c side conf n fs cs ds h =
 pub returns-clause-told : goal.returns-clause-told
 returns-clause-told g c side conf n fs cs ds h =
     let a = c.args in
-    let at = a.at.0 in
-    let e = a.endpoint.now in
-    let f = fragment a.ep a.at a.seq a.bytes.now in
+    let at = a.received.now.at.0 in
+    let e = a.received.now.endpoint.now in
+    let f = fragment a.received.now.ep a.received.now.at a.received.now.seq a.received.now.bytes.now in
     let told = c.assemble-verdict.ensures.told side conf _ (accepted conf.delays cs) fs ds h.fragments (as_data side conf at a.self.now n fs cs ds h) in
     subst (λ (hold : ℤ). g.L.Listener.heard a.listener.now (judged_piece side conf.delays hold e f fs ds) c.assemble-verdict.new.listener) h.hold told

@@ -1,5 +1,5 @@
 -- Word by word.
-use Rattle.std.proofs.Common.{◌≡◌, ◌<◌, ◌≤◌, ℕ, List, length, refl, ap, subst, ◌∙◌, arith}
+use Rattle.std.proofs.Common.{◌≡◌, ◌<◌, ◌≤◌, ℕ, List, length, refl, ap, subst, ◌∙◌, arith, rules}
 use Rattle.std.specs.List.{flat_map}
 use Rattle.std.proofs.lemmas.List.{take_all}
 use Rattle.explain_model.specs.declared.values.ExplainLine.{ExplainLine}
@@ -26,19 +26,20 @@ loop-word-preserved g c = record {
   heard =
       one_more g.W.LineSink.grew g.met.W.LineSink.grew_more (word_lines c.args.self.now) c.told-word-items.result c.loop-word.word-index _
       (inside (length c.told-word-items.result) c.loop-word.word-index (ap length c.told-word-items.ensures) c.loop-word-test.true)
-      c.args.out.now c.loop-word.out c.tell_word.new.out c.loop-word.invariant.heard c.in-Ok.ensures.heard;
-  same = g.met.W.LineSink.same_more _ _ _ c.loop-word.invariant.same c.in-Ok.ensures.same;
-  still = c.in-Ok.ensures.cause ∙ c.loop-word.invariant.still;
+      c.args.out.now c.loop-word.out c.tell_word.new.out c.loop-word.invariant.heard c.in_ok-tell_word.ensures.heard;
+  same = g.met.W.LineSink.same_more _ _ _ c.loop-word.invariant.same c.in_ok-tell_word.ensures.same;
+  still = c.in_ok-tell_word.ensures.cause ∙ c.loop-word.invariant.still;
 }
 
-pub returns-in-Err-clause-stop : goal.returns-in-Err-clause-stop
+pub returns-in_err-tell_word-clause-stop : goal.returns-in_err-tell_word-clause-stop
 unfolding unit_lines
-returns-in-Err-clause-stop g c =
-    subst (λ (ls : List ExplainLine). StopsInLine g.W.LineSink.grew (g.W.LineSink.stopped c.in-Err.fault) ls c.args.out.now c.tell_word.new.out)
+returns-in_err-tell_word-clause-stop g c =
+    let stop = subst (λ (ls : List ExplainLine). StopsInLine g.W.LineSink.grew (g.W.LineSink.stopped c.in_err-tell_word.field-0.0) ls c.args.out.now c.tell_word.new.out)
     (ap (flat_map (word_lines c.args.self.now)) c.told-word-items.ensures)
-    (stops_there g.W.LineSink.grew g.met.W.LineSink.grew_more (word_lines c.args.self.now) (g.W.LineSink.stopped c.in-Err.fault) c.told-word-items.result c.loop-word.word-index _
+    (stops_there g.W.LineSink.grew g.met.W.LineSink.grew_more (word_lines c.args.self.now) (g.W.LineSink.stopped c.in_err-tell_word.field-0.0) c.told-word-items.result c.loop-word.word-index _
     (inside (length c.told-word-items.result) c.loop-word.word-index (ap length c.told-word-items.ensures) c.loop-word-test.true)
-    c.args.out.now c.loop-word.out c.tell_word.new.out c.loop-word.invariant.heard c.in-Err.ensures.stop)
+    c.args.out.now c.loop-word.out c.tell_word.new.out c.loop-word.invariant.heard c.in_err-tell_word.ensures.stop) in
+    search (rules, stop)
 
 pub returns-clause-heard : goal.returns-clause-heard
 unfolding unit_lines
