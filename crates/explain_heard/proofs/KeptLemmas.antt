@@ -13,6 +13,7 @@ use Rattle.explain_model.specs.Sections.{symbol_named, whole_line as model_line}
 use Rattle.fh_base.specs.declared.numerology.Numerology.{Numerology}
 use Rattle.fh_base.specs.declared.values.Slot.{Slot}
 use Rattle.explain_heard.specs.Built.{whole_line}
+use Rattle.explain_heard.specs.Judged.{whole_judged}
 use Rattle.explain_heard.specs.Named.{named_in}
 use Rattle.window_config.specs.declared.endpoints.EndpointConfig.{EndpointConfig}
 
@@ -36,7 +37,7 @@ line_with number e m answer named = record { number = number; id = e.id; named =
 
 -- a whole message of which no section is read
 pub whole_is : (number ep : ℕ) (e : EndpointConfig) (m : Whole) (answer : WholeAnswer)
-    → whole_line number (record {
+    → whole_line number (whole_judged (record {
       ep = ep;
       endpoint = e;
       last = record { 0 = m.last };
@@ -44,7 +45,7 @@ pub whole_is : (number ep : ℕ) (e : EndpointConfig) (m : Whole) (answer : Whol
       bytes = length (joined m.pieces);
       start = first_four (joined m.pieces);
       answer = answer;
-    }) ≡ model_line number e m answer
+    })) ≡ model_line number e m answer
 unfolding model_line
 whole_is number ep e m answer =
     ap (line_with number e m answer) (named_is e.numerology (joined m.pieces) m.last)

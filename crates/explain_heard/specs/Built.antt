@@ -1,12 +1,13 @@
--- The lines of what is kept of judgements (this project's profile).
+-- The lines of what was judged (this project's profile).
 use Rattle.std.specs.Prelude.{ℕ, not, Option, Some, None}
-use Rattle.air_source.specs.declared.events.Side.{Side}
 use Rattle.ecpri_fragments.specs.declared.sequence.SeqField.{SeqField}
 use Rattle.explain_heard.specs.declared.heard.FragmentHeard.{FragmentHeard}
 use Rattle.explain_heard.specs.declared.heard.MessageHeard.{MessageHeard}
 use Rattle.explain_heard.specs.declared.heard.MessageWord.{MessageWord}
 use Rattle.explain_heard.specs.declared.heard.MessageWord.TheVariants as word
-use Rattle.explain_heard.specs.declared.heard.WholeHeard.{WholeHeard}
+use Rattle.explain_heard.specs.declared.judged.CommandJudged.{CommandJudged}
+use Rattle.explain_heard.specs.declared.judged.DataJudged.{DataJudged}
+use Rattle.explain_heard.specs.declared.judged.WholeJudged.{WholeJudged}
 use Rattle.explain_model.specs.declared.places.Clash.{Clash}
 use Rattle.explain_model.specs.declared.places.MessagePlace.{MessagePlace}
 use Rattle.explain_model.specs.declared.values.ControlLine.{ControlLine}
@@ -14,16 +15,6 @@ use Rattle.explain_model.specs.declared.values.DataLine.{DataLine}
 use Rattle.explain_model.specs.declared.values.ExplainLine.{ExplainLine}
 use Rattle.explain_model.specs.declared.values.ExplainLine.TheVariants as line
 use Rattle.explain_model.specs.declared.values.WholeLine.{WholeLine}
-use Rattle.explain_model.specs.Judged.{first_given, given_count}
-use Rattle.explain_model.specs.Sections.{control_place, data_place}
-use Rattle.explain_model.specs.Timings.{control_timing, data_timing}
-use Rattle.explain_heard.specs.Named.{whole_named}
-use Rattle.unit_model.specs.declared.heading.DataHeading.{DataHeading}
-use Rattle.unit_model.specs.Commands.{is_idle}
-use Rattle.unit_model.specs.declared.decoded.ControlSection.{ControlSection}
-use Rattle.unit_model.specs.declared.verdicts.CommandVerdict.{CommandVerdict}
-use Rattle.unit_model.specs.declared.verdicts.DataVerdict.{DataVerdict}
-use Rattle.window_config.specs.declared.delays.Delays.{Delays}
 
 abbrev pub placed : ℕ → ℕ → ℕ → SeqField → MessagePlace
 placed number id place seq = record { number = number; id = id; place = place; seq = seq }
@@ -43,42 +34,35 @@ line_of_message number m = line_by number m.place m.kind m.size m.word
 abbrev pub fragment_line : ℕ → ℕ → FragmentHeard → ExplainLine
 fragment_line number place f = line.Fragment (placed number f.endpoint.id place f.seq) f.bytes f.verdict
 
-abbrev pub whole_line : ℕ → WholeHeard → WholeLine
-whole_line number w = record {
-  number = number;
-  id = w.endpoint.id;
-  named = whole_named w;
-  pieces = w.pieces;
-  bytes = w.bytes;
-  answer = w.answer;
-}
+abbrev pub whole_line : ℕ → WholeJudged → WholeLine
+whole_line number w = record { number = number; id = w.id; named = w.named; pieces = w.pieces; bytes = w.bytes; answer = w.answer }
 
 -- a section of a command with what it overlaps
-abbrev pub control_with : Delays → ℕ → ControlSection → CommandVerdict → Option Clash → ControlLine
-control_with d number s v clash = record {
+abbrev pub control_with : ℕ → CommandJudged → Option Clash → ControlLine
+control_with number c clash = record {
   number = number;
-  place = control_place s;
-  section = s.section.id;
-  prb = s.section.start_prb;
-  num = s.section.num_prb;
-  symbols = s.section.num_symbol;
-  mask = s.section.mask;
-  uplink = not s.head.down;
-  idle = is_idle s.head.body;
-  verdict = v;
-  timing = control_timing d s;
+  place = record { id = c.allocation.endpoint.id; slot = c.allocation.slot; symbol = c.allocation.symbol };
+  section = c.allocation.section;
+  prb = c.allocation.start_prb;
+  num = c.allocation.num_prb;
+  symbols = c.allocation.num_symbol;
+  mask = c.allocation.mask;
+  uplink = not c.allocation.down;
+  idle = c.allocation.idle;
+  verdict = c.verdict;
+  timing = c.timing;
   clash = clash;
 }
 
 -- a section of data with how many of its cells had no block
-abbrev pub data_with : Side → Delays → ℕ → DataHeading → DataVerdict → Option ℕ → DataLine
-data_with side d number h v fresh = record {
+abbrev pub data_with : ℕ → DataJudged → Option ℕ → DataLine
+data_with number d fresh = record {
   number = number;
-  place = data_place h;
-  section = h.section.id;
-  prb = first_given h;
-  num = given_count h;
-  verdict = v;
-  timing = data_timing side d h;
+  place = record { id = d.id; slot = d.slot; symbol = d.symbol };
+  section = d.section;
+  prb = d.prbs.first;
+  num = d.prbs.count;
+  verdict = d.verdict;
+  timing = d.timing;
   fresh = fresh;
 }

@@ -1,24 +1,13 @@
 // The lines of what a unit judged of a part of a frame.
 ghost use Rattle.std.specs.Prelude.{◌≡◌};
-ghost use Rattle.explain_model.specs.Sections.{control_place, data_place};
 ghost use Rattle.explain_heard.specs.Built.{control_with, data_with, fragment_line, line_of_message, placed, whole_line};
-ghost use Rattle.unit_model.specs.Headings.{IsSoundHeading};
-ghost use Rattle.unit_model.specs.Commands.{is_idle};
-ghost use Rattle.unit_model.specs.Proper.{IsTime};
-ghost use Rattle.unit_model.specs.Sound.{IsSoundCommand};
-ghost use Rattle.window_config.specs.Limits.{IsWithinLimits};
 
-use crate::naming::whole_symbol;
-use crate::timings::{control_timing, data_timing, heading_slot};
-use crate::{FragmentHeard, MessageHeard, MessageWord, WholeHeard};
-use air_source::Side;
-use cplane_sections::CBody;
+use crate::heard::{FragmentHeard, MessageHeard, MessageWord};
+use crate::judged::{CommandJudged, DataJudged, WholeJudged};
 use ecpri_fragments::SeqField;
 use explain_model::{
     Clash, ControlLine, DataLine, ExplainLine, MessagePlace, SymbolPlace, WholeLine,
 };
-use unit_model::{CommandVerdict, ControlSection, DataHeading, DataVerdict, allocation_of};
-use window_config::Delays;
 
 fn placed(number: u32, id: u16, place: usize, seq: SeqField) -> MessagePlace
     ensures { result ≡ placed number id place seq }
@@ -80,102 +69,60 @@ pub fn fragment_line(number: u32, place: usize, f: &FragmentHeard) -> ExplainLin
 }
 
 /// The line of a whole message of data of which no section is read.
-pub fn whole_line(number: u32, w: &WholeHeard) -> WholeLine
-    requires { IsTime w.now.last.0 }
+pub fn whole_line(number: u32, w: &WholeJudged) -> WholeLine
     ensures { result ≡ whole_line number w.now }
 {
     WholeLine {
         number,
-        id: w.endpoint.id,
-        named: whole_symbol(w),
+        id: w.id,
+        named: w.named,
         pieces: w.pieces,
         bytes: w.bytes,
         answer: w.answer,
     }
 }
 
-fn is_idle(body: &CBody) -> bool
-    ensures { result ≡ is_idle body.now }
-{
-    match body {
-        CBody::Idle { .. } => true,
-        CBody::Normal { .. } | CBody::Offset { .. } => false,
-    }
-}
-
-fn control_place(section: &ControlSection) -> SymbolPlace
-    requires { IsSoundCommand section.now }
-    ensures { result ≡ control_place section.now }
-{
-    SymbolPlace {
-        id: section.endpoint.id,
-        slot: allocation_of(section).slot,
-        symbol: section.section.symbol,
-    }
-}
-
 /// The line of a section of a command that overlaps this.
-pub fn control_line(
-    delays: &Delays,
-    number: u32,
-    section: &ControlSection,
-    verdict: CommandVerdict,
-    clash: Option<Clash>,
-) -> ControlLine
-    requires limits { IsWithinLimits delays.now }
-    requires sound { IsSoundCommand section.now }
-    ensures { result ≡ control_with delays.now number section.now verdict clash }
+pub fn control_line(number: u32, c: &CommandJudged, clash: Option<Clash>) -> ControlLine
+    ensures { result ≡ control_with number c.now clash }
 {
-    let s = &section.section;
+    let named = &c.allocation;
     ControlLine {
         number,
-        place: control_place(section),
-        section: s.id,
-        prb: s.start_prb,
-        num: u16::from(s.num_prb),
-        symbols: s.num_symbol,
-        mask: s.mask,
-        uplink: !section.head.down,
-        idle: is_idle(&section.head.body),
-        verdict,
-        timing: control_timing(delays, section),
+        place: SymbolPlace {
+            id: named.endpoint.id,
+            slot: named.slot,
+            symbol: named.symbol,
+        },
+        section: named.section,
+        prb: named.start_prb,
+        num: u16::from(named.num_prb),
+        symbols: named.num_symbol,
+        mask: named.mask,
+        uplink: !named.down,
+        idle: named.idle,
+        verdict: c.verdict,
+        timing: c.timing,
         clash,
     }
 }
 
-fn data_place(heading: &DataHeading) -> SymbolPlace
-    requires { IsSoundHeading heading.now }
-    ensures { result ≡ data_place heading.now }
-{
-    SymbolPlace {
-        id: heading.endpoint.id,
-        slot: heading_slot(heading),
-        symbol: heading.section.symbol,
-    }
-}
-
 /// The line of a section of data that gave so many PRBs their blocks.
-pub fn data_line(
-    side: Side,
-    delays: &Delays,
-    number: u32,
-    heading: &DataHeading,
-    verdict: DataVerdict,
-    fresh: Option<u16>,
-) -> DataLine
-    requires limits { IsWithinLimits delays.now }
-    requires sound { IsSoundHeading heading.now }
-    ensures { result ≡ data_with side delays.now number heading.now verdict fresh }
+pub fn data_line(number: u32, d: &DataJudged, fresh: Option<u16>) -> DataLine
+    ensures { result ≡ data_with number d.now fresh }
 {
-    let prbs = heading.prbs();
     DataLine {
         number,
-        place: data_place(heading),
-        section: heading.section.id,
-        prb: prbs.first,
-        num: prbs.count,
-        verdict,
-        timing: data_timing(side, delays, heading),
+        place: SymbolPlace {
+            id: d.id,
+            slot: d.slot,
+            symbol: d.symbol,
+        },
+        section: d.section,
+        prb: d.prbs.first,
+        num: d.prbs.count,
+        verdict: d.verdict,
+        timing: d.timing,
         fresh,
     }
 }

@@ -5,7 +5,7 @@ ghost use Rattle.explain_heard.specs.Named.{whole_named};
 ghost use Rattle.unit_model.specs.Proper.{IsTime};
 ghost use Rattle.uplane_sections.specs.Header.{payloadVersion};
 
-use crate::WholeHeard;
+use crate::heard::WholeHeard;
 use fh_base::{Numerology, Slot, Ticks, resolve, shape};
 use uplane_sections::read_head;
 
@@ -42,7 +42,7 @@ pub fn symbol_named(start: [u8; 4], n: &Numerology, at: Ticks) -> Option<(Slot, 
 }
 
 /// The slot and the symbol that the header of a whole message names.
-pub fn whole_symbol(w: &WholeHeard) -> Option<(Slot, u8)>
+pub(crate) fn whole_symbol(w: &WholeHeard) -> Option<(Slot, u8)>
     requires { IsTime w.now.last.0 }
     ensures { result ≡ whole_named w.now }
 {

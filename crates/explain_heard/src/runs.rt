@@ -85,13 +85,9 @@ impl<T: RunItem> LineRuns<T> {
         match &self.open {
             Some(run) => {
                 let line = run.first.line(run.count);
-                match out.put(&line) {
-                    Ok(()) => {
-                        self.open = None;
-                        Ok(())
-                    }
-                    Err(fault) => Err(fault),
-                }
+                out.put(&line)?;
+                self.open = None;
+                Ok(())
             }
             None => Ok(()),
         }
@@ -112,13 +108,9 @@ impl<T: RunItem> LineRuns<T> {
             self.add(item);
             return Ok(());
         }
-        match self.close(out) {
-            Ok(()) => {
-                self.add(item);
-                Ok(())
-            }
-            Err(fault) => Err(fault),
-        }
+        self.close(out)?;
+        self.add(item);
+        Ok(())
     }
 
     /// Tells the line of the last run, if there is one: then the sink took the lines of all runs.
@@ -129,9 +121,6 @@ impl<T: RunItem> LineRuns<T> {
         ensures same { W.same out.old out.new }
         ensures cause { HasAirCause (W.faults out.old) (W.faults out.new) result }
     {
-        match self.close(out) {
-            Ok(()) => Ok(()),
-            Err(fault) => Err(fault),
-        }
+        self.close(out)
     }
 }

@@ -11,7 +11,7 @@ ghost use Rattle.window_config.specs.Limits.{IsWindow, IsWithinLimits};
 use air_source::Side;
 use explain_model::Timing;
 use fh_base::{NANOSECOND, Slot, Ticks, air, of_ns, resolve};
-use unit_model::{ControlSection, DataHeading, allocation_of};
+use unit_model::{ControlSection, DataHeading};
 use window_config::{Delays, Range, command_window, data_window};
 
 // When a window opens for a symbol that starts then.
@@ -79,14 +79,15 @@ fn timing_by(side: Side, window: Range, first: Ticks, last: Ticks, start: Ticks)
     }
 }
 
-// When the symbol of a command's header starts.
-fn command_start(section: &ControlSection) -> Ticks
-    requires { IsSoundCommand section.now }
+// When the symbol of the header of a command of this slot starts.
+fn command_start(section: &ControlSection, slot: Slot) -> Ticks
+    requires sound { IsSoundCommand section.now }
+    requires named { slot ≡ command_slot section.now }
+    requires slot { IsSlot section.now.endpoint.numerology slot }
     ensures value { result.0 ≡ command_start section.now }
     ensures low { neg_ℤ (pos (2 ^ 56)) ≤ℤ result.0 }
     ensures high { result.0 ≤ℤ pos (2 ^ 56) }
 {
-    let slot = allocation_of(section).slot;
     air(
         &section.endpoint.numerology,
         slot,
@@ -94,11 +95,13 @@ fn command_start(section: &ControlSection) -> Ticks
     )
 }
 
-/// How far a section of a command is from the ends of its window, by the symbol of its header.
+/// How far a section of a command of this slot is from the ends of its window, by the symbol of its header.
 #[tactic(auto, unfolding(explain_model::specs::Timings::control_timing))]
-pub fn control_timing(delays: &Delays, section: &ControlSection) -> Timing
+pub(crate) fn control_timing(delays: &Delays, section: &ControlSection, slot: Slot) -> Timing
     requires limits { IsWithinLimits delays.now }
     requires sound { IsSoundCommand section.now }
+    requires named { slot ≡ command_slot section.now }
+    requires slot { IsSlot section.now.endpoint.numerology slot }
     ensures { result ≡ control_timing delays.now section.now }
 {
     timing_by(
@@ -106,13 +109,13 @@ pub fn control_timing(delays: &Delays, section: &ControlSection) -> Timing
         command_window(delays, section.head.down),
         section.at,
         section.at,
-        command_start(section),
+        command_start(section, slot),
     )
 }
 
 /// The slot that a section of data names, by the frame nearest to its last arrival.
 #[tactic(auto, using(unit_model::proofs::SlotLemmas::slots), unfolding(explain_model::specs::Timings::heading_slot))]
-pub fn heading_slot(heading: &DataHeading) -> Slot
+pub(crate) fn heading_slot(heading: &DataHeading) -> Slot
     requires { IsSoundHeading heading.now }
     ensures value { result ≡ heading_slot heading.now }
     ensures slot { IsSlot heading.now.endpoint.numerology result }
@@ -136,14 +139,15 @@ fn window_at(side: Side, delays: &Delays) -> Range
     }
 }
 
-/// How far a section of data is from the ends of its window, by its own symbol.
+/// How far a section of data of this slot is from the ends of its window, by its own symbol.
 #[tactic(auto, unfolding(explain_model::specs::Timings::data_timing, explain_model::specs::Timings::heading_slot))]
-pub fn data_timing(side: Side, delays: &Delays, heading: &DataHeading) -> Timing
+pub(crate) fn data_timing(side: Side, delays: &Delays, heading: &DataHeading, slot: Slot) -> Timing
     requires limits { IsWithinLimits delays.now }
     requires sound { IsSoundHeading heading.now }
+    requires named { slot ≡ heading_slot heading.now }
+    requires slot { IsSlot heading.now.endpoint.numerology slot }
     ensures { result ≡ data_timing side delays.now heading.now }
 {
-    let slot = heading_slot(heading);
     let start = air(&heading.endpoint.numerology, slot, heading.section.symbol);
     timing_by(
         side,

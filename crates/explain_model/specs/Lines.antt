@@ -238,5 +238,32 @@ line_text (line.SilentPrbs side id word prbs) = reason_line_text side id (codes 
 line_text (line.Count side counter value) = count_text side counter value
 line_text line.End = codes "end\n"
 
+-- ---- lines by what they are of
+
+-- a frame, or a message of it that no unit reads
+abbrev pub is_of_frame : ExplainLine → Bool
+is_of_frame (line.Frame number side at bytes refusal) = true
+is_of_frame (line.Measure number place size) = true
+is_of_frame (line.Other number place kind size) = true
+is_of_frame (line.Short number place kind size) = true
+is_of_frame (line.Unknown message kind) = true
+is_of_frame _ = false
+
+-- a reason, and how often it was told
+abbrev pub is_of_reason : ExplainLine → Bool
+is_of_reason (line.WhyMissing run mask reason) = true
+is_of_reason (line.WhySilent run mask number reason) = true
+is_of_reason (line.ShownCells side id cells) = true
+is_of_reason (line.MissingCells side id word cells) = true
+is_of_reason (line.SilentPrbs side id word prbs) = true
+is_of_reason _ = false
+
+-- a number of a unit
+abbrev pub is_of_unit : ExplainLine → Bool
+is_of_unit (line.Delay at side id value) = true
+is_of_unit (line.Margin side of id margin) = true
+is_of_unit (line.Count side counter value) = true
+is_of_unit _ = false
+
 abbrev pub lines_text : List ExplainLine → List ℕ
 lines_text = flat_map line_text

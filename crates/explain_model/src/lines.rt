@@ -1,6 +1,6 @@
 // A line by its kind.
-ghost use Rattle.std.specs.Prelude.{◌≡◌, ◌+◌, ◌≤◌, ◌++◌, [], length, codes};
-ghost use Rattle.explain_model.specs.Lines.{line_text, placed_text};
+ghost use Rattle.std.specs.Prelude.{◌≡◌, ◌+◌, ◌≤◌, ◌++◌, [], length, codes, true};
+ghost use Rattle.explain_model.specs.Lines.{is_of_frame, is_of_reason, is_of_unit, line_text, placed_text};
 ghost use Rattle.explain_model.specs.declared.values.ExplainLine.TheVariants as explained;
 
 use crate::heads::{endpoint, head, window_name};
@@ -192,16 +192,13 @@ fn margin(line: &mut Line, side: Side, class: MarginClass, endpoint: u16, margin
     line.text(b"\n");
 }
 
-/// Writes a line in place of what was there. It ends with a line feed.
-#[tactic(auto, unfolding(crate::specs::Lines::line_text))]
-pub fn put_line(said: &ExplainLine, line: &mut Line)
+/// Writes the line of a frame, or of a message of it that no unit reads, in an empty line.
+fn put_of_frame(said: &ExplainLine, line: &mut Line)
+    requires empty { line.old ≡ [] }
+    requires kind { is_of_frame said.now ≡ true }
     ensures { line.new ≡ line_text said.now }
 {
-    line.clear();
     match said {
-        ExplainLine::Head { faults } => line.text(head(*faults)),
-        ExplainLine::Window { name, range } => window(line, *name, *range),
-        ExplainLine::Endpoint(e) => endpoint(line, e),
         ExplainLine::Frame {
             number,
             side,
@@ -227,22 +224,18 @@ pub fn put_line(said: &ExplainLine, line: &mut Line)
             size,
         } => short(line, *number, *place, *kind, *size),
         ExplainLine::Unknown { message, kind } => unknown(line, message, *kind),
-        ExplainLine::Command { message, answer } => command(line, message, *answer),
-        ExplainLine::Control(c) => control(line, c),
-        ExplainLine::Fragment {
-            message,
-            bytes,
-            verdict,
-        } => fragment(line, message, *bytes, *verdict),
-        ExplainLine::Whole(w) => whole(line, w),
-        ExplainLine::Data(d) => data(line, d),
-        ExplainLine::Cells { run, mask, word } => cells(line, run, *mask, *word),
-        ExplainLine::Delay {
-            at,
-            side,
-            id,
-            value,
-        } => put_delay(*at, *side, *id, *value, line),
+        _ => unreachable!(),
+    }
+}
+
+/// Writes the line of a reason, or of how often one was told, in an empty line.
+#[tactic(auto, unfolding(crate::specs::Lines::line_text))]
+fn put_of_reason(said: &ExplainLine, line: &mut Line)
+    requires empty { line.old ≡ [] }
+    requires kind { is_of_reason said.now ≡ true }
+    ensures { line.new ≡ line_text said.now }
+{
+    match said {
         ExplainLine::WhyMissing { run, mask, reason } => why_missing(line, run, *mask, reason),
         ExplainLine::WhySilent {
             run,
@@ -250,13 +243,6 @@ pub fn put_line(said: &ExplainLine, line: &mut Line)
             line: number,
             reason,
         } => why_silent(line, run, *mask, *number, reason),
-        ExplainLine::Unused { run, from } => unused(line, run, *from),
-        ExplainLine::Margin {
-            side,
-            class,
-            id,
-            margin: m,
-        } => margin(line, *side, *class, *id, m),
         ExplainLine::ShownCells { side, id, cells } => {
             reason_line(line, *side, *id, b" shown", b"", *cells)
         }
@@ -272,11 +258,73 @@ pub fn put_line(said: &ExplainLine, line: &mut Line)
             word,
             prbs,
         } => reason_line(line, *side, *id, b" silent ", word_name(*word), *prbs),
+        _ => unreachable!(),
+    }
+}
+
+/// Writes the line of a measured delay, a margin or a counter in an empty line.
+#[tactic(auto, unfolding(crate::specs::Lines::line_text))]
+fn put_of_unit(said: &ExplainLine, line: &mut Line)
+    requires empty { line.old ≡ [] }
+    requires kind { is_of_unit said.now ≡ true }
+    ensures { line.new ≡ line_text said.now }
+{
+    match said {
+        ExplainLine::Delay {
+            at,
+            side,
+            id,
+            value,
+        } => put_delay(*at, *side, *id, *value, line),
+        ExplainLine::Margin {
+            side,
+            class,
+            id,
+            margin: m,
+        } => margin(line, *side, *class, *id, m),
         ExplainLine::Count {
             side,
             counter,
             value,
         } => put_count(*side, *counter, *value, line),
+        _ => unreachable!(),
+    }
+}
+
+/// Writes a line in place of what was there. It ends with a line feed.
+#[tactic(auto, unfolding(crate::specs::Lines::line_text))]
+pub fn put_line(said: &ExplainLine, line: &mut Line)
+    ensures { line.new ≡ line_text said.now }
+{
+    line.clear();
+    match said {
+        ExplainLine::Head { faults } => line.text(head(*faults)),
+        ExplainLine::Window { name, range } => window(line, *name, *range),
+        ExplainLine::Endpoint(e) => endpoint(line, e),
+        ExplainLine::Command { message, answer } => command(line, message, *answer),
+        ExplainLine::Control(c) => control(line, c),
+        ExplainLine::Fragment {
+            message,
+            bytes,
+            verdict,
+        } => fragment(line, message, *bytes, *verdict),
+        ExplainLine::Whole(w) => whole(line, w),
+        ExplainLine::Data(d) => data(line, d),
+        ExplainLine::Cells { run, mask, word } => cells(line, run, *mask, *word),
+        ExplainLine::Unused { run, from } => unused(line, run, *from),
+        ExplainLine::Frame { .. }
+        | ExplainLine::Measure { .. }
+        | ExplainLine::Other { .. }
+        | ExplainLine::Short { .. }
+        | ExplainLine::Unknown { .. } => put_of_frame(said, line),
+        ExplainLine::WhyMissing { .. }
+        | ExplainLine::WhySilent { .. }
+        | ExplainLine::ShownCells { .. }
+        | ExplainLine::MissingCells { .. }
+        | ExplainLine::SilentPrbs { .. } => put_of_reason(said, line),
+        ExplainLine::Delay { .. } | ExplainLine::Margin { .. } | ExplainLine::Count { .. } => {
+            put_of_unit(said, line)
+        }
         ExplainLine::End => line.text(b"end\n"),
     }
 }

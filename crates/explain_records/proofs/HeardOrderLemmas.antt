@@ -19,10 +19,10 @@ use Rattle.unit_model.specs.Meetings.{fragments, meetings}
 use Rattle.unit_model.specs.Reports.{hold_of}
 use Rattle.window_config.specs.declared.config.Config.{Config}
 
-pub starts : (c : Config) (r : HeardRecords) → r.delays ≡ c.delays → r.kept ≡ nothing_kept → AreRecordsOf Ru (hold_of Ru c.delays) [] r.ru → AreRecordsOf Du (hold_of Du c.delays) [] r.du → HaveHeard c [] r
+pub starts : (c : Config) (r : HeardRecords) → r.kept ≡ nothing_kept → AreRecordsOf Ru (hold_of Ru c.delays) [] r.ru → AreRecordsOf Du (hold_of Du c.delays) [] r.du → HaveHeard c [] r
 unfolding data_records command_records header_records unit_fragments fragments meetings onto
-starts c r d k ru du = record {
-  kept = record { delays_are = d; kept_is = k; ru_is = ru; du_is = du };
+starts c r k ru du = record {
+  kept = record { kept_is = k; ru_is = ru; du_is = du };
   fragments_are = λ side. refl;
 }
 

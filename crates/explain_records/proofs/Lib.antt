@@ -1,5 +1,5 @@
 pub mod NearestLemmas
-pub mod LineLemmas
+mod DistanceLemmas
 pub mod OrderLemmas
 pub mod MissingLemmas
 pub mod RecordLemmas
@@ -16,4 +16,3 @@ mod KeptLemmas
 mod WalkLemmas
 mod StoryLemmas
 mod HeardOrderLemmas
-pub mod SoundLemmas

@@ -11,7 +11,8 @@ use Rattle.air_source.specs.declared.events.Side.TheVariants.{Ru, Du}
 use Rattle.ecpri_frames.specs.Gathering.{whole_messages}
 use Rattle.ecpri_fragments.specs.Generations.{Fragment}
 use Rattle.explain_heard.specs.Heard.{all_heard, heard_of}
-use Rattle.explain_heard.specs.declared.heard.Heard.{Heard}
+use Rattle.explain_heard.specs.Judged.{all_judged, judged_of}
+use Rattle.explain_heard.specs.declared.judged.Judged.{Judged}
 use Rattle.explain_model.specs.Stories.{Story}
 use Rattle.explain_model.specs.Fragments.{NumberedFragment, fragment_in, fragments_of_story, unit_fragments}
 use Rattle.explain_model.specs.SilentReasons.{Kept}
@@ -145,14 +146,14 @@ all_back n (j ∷ js) xs =
 
 -- ---- a unit's records with a judgement
 
-module _ (hold : ℤ) (number : ℕ) (xs : List NumberedFragment) (old new : FragmentRecords) (es : List EndpointConfig) where
+module _ (hold : ℤ) (number : ℕ) (xs : List NumberedFragment) (old new : FragmentRecords) (d : Delays) (es : List EndpointConfig) where
   rests : (u : Side) → new ≡ old → AreRecordsOf u hold xs old → AreRecordsOf u hold (xs ++ []) new
   rests u same r =
       subst (λ (ys : List NumberedFragment). AreRecordsOf u hold ys new) (sym (append-nil xs)) (subst (λ (q : FragmentRecords). AreRecordsOf u hold xs q) (sym same) r)
 
   abbrev Goes : Side → Side → Judgement → Type 0
   Goes u side j =
-      FragmentsNext u side number (heard_of side es j) old new → (same_side side u ≡ true → IsVerdict hold (backwards xs) j) → AreRecordsOf u hold xs old
+      FragmentsNext u side number (judged_of side d (heard_of side es j)) old new → (same_side side u ≡ true → IsVerdict hold (backwards xs) j) → AreRecordsOf u hold xs old
       → AreRecordsOf u hold (xs ++ if_own (same_side side u) (fragment_in number j)) new
 
   pub goes : (u side : Side) (j : Judgement) → Goes u side j
@@ -180,20 +181,20 @@ module _ (c : Config) (es : List EndpointConfig) (ss : List Story) (s : Story) (
   abbrev is_now : List Story
   is_now = ss ++ with_judged s (done ++ j ∷ []) ∷ []
 
-  unit_next : (u : Side) (p q : FragmentRecords) → FragmentsNext u s.side s.number (heard_of s.side es j) p q
+  unit_next : (u : Side) (p q : FragmentRecords) → FragmentsNext u s.side s.number (judged_of s.side c.delays (heard_of s.side es j)) p q
       → IsVerdict (hold_of s.side c.delays) (backwards (unit_fragments s.side was)) j → AreRecordsOf u (hold_of u c.delays) (unit_fragments u was) p
       → AreRecordsOf u (hold_of u c.delays) (unit_fragments u is_now) q
   unit_next u p q next verdict r =
       subst (λ (xs : List NumberedFragment). AreRecordsOf u (hold_of u c.delays) xs q) (sym (fragments_next u ss s done j))
-      (goes (hold_of u c.delays) s.number (unit_fragments u was) p q es u s.side j next
+      (goes (hold_of u c.delays) s.number (unit_fragments u was) p q c.delays es u s.side j next
       (λ own. subst (λ (v : Side). IsVerdict (hold_of v c.delays) (backwards (unit_fragments v was)) j) (side_same s.side u own) verdict) r)
 
-  kept_next_is : Takes s.side s.number (heard_of s.side es j) old new → IsVerdict (hold_of s.side c.delays) (backwards (unit_fragments s.side was)) j → HaveKept c was old → HaveKept c is_now new
+  kept_next_is : Takes s.side s.number (judged_of s.side c.delays (heard_of s.side es j)) old new → IsVerdict (hold_of s.side c.delays) (backwards (unit_fragments s.side was)) j
+      → HaveKept c was old → HaveKept c is_now new
   kept_next_is t verdict h = record {
-    delays_are = t.delays ∙ h.delays_are;
     kept_is =
         t.kept
-        ∙ ap₂ (λ (d : Delays) (k : Kept). kept_next s.side d s.number (heard_of s.side es j) k) h.delays_are h.kept_is
+        ∙ ap (kept_next s.side s.number (judged_of s.side c.delays (heard_of s.side es j))) h.kept_is
         ∙ kept_judged s.side c.delays s.number (section_records c was) es j
         ∙ sections_next c ss s done j;
     ru_is = unit_next Ru old.ru new.ru t.ru verdict h.ru_is;
@@ -206,26 +207,26 @@ module _ (c : Config) (es : List EndpointConfig) (ss : List Story) (s : Story) (
       ∙ ap (λ (b : Bool). backwards (unit_fragments s.side was ++ if_own b (fragment_in s.number j))) (side_self s.side)
       ∙ judged_back (unit_fragments s.side was) s.number j
 
--- ---- the next thing heard
+-- ---- the next thing judged
 
 module _ (c : Config) (es : List EndpointConfig) (ss : List Story) (s : Story) (old new : HeardRecords) where
-  with_rest : (done rest : List Judgement) (h : Heard) (left : List Heard) → s.judged ≡ done ++ rest → h ∷ left ≡ all_heard s.side es rest
+  with_rest : (done rest : List Judgement) (h : Judged) (left : List Judged) → s.judged ≡ done ++ rest → h ∷ left ≡ all_judged s.side c.delays (all_heard s.side es rest)
       → HaveKept c (ss ++ with_judged s done ∷ []) old → AreVerdicts (hold_of s.side c.delays) (backwards (unit_fragments s.side (ss ++ with_judged s done ∷ []))) rest
       → Takes s.side s.number h old new → SoFar c es ss s left new
   with_rest done [] h left all is kept verdicts t = absurd (cc)
   with_rest done (j ∷ rest) h left all is kept verdicts t =
-      let first : h ≡ heard_of s.side es j = cc in
-      let more : left ≡ all_heard s.side es rest = cc in
+      let first : h ≡ judged_of s.side c.delays (heard_of s.side es j) = cc in
+      let more : left ≡ all_judged s.side c.delays (all_heard s.side es rest) = cc in
       record {
         done = done ++ j ∷ [];
         rest = rest;
         all = all ∙ sym (append_assoc done (j ∷ []) rest);
         left_is = more;
-        kept = kept_next_is c es ss s done j old new (subst (λ (k : Heard). Takes s.side s.number k old new) first t) verdicts.0 kept;
+        kept = kept_next_is c es ss s done j old new (subst (λ (k : Judged). Takes s.side s.number k old new) first t) verdicts.0 kept;
         verdicts = subst (λ (fs : List Fragment). AreVerdicts (hold_of s.side c.delays) fs rest) (sym (own_next c es ss s done j old new)) verdicts.1;
       }
 
-pub taken : (side : Side) (number : ℕ) (c : Config) (es : List EndpointConfig) (ss : List Story) (s : Story) (h : Heard) (left : List Heard) (old new : HeardRecords)
+pub taken : (side : Side) (number : ℕ) (c : Config) (es : List EndpointConfig) (ss : List Story) (s : Story) (h : Judged) (left : List Judged) (old new : HeardRecords)
     → s.side ≡ side → s.number ≡ number → Takes side number h old new → SoFar c es ss s (h ∷ left) old → SoFar c es ss s left new
 taken side number c es ss s h left old new side_is number_is t f =
     with_rest c es ss s old new f.done f.rest h left f.all f.left_is f.kept f.verdicts
@@ -251,14 +252,13 @@ module _ (c : Config) (ss : List Story) (s : Story) (judged : s.judged ≡ judge
       subst (λ (js : List Judgement). Walks (hold_of s.side c.delays) (fragments (met s.side c (unit_arrivals s.side ss))) js (fragments (met s.side c (s.arrival ∷ unit_arrivals s.side ss)))) (sym judged)
       (of_frame s.side c s.arrival.at (whole_messages s.arrival.frame) (met s.side c (unit_arrivals s.side ss)))
 
-  pub begins : (r : HeardRecords) (heard : List Heard) → heard ≡ all_heard s.side c.endpoints s.judged → HaveHeard c ss r → SoFar c c.endpoints ss s heard r
-  begins r heard is h = record {
+  pub begins : (r : HeardRecords) (all : List Judged) → all ≡ all_judged s.side c.delays (all_heard s.side c.endpoints s.judged) → HaveHeard c ss r → SoFar c c.endpoints ss s all r
+  begins r all is h = record {
     done = [];
     rest = s.judged;
     all = refl;
     left_is = is;
     kept = record {
-      delays_are = h.kept.delays_are;
       kept_is = h.kept.kept_is ∙ sym (sections_none c ss s);
       ru_is = subst (λ (xs : List NumberedFragment). AreRecordsOf Ru (hold_of Ru c.delays) xs r.ru) (sym (no_fragments Ru ss s)) h.kept.ru_is;
       du_is = subst (λ (xs : List NumberedFragment). AreRecordsOf Du (hold_of Du c.delays) xs r.du) (sym (no_fragments Du ss s)) h.kept.du_is;
@@ -306,19 +306,19 @@ module _ (c : Config) (ss : List Story) (s : Story) (judged : s.judged ≡ judge
     fragments_are = λ u. came_by u (same_side s.side u) refl (before u);
   }
     where
-      all_done : (rest : List Judgement) → s.judged ≡ f.done ++ rest → [] ≡ all_heard s.side c.endpoints rest → HaveKept c (ss ++ s ∷ []) r
+      all_done : (rest : List Judgement) → s.judged ≡ f.done ++ rest → [] ≡ all_judged s.side c.delays (all_heard s.side c.endpoints rest) → HaveKept c (ss ++ s ∷ []) r
       all_done [] all is = subst (λ (js : List Judgement). HaveKept c (ss ++ with_judged s js ∷ []) r) (sym (all ∙ append-nil f.done)) f.kept
       all_done (j ∷ rest) all is = absurd (cc)
 
-pub story_kept : (side : Side) (c : Config) (ss : List Story) (s : Story) (old new : HeardRecords) (heard : List Heard) → s.side ≡ side
-    → s.judged ≡ judgements side c (unit_arrivals side ss) s.arrival → heard ≡ all_heard side c.endpoints s.judged → HaveHeard c ss old
-    → (SoFar c c.endpoints ss s heard old → SoFar c c.endpoints ss s [] new) → HaveHeard c (ss ++ s ∷ []) new
-story_kept side c ss s old new heard side_is judged is have goes =
+pub story_kept : (side : Side) (c : Config) (ss : List Story) (s : Story) (old new : HeardRecords) (all : List Judged) → s.side ≡ side
+    → s.judged ≡ judgements side c (unit_arrivals side ss) s.arrival → all ≡ all_judged side c.delays (all_heard side c.endpoints s.judged) → HaveHeard c ss old
+    → (SoFar c c.endpoints ss s all old → SoFar c c.endpoints ss s [] new) → HaveHeard c (ss ++ s ∷ []) new
+story_kept side c ss s old new all side_is judged is have goes =
     let j : s.judged ≡ judgements s.side c (unit_arrivals s.side ss) s.arrival
     = subst (λ (a : Side). s.judged ≡ judgements a c (unit_arrivals a ss) s.arrival) (sym side_is) judged in
-    let h : heard ≡ all_heard s.side c.endpoints s.judged = subst (λ (a : Side). heard ≡ all_heard a c.endpoints s.judged) (sym side_is) is in
-    ends c ss s j new (goes (begins c ss s j old heard h have)) have.fragments_are
+    let h : all ≡ all_judged s.side c.delays (all_heard s.side c.endpoints s.judged) = subst (λ (a : Side). all ≡ all_judged a c.delays (all_heard a c.endpoints s.judged)) (sym side_is) is in
+    ends c ss s j new (goes (begins c ss s j old all h have)) have.fragments_are
 
--- the next of some things heard
-pub loop_next : (xs : List Heard) (i : ℕ) (one : Heard) → i < length xs → one ≡ get_or xs i one → drop i xs ≡ one ∷ drop (i + 1) xs
-loop_next xs i one within read = drop_more xs i one within ∙ ap (λ (h : Heard). h ∷ drop (i + 1) xs) (sym read)
+-- the next of some things judged
+pub loop_next : (xs : List Judged) (i : ℕ) (one : Judged) → i < length xs → one ≡ get_or xs i one → drop i xs ≡ one ∷ drop (i + 1) xs
+loop_next xs i one within read = drop_more xs i one within ∙ ap (λ (h : Judged). h ∷ drop (i + 1) xs) (sym read)

@@ -1,7 +1,7 @@
 pub mod Nearest
 pub mod Elements
 pub mod Stored
-pub mod OfLines
+pub mod OfJudged
 pub mod Missing
 pub mod MissingSteps
 pub mod Keys
@@ -12,6 +12,5 @@ pub mod Turns
 pub mod Tables
 pub mod Recorded
 pub mod Units
-pub mod Sound
 pub mod Steps
 pub mod Records

@@ -6,7 +6,8 @@ use Rattle.air_source.specs.declared.events.Side.TheVariants.{Ru, Du}
 use Rattle.ecpri_fragments.specs.Generations.{Fragment}
 use Rattle.ecpri_fragments.specs.Verdicts.{verdict_on}
 use Rattle.explain_heard.specs.Heard.{all_heard}
-use Rattle.explain_heard.specs.declared.heard.Heard.{Heard}
+use Rattle.explain_heard.specs.Judged.{all_judged}
+use Rattle.explain_heard.specs.declared.judged.Judged.{Judged}
 use Rattle.explain_model.specs.Stories.{Story}
 use Rattle.explain_model.specs.Fragments.{unit_fragments}
 use Rattle.explain_model.specs.Records.{command_records, data_records, header_records}
@@ -36,7 +37,6 @@ section_records c ss =
     record { given = data_records c ss; commanded = command_records c ss; headers = header_records ss; repeated = []; begun = [] }
 
 pub record HaveKept (c : Config) (ss : List Story) (r : HeardRecords) : Type 0 where
-  pub delays_are : r.delays ≡ c.delays
   pub kept_is : r.kept ≡ section_records c ss
   pub ru_is : AreRecordsOf Ru (hold_of Ru c.delays) (unit_fragments Ru ss) r.ru
   pub du_is : AreRecordsOf Du (hold_of Du c.delays) (unit_fragments Du ss) r.du
@@ -67,17 +67,16 @@ abbrev pub with_judged : Story → List Judgement → Story
 with_judged s js = record { number = s.number; side = s.side; arrival = s.arrival; refusal = s.refusal; judged = js }
 
 -- kept are the first of a story's judgements, and these are still to follow
-pub record SoFar (c : Config) (es : List EndpointConfig) (ss : List Story) (s : Story) (left : List Heard) (r : HeardRecords) : Type 0 where
+pub record SoFar (c : Config) (es : List EndpointConfig) (ss : List Story) (s : Story) (left : List Judged) (r : HeardRecords) : Type 0 where
   pub done : List Judgement
   pub rest : List Judgement
   pub all : s.judged ≡ done ++ rest
-  pub left_is : left ≡ all_heard s.side es rest
+  pub left_is : left ≡ all_judged s.side c.delays (all_heard s.side es rest)
   pub kept : HaveKept c (ss ++ with_judged s done ∷ []) r
   pub verdicts : AreVerdicts (hold_of s.side c.delays) (backwards (unit_fragments s.side (ss ++ with_judged s done ∷ []))) rest
 
 -- what a call leaves
-pub record Takes (side : Side) (number : ℕ) (h : Heard) (old new : HeardRecords) : Type 0 where
-  pub delays : new.delays ≡ old.delays
-  pub kept : new.kept ≡ kept_next side old.delays number h old.kept
-  pub ru : FragmentsNext Ru side number h old.ru new.ru
-  pub du : FragmentsNext Du side number h old.du new.du
+pub record Takes (side : Side) (number : ℕ) (j : Judged) (old new : HeardRecords) : Type 0 where
+  pub kept : new.kept ≡ kept_next side number j old.kept
+  pub ru : FragmentsNext Ru side number j old.ru new.ru
+  pub du : FragmentsNext Du side number j old.du new.du

@@ -1,15 +1,14 @@
 // The records of what both units heard.
-ghost use Rattle.std.specs.Prelude.{◌≡◌, ◌++◌, [], ◌∷◌, ℕ, ℤ, List, All, IfOk, OnOk};
+ghost use Rattle.std.specs.Prelude.{◌≡◌, ◌++◌, [], ◌∷◌, ℕ, ℤ, List, IfOk, OnOk};
 ghost use Rattle.air_source.specs.declared.events.Side.{Side as SpecSide};
 ghost use Rattle.explain_heard.specs.Heard.{all_heard};
+ghost use Rattle.explain_heard.specs.Judged.{all_judged};
 ghost use Rattle.explain_model.specs.Stories.{Story};
 ghost use Rattle.explain_model.specs.SilentReasons.{kept_of};
 ghost use Rattle.explain_records.specs.Stored.{SameBySymbol};
-ghost use Rattle.explain_records.specs.Sound.{IsSoundHeard};
 ghost use Rattle.explain_records.specs.Steps.{FragmentsNext};
 ghost use Rattle.unit_model.specs.Judgements.{judgements};
 ghost use Rattle.window_config.specs.Configs.{IsConfig};
-ghost use Rattle.window_config.specs.Limits.{IsWithinLimits};
 ghost use Rattle.window_config.specs.declared.config.Config.{Config as SpecConfig};
 ghost use Rattle.window_config.specs.declared.endpoints.EndpointConfig.{EndpointConfig as SpecEndpoint};
 
@@ -18,20 +17,18 @@ use crate::ordered::OrderedKept;
 use crate::sections::keep_section;
 use crate::store::KeptRecords;
 use air_source::Side;
-use explain_heard::Heard;
+use explain_heard::Judged;
 use explain_model::{BeginningRecord, RepeatedRecord};
 use fh_base::NoMemory;
 use std::alloc::Global;
-use window_config::{Config, Delays};
+use window_config::Config;
 
 /// The records of what both units heard, in the order in which it was received.
 #[derive(Drop)]
 pub struct HeardRecords {
-    delays: Delays,
     kept: KeptRecords,
     ru: FragmentRecords,
     du: FragmentRecords,
-    ghost limits: { IsWithinLimits delays },
 }
 
 /// Keeps messages that were received under a used sequence id, after the others.
@@ -60,17 +57,17 @@ fn keep_fragment(
     du: &mut FragmentRecords,
     side: Side,
     number: u32,
-    heard: &Heard,
+    judged: &Judged,
 ) -> Result<(), NoMemory>
-    ensures ru { OnOk result (FragmentsNext Side.Ru side number heard.now ru.old ru.new) }
-    ensures du { OnOk result (FragmentsNext Side.Du side number heard.now du.old du.new) }
+    ensures ru { OnOk result (FragmentsNext Side.Ru side number judged.now ru.old ru.new) }
+    ensures du { OnOk result (FragmentsNext Side.Du side number judged.now du.old du.new) }
 {
-    match heard {
-        Heard::Fragment(fragment) => match side {
+    match judged {
+        Judged::Fragment(fragment) => match side {
             Side::Ru => ru.take(number, fragment),
             Side::Du => du.take(number, fragment),
         },
-        Heard::Message(_) | Heard::Command { .. } | Heard::Whole(_) | Heard::Data { .. } => Ok(()),
+        Judged::Message(_) | Judged::Command(_) | Judged::Whole(_) | Judged::Data(_) => Ok(()),
     }
 }
 
@@ -85,32 +82,28 @@ impl HeardRecords {
         let ru = FragmentRecords::make(alloc, Side::Ru, config)?;
         let du = FragmentRecords::make(alloc, Side::Du, config)?;
         Ok(HeardRecords {
-            delays: config.delays,
             kept: KeptRecords::new(alloc),
             ru,
             du,
         })
     }
 
-    /// Keeps one thing that was heard.
-    fn take(&mut self, side: Side, number: u32, heard: &Heard) -> Result<(), NoMemory>
-        requires { IsSoundHeard heard.now }
-        ensures { OnOk result (Takes side number heard.now self.old self.new) }
+    /// Keeps one thing that was judged.
+    fn take(&mut self, side: Side, number: u32, judged: &Judged) -> Result<(), NoMemory>
+        ensures { OnOk result (Takes side number judged.now self.old self.new) }
     {
-        let delays = self.delays;
-        keep_section(&mut self.kept, &delays, side, number, heard)?;
-        keep_fragment(&mut self.ru, &mut self.du, side, number, heard)
+        keep_section(&mut self.kept, side, number, judged)?;
+        keep_fragment(&mut self.ru, &mut self.du, side, number, judged)
     }
 
-    /// Keeps what a unit heard of an arrival with this number, in its order. What is heard was judged of the frame by what was received at
-    /// that unit before it. After `NoMemory` a front part of it is kept.
-    pub fn keep(&mut self, side: Side, number: u32, heard: &[Heard]) -> Result<(), NoMemory>
-        requires { All IsSoundHeard heard.now }
+    /// Keeps what a unit judged of an arrival with this number, in its order: of the frame by what was received at that unit before it.
+    /// After `NoMemory` a front part of it is kept.
+    pub fn keep(&mut self, side: Side, number: u32, judged: &[Judged]) -> Result<(), NoMemory>
         ensures { OnOk result ((c : SpecConfig) (ss : List Story) (s : Story) → s.side ≡ side → s.number ≡ number
-            → s.judged ≡ judgements side c (unit_arrivals side ss) s.arrival → heard.now ≡ all_heard side c.endpoints s.judged
+            → s.judged ≡ judgements side c (unit_arrivals side ss) s.arrival → judged.now ≡ all_judged side c.delays (all_heard side c.endpoints s.judged)
             → HaveHeard c ss self.old → HaveHeard c (ss ++ s ∷ []) self.new) }
     {
-        for one in heard {
+        for one in judged {
             self.take(side, number, one)?;
         }
         Ok(())

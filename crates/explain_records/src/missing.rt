@@ -108,10 +108,7 @@ fn put_cells<W: LineSink>(
             prb,
             reason: missing_reason(at, key, prb),
         };
-        match lines.put(item, out) {
-            Ok(()) => {}
-            Err(fault) => return Err(fault),
-        }
+        lines.put(item, out)?;
     }
     Ok(())
 }
@@ -151,10 +148,7 @@ fn put_runs<W: LineSink>(
     ensures cause { HasAirCause (W.faults out.old) (W.faults out.new) result }
 {
     for run in runs {
-        match put_run(kept, run, lines, out) {
-            Ok(()) => {}
-            Err(fault) => return Err(fault),
-        }
+        put_run(kept, run, lines, out)?;
     }
     Ok(())
 }
@@ -173,8 +167,6 @@ pub fn tell_missing<W: LineSink>(
     ensures cause { HasAirCause (W.faults out.old) (W.faults out.new) result }
 {
     let mut lines = LineRuns::new();
-    match put_runs(kept, runs, &mut lines, out) {
-        Ok(()) => lines.finish(out),
-        Err(fault) => Err(fault),
-    }
+    put_runs(kept, runs, &mut lines, out)?;
+    lines.finish(out)
 }

@@ -1,5 +1,5 @@
 -- PRB by PRB.
-use Rattle.std.proofs.Common.{◌≡◌, ◌-◌, [], ◌∷◌, refl, subst, ap, ◌∙◌, arith}
+use Rattle.std.proofs.Common.{◌≡◌, ◌-◌, [], ◌∷◌, refl, subst, ap, ◌∙◌, arith, rules}
 use Rattle.fh_base.specs.Lists.{each}
 use Rattle.explain_heard.specs.Runs.{HasPut, StopsPutting}
 use Rattle.explain_heard.proofs.PutLemmas.{each_none, each_put, each_stop}
@@ -22,15 +22,17 @@ loop-prb-preserved g c = let why : c.missing_reason.result ≡ missing_reason (a
     record {
       put =
           each_put missing_related missing_line_of g.W.LineSink.grew c.args.run.now.prb c.loop-prb.prb (missing_prb_at (at_symbol c.args.at.now) c.args.run.now) c.loop-prb.auto.prb
-          c.args.lines.now c.loop-prb.lines c.put.new.self c.args.out.now c.loop-prb.out c.put.new.out c.loop-prb.invariant.put (subst (λ r. HasPut missing_related missing_line_of g.W.LineSink.grew (let m : MissingPrb = record { run = c.args.run.now; prb = c.loop-prb.prb; reason = r } in m ∷ []) c.loop-prb.lines c.loop-prb.out c.put.new.self c.put.new.out) why c.in-Ok.ensures.ok);
-      same = g.met.W.LineSink.same_more _ _ _ c.loop-prb.invariant.same c.in-Ok.ensures.same;
-      still = c.in-Ok.ensures.cause ∙ c.loop-prb.invariant.still;
+          c.args.lines.now c.loop-prb.lines c.put.new.self c.args.out.now c.loop-prb.out c.put.new.out c.loop-prb.invariant.put (subst (λ r. HasPut missing_related missing_line_of g.W.LineSink.grew (let m : MissingPrb = record { run = c.args.run.now; prb = c.loop-prb.prb; reason = r } in m ∷ []) c.loop-prb.lines c.loop-prb.out c.put.new.self c.put.new.out) why c.in_ok-put.ensures.ok);
+      same = g.met.W.LineSink.same_more _ _ _ c.loop-prb.invariant.same c.in_ok-put.ensures.same;
+      still = c.in_ok-put.ensures.cause ∙ c.loop-prb.invariant.still;
     }
 
-pub returns-in-Err-clause-stop : goal.returns-in-Err-clause-stop
-returns-in-Err-clause-stop g c = let why : c.missing_reason.result ≡ missing_reason (at_symbol c.args.at.now) (run_key c.args.run.now) c.loop-prb.prb = c.missing_reason.ensures ∙ ap (λ k. missing_reason (at_symbol c.args.at.now) k c.loop-prb.prb) c.key-key.ensures in
-    each_stop missing_related missing_line_of g.W.LineSink.grew (g.W.LineSink.stopped c.in-Err.fault) c.args.run.now.prb c.loop-prb.prb c.args.run.now.count (missing_prb_at (at_symbol c.args.at.now) c.args.run.now) c.loop-prb.auto.prb c.loop-prb-test.true
-    c.args.lines.now c.loop-prb.lines c.args.out.now c.loop-prb.out c.put.new.out c.loop-prb.invariant.put (subst (λ r. StopsPutting missing_related missing_line_of g.W.LineSink.grew (g.W.LineSink.stopped c.in-Err.fault) (let m : MissingPrb = record { run = c.args.run.now; prb = c.loop-prb.prb; reason = r } in m ∷ []) c.loop-prb.lines c.loop-prb.out c.put.new.out) why c.in-Err.ensures.stop)
+pub returns-in_err-put-clause-stop : goal.returns-in_err-put-clause-stop
+returns-in_err-put-clause-stop g c =
+    let why : c.missing_reason.result ≡ missing_reason (at_symbol c.args.at.now) (run_key c.args.run.now) c.loop-prb.prb = c.missing_reason.ensures ∙ ap (λ k. missing_reason (at_symbol c.args.at.now) k c.loop-prb.prb) c.key-key.ensures in
+    let stop = each_stop missing_related missing_line_of g.W.LineSink.grew (g.W.LineSink.stopped c.in_err-put.field-0.0) c.args.run.now.prb c.loop-prb.prb c.args.run.now.count (missing_prb_at (at_symbol c.args.at.now) c.args.run.now) c.loop-prb.auto.prb c.loop-prb-test.true
+    c.args.lines.now c.loop-prb.lines c.args.out.now c.loop-prb.out c.put.new.out c.loop-prb.invariant.put (subst (λ r. StopsPutting missing_related missing_line_of g.W.LineSink.grew (g.W.LineSink.stopped c.in_err-put.field-0.0) (let m : MissingPrb = record { run = c.args.run.now; prb = c.loop-prb.prb; reason = r } in m ∷ []) c.loop-prb.lines c.loop-prb.out c.put.new.out) why c.in_err-put.ensures.stop) in
+    search (rules, stop)
 
 pub returns-clause-ok : goal.returns-clause-ok
 returns-clause-ok g c =

@@ -1,5 +1,5 @@
 -- Run by run.
-use Rattle.std.proofs.Common.{refl, subst, ◌∙◌}
+use Rattle.std.proofs.Common.{refl, subst, ◌∙◌, rules}
 use Rattle.std.specs.List.{flat_map}
 use Rattle.explain_records.proofs.NearestLemmas.{take_all}
 use Rattle.explain_heard.specs.Runs.{HasPut}
@@ -19,15 +19,16 @@ pub loop-run-preserved : goal.loop-run-preserved
 loop-run-preserved g c = record {
   put =
       some_put missing_related missing_line_of g.W.LineSink.grew (missing_prbs_of c.args.kept.now) c.args.runs.now c.loop-run.run-index _ c.loop-run-test.true
-      c.args.lines.now c.loop-run.lines c.put_run.new.lines c.args.out.now c.loop-run.out c.put_run.new.out c.loop-run.invariant.put c.in-Ok.ensures.ok;
-  same = g.met.W.LineSink.same_more _ _ _ c.loop-run.invariant.same c.in-Ok.ensures.same;
-  still = c.in-Ok.ensures.cause ∙ c.loop-run.invariant.still;
+      c.args.lines.now c.loop-run.lines c.put_run.new.lines c.args.out.now c.loop-run.out c.put_run.new.out c.loop-run.invariant.put c.in_ok-put_run.ensures.ok;
+  same = g.met.W.LineSink.same_more _ _ _ c.loop-run.invariant.same c.in_ok-put_run.ensures.same;
+  still = c.in_ok-put_run.ensures.cause ∙ c.loop-run.invariant.still;
 }
 
-pub returns-in-Err-clause-stop : goal.returns-in-Err-clause-stop
-returns-in-Err-clause-stop g c =
-    some_stop missing_related missing_line_of g.W.LineSink.grew (missing_prbs_of c.args.kept.now) (g.W.LineSink.stopped c.in-Err.fault) c.args.runs.now c.loop-run.run-index _ c.loop-run-test.true
-    c.args.lines.now c.loop-run.lines c.args.out.now c.loop-run.out c.put_run.new.out c.loop-run.invariant.put c.in-Err.ensures.stop
+pub returns-in_err-put_run-clause-stop : goal.returns-in_err-put_run-clause-stop
+returns-in_err-put_run-clause-stop g c =
+    let stop = some_stop missing_related missing_line_of g.W.LineSink.grew (missing_prbs_of c.args.kept.now) (g.W.LineSink.stopped c.in_err-put_run.field-0.0) c.args.runs.now c.loop-run.run-index _ c.loop-run-test.true
+    c.args.lines.now c.loop-run.lines c.args.out.now c.loop-run.out c.put_run.new.out c.loop-run.invariant.put c.in_err-put_run.ensures.stop in
+    search (rules, stop)
 
 pub returns-clause-ok : goal.returns-clause-ok
 returns-clause-ok g c =

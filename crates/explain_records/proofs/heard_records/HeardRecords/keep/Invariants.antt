@@ -6,5 +6,5 @@ use Rattle.explain_records.proofs.heard_records.HeardRecords.keep.Given as goal
 
 abbrev pub invariant-loop-one : goal.invariant-loop-one
 invariant-loop-one l =
-    (c : Config) (ss : List Story) (s : Story) → s.side ≡ l.side → s.number ≡ l.number → SoFar c c.endpoints ss s l.heard l.initial.self
-    → SoFar c c.endpoints ss s (drop l.one-index l.heard) l.self
+    (c : Config) (ss : List Story) (s : Story) → s.side ≡ l.side → s.number ≡ l.number → SoFar c c.endpoints ss s l.judged l.initial.self
+    → SoFar c c.endpoints ss s (drop l.one-index l.judged) l.self

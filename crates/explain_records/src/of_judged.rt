@@ -1,15 +1,13 @@
-// The records of what lines say.
-ghost use Rattle.std.specs.Prelude.{◌≡◌, ◌<◌, ◌^◌, pos};
+// The records of what was judged.
+ghost use Rattle.std.specs.Prelude.{◌≡◌, pos};
 ghost use Rattle.std.specs.Int.{int_gap};
 ghost use Rattle.explain_model.specs.Margins.{control_class, data_class_of};
 ghost use Rattle.explain_model.specs.Records.{distance_by, distance_in};
-ghost use Rattle.explain_records.specs.OfLines.{command_of_line, data_of_line, header_of_line, why_of};
+ghost use Rattle.explain_records.specs.OfJudged.{command_of, data_of, header_of, why_of};
 
 use air_source::Side;
-use explain_model::{
-    CommandRecord, ControlLine, DataLine, DataRecord, HeaderRecord, HeaderWhy, Timing, WholeAnswer,
-    WholeLine,
-};
+use explain_heard::{CommandJudged, DataJudged, WholeJudged};
+use explain_model::{CommandRecord, DataRecord, HeaderRecord, HeaderWhy, Timing, WholeAnswer};
 use unit_model::{CommandVerdict, DataVerdict};
 use window_config::Class;
 
@@ -73,45 +71,45 @@ fn command_distance(verdict: CommandVerdict, timing: Timing) -> u64
     }
 }
 
-/// What is kept of a section of data that was received at a unit, for the endpoint with an index.
-pub fn data_record(side: Side, ep: usize, line: &DataLine) -> DataRecord
-    ensures { result ≡ data_of_line side ep line.now }
+/// What is kept of a section of data that was received at a unit.
+pub(crate) fn data_record(side: Side, number: u32, d: &DataJudged) -> DataRecord
+    ensures { result ≡ data_of side number d.now }
 {
-    let class = data_class_of(line.verdict);
+    let class = data_class_of(d.verdict);
     DataRecord {
         side,
-        ep,
-        slot: line.place.slot,
-        symbol: line.place.symbol,
-        first_prb: line.prb,
-        prbs: line.num,
-        section: line.section,
-        number: line.number,
+        ep: d.ep,
+        slot: d.slot,
+        symbol: d.symbol,
+        first_prb: d.prbs.first,
+        prbs: d.prbs.count,
+        section: d.section,
+        number,
         class,
-        distance: distance_in(class, line.timing),
+        distance: distance_in(class, d.timing),
     }
 }
 
-/// What is kept of a section of a command, for the endpoint with an index. None where it names no element, or is of type 0.
-pub fn command_record(ep: usize, line: &ControlLine) -> Option<CommandRecord>
-    requires { line.now.num < 2 ^ 8 }
-    ensures { result ≡ command_of_line ep line.now }
+/// What is kept of a section of a command. None where it names no element, or is of type 0.
+pub(crate) fn command_record(number: u32, c: &CommandJudged) -> Option<CommandRecord>
+    ensures { result ≡ command_of number c.now }
 {
-    if line.idle || line.mask == 0 {
+    let named = &c.allocation;
+    if named.idle || named.mask == 0 {
         return None;
     }
     Some(CommandRecord {
-        ep,
-        down: !line.uplink,
-        slot: line.place.slot,
-        symbol: line.place.symbol,
-        num_symbol: line.symbols,
-        start_prb: line.prb,
-        num_prb: line.num as u8,
-        mask: line.mask,
-        number: line.number,
-        verdict: line.verdict,
-        distance: command_distance(line.verdict, line.timing),
+        ep: named.ep,
+        down: named.down,
+        slot: named.slot,
+        symbol: named.symbol,
+        num_symbol: named.num_symbol,
+        start_prb: named.start_prb,
+        num_prb: named.num_prb,
+        mask: named.mask,
+        number,
+        verdict: c.verdict,
+        distance: command_distance(c.verdict, c.timing),
     })
 }
 
@@ -125,20 +123,17 @@ fn why_of(answer: &WholeAnswer) -> HeaderWhy
     }
 }
 
-/// What is kept of a complete message of data that was received at a unit and was not decoded, for the endpoint with an index. None where
-/// its header names no symbol.
-pub fn header_record(side: Side, ep: usize, line: &WholeLine) -> Option<HeaderRecord>
-    ensures { result ≡ header_of_line side ep line.now }
+/// What is kept of a complete message of data that was received at a unit and was not decoded. None where its header names no symbol.
+pub(crate) fn header_record(side: Side, number: u32, w: &WholeJudged) -> Option<HeaderRecord>
+    ensures { result ≡ header_of side number w.now }
 {
-    match line.named {
-        Some((slot, symbol)) => Some(HeaderRecord {
-            side,
-            ep,
-            slot,
-            symbol,
-            number: line.number,
-            why: why_of(&line.answer),
-        }),
-        None => None,
-    }
+    let (slot, symbol) = w.named?;
+    Some(HeaderRecord {
+        side,
+        ep: w.ep,
+        slot,
+        symbol,
+        number,
+        why: why_of(&w.answer),
+    })
 }

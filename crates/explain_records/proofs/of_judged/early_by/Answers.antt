@@ -1,8 +1,8 @@
 -- By its sign.
 use Rattle.std.proofs.Common.{◌∙◌, ap, rules, pos, unsigned_abs, w64, ◌<ℤ◌, ◌≤ℤ◌}
 use Rattle.std.proofs.lemmas.Int.{to_z-of_z}
-use Rattle.explain_records.proofs.LineLemmas.{below, not_below}
-use Rattle.explain_records.proofs.of_lines.early_by.Goals as goal
+use Rattle.explain_records.proofs.DistanceLemmas.{below, not_below}
+use Rattle.explain_records.proofs.of_judged.early_by.Goals as goal
 
 pub returns-then-timing-lt0 : goal.returns-then-timing-lt0
 returns-then-timing-lt0 c = let h : c.args.timing.since <ℤ pos 0 = search rules in c.unsigned_abs.ensures.value ∙ ap unsigned_abs (to_z-of_z w64 c.args.timing.since (search rules)) ∙ below c.args.timing.since h
