@@ -5,15 +5,14 @@ use Rattle.air_source.specs.Stops.{GrewSome, StopsIn}
 use Rattle.air_source.specs.declared.airs.AirFault.{AirFault}
 use Rattle.air_source.specs.declared.airs.AirFault.TheVariants.{Failed, NoMemory as WantsMemory}
 use Rattle.air_source.specs.declared.events.Event.{Event}
-use Rattle.explain_air.proofs.AirLemmas.{closed_rests, open_rests}
+use Rattle.explain_air.proofs.FlushLemmas.{after_rests}
 use Rattle.explain_air.proofs.Fronts.{text_part}
 use Rattle.explain_air.specs.Airs.{Grew, IsAfter, Stopped, owed_of, sink_of, text_of}
 use Rattle.explain_air.specs.Heard.{HasHeard}
 use Rattle.explain_air.specs.declared.air.ExplainAir.{ExplainAir}
 use Rattle.explain_air.specs.declared.kept.Kept.{Kept}
-use Rattle.explain_model.proofs.Counts.{behind_some}
 use Rattle.explain_model.proofs.Fronts.{lines_grow}
-use Rattle.explain_model.specs.Subjects.{Subject, are_counts, counts_last, is_count, open_lines, reasons_of}
+use Rattle.explain_model.specs.Subjects.{Subject, counts_last, open_lines, reasons_of}
 use Rattle.explain_model.specs.Stories.{arrival_count}
 use Rattle.explain_model.specs.Text.{explain_of}
 use Rattle.document_texts.proofs.EventLemmas.{counts_come_last}
@@ -43,9 +42,6 @@ nothing_told f d w =
     let s = subject_of d in
     text_part f w w d.config (reasons_of s (events_of d)) (events_of d) (open_lines s []) (lines_grow.going_on s [] (events_of d)) (front_none w (text_of f (open_lines s [])))
 
-all_counts : (e : Event) (later : List Event) → is_count e ≡ true → are_counts later ≡ true → are_counts (e ∷ later) ≡ true
-all_counts e later one others = rw one others
-
 module _ {K : Type 0} (of_sink : K → Option (List ℕ)) (d : Document) (f : Bool) (base : Option (List ℕ)) where
   abbrev A : Type 0
   A = ExplainAir K
@@ -58,7 +54,7 @@ module _ {K : Type 0} (of_sink : K → Option (List ℕ)) (d : Document) (f : Bo
 
   -- what the air heard, and how it stopped
   abbrev AirGrew : A → List Event → A → Type 0
-  AirGrew a events b = Grew a.faults a.kept (written a) (owed_of a) events b.faults b.kept (written b) (owed_of b)
+  AirGrew a events b = Grew d.config [] a.faults a.kept (written a) (owed_of a) events b.faults b.kept (written b) (owed_of b)
 
   abbrev AirStopped : AirFault → A → Event → A → Type 0
   AirStopped fault a e b = Stopped a.faults a.kept (written a) (owed_of a) e (written b)
@@ -83,14 +79,7 @@ module _ {K : Type 0} (of_sink : K → Option (List ℕ)) (d : Document) (f : Bo
   -- ---- told
 
   pub grown : (events : List Event) (a b : A) → IsAt [] a → AirGrew a events b → IsAt events b
-  grown events a b at grew = grew.after (subject_of d) f base [] at
-
-  rests : (before after : List Event) (b : A) → IsAt before b → counts_last (before ++ after) ≡ true → PartOf b (before ++ after)
-  rests before after b (inl h) last = open_rests (subject_of d) f base before b.faults b.kept (written b) (owed_of b) after h
-  rests before [] b (inr h) last = closed_rests (subject_of d) f base before b.faults b.kept (written b) (owed_of b) [] refl h
-  rests before (e ∷ after) b (inr h) last =
-      let both = behind_some before e after last h.counted in
-      closed_rests (subject_of d) f base before b.faults b.kept (written b) (owed_of b) (e ∷ after) (all_counts e after both.0 both.1) h
+  grown events a b at grew = grew.after (subject_of d) f base refl at
 
   last_of : (events : List Event) → events_of d ≡ events → counts_last events ≡ true
   last_of events is = subst (λ (es : List Event). counts_last es ≡ true) is (counts_come_last d.config (traffic_of d))
@@ -106,7 +95,7 @@ module _ {K : Type 0} (of_sink : K → Option (List ℕ)) (d : Document) (f : Bo
 
   rested_part : (a b : A) → IsAt [] a → GrewSome AirGrew (events_of d) a b → WritesPart base (written b) (explanation f d)
   rested_part a b at s =
-      part_of b (s.before ++ s.after) s.is (rests s.before s.after b (grown s.before a b at s.heard) (last_of (s.before ++ s.after) s.is))
+      part_of b (s.before ++ s.after) s.is (after_rests (subject_of d) f base s.before b.faults b.kept (written b) (owed_of b) s.after (last_of (s.before ++ s.after) s.is) (grown s.before a b at s.heard))
 
   -- it was cut in its events
   pub cut_part : (fault : TextFault) (a b : A) → IsAt [] a → CutBy fault AirGrew AirStopped (events_of d) a b → WritesPart base (written b) (explanation f d)

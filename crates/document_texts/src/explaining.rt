@@ -19,7 +19,7 @@ use du_scheduler::{Plan, planned_lines};
 use explain_air::{ExplainAir, Kept, PlanLines};
 use fh_base::{List, NoMemory, Sink};
 use fh_document::Document;
-use fronthaul_replay::{TextFault, replay_to};
+use fronthaul_replay::{TextFault, replay_listening_to};
 use std::alloc::Global;
 
 /// Writes the explanation of a document, or the text of its faults alone.
@@ -108,6 +108,6 @@ fn tell_all<K: Sink>(
     ensures few { OnOk result (HasFewFrames document.now) }
 {
     air.begin(&document.config)?;
-    replay_to(alloc, document, plan, air)?;
+    replay_listening_to(alloc, document, plan, air)?;
     air.finish().map_err(TextFault::from)
 }

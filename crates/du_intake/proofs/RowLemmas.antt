@@ -1,5 +1,5 @@
 -- One row of claims, and what the lines of a slot leave in the row.
-use Rattle.std.proofs.Common.{◌≡◌, ℕ, suc, zero, ◌+◌, ◌<◌, ◌^◌, inl, inr, Bool, true, false, not, ◌&&◌, ◌||◌, ◌==◌, if◌then◌else◌, List, [], ◌∷◌, ◌++◌, length, get_or, take, Option, Some, None, refl, ap, ap₂, sym, ◌∙◌, subst, arith}
+use Rattle.std.proofs.Common.{◌≡◌, ℕ, suc, zero, ◌+◌, ◌<◌, ◌^◌, inl, inr, Bool, true, false, ◌&&◌, ◌||◌, ◌==◌, if◌then◌else◌, List, [], ◌∷◌, ◌++◌, length, get_or, take, Option, Some, None, refl, ap, ap₂, sym, ◌∙◌, subst, arith}
 use Rattle.std.specs.Prelude.{◌%◌}
 use Rattle.std.specs.Int.Bits.{bit_and}
 use Rattle.std.proofs.lemmas.Bool.{and_parts}
@@ -47,12 +47,9 @@ same_claim m re = ap (λ (b : Bool). let o : Option Claim = if in_mask m.mask re
 
 pub claim_mask : (m : PlannedClaim) → m.mask < 2 ^ 12 → used_mask (claim_of_planned m) ≡ m.mask
 claim_mask m few =
+    let fits : m.mask % 2 ^ 16 % 2 ^ 12 ≡ m.mask = omega (arith, few) in
     used_same (claim_of_planned m) (claim_in (cell_claims_of m)) 12 (λ re below. same_claim m re)
-    ∙ sym (used_is (cell_claims_of m) m.mask few (λ re. sym (all (in_mask m.mask re)) ∙ ap (λ (b : Bool). in_mask m.mask re && not b) (sym (in_none re))))
-  where
-    all : (b : Bool) → (b && not false) ≡ b
-    all true = refl
-    all false = refl
+    ∙ sym (used_is (cell_claims_of m) (omega arith)) ∙ ap (λ (k : ℕ). bit_and k 4095) (and_mask m.mask 16) ∙ and_mask (m.mask % 2 ^ 16) 12 ∙ fits
 
 some_mask : (n : ℕ) → n < 2 ^ 12 → 0 < n → (bit_and n 4095 == 0) ≡ false
 some_mask n few some =

@@ -63,10 +63,8 @@ fn planned_cell(
 
 /// Hands an air a cell, and counts it. After an error nothing is counted.
 fn tell<A: Air>(counters: &mut Counters, cell: &AirCell, air: &mut A) -> Result<(), AirFault>
-    ensures heard { OnOk result (A.grew air.old (Reported cell.now ∷ []) air.new) }
-    ensures counts { OnOk result (CountsTold (cell.now ∷ []) counters.old counters.new) }
-    ensures kept { OnErr result (counters.new ≡ counters.old) }
-    ensures stop { IfErr result (λ f. A.stopped f air.old (Reported cell.now) air.new) }
+    ensures told { OnOk result (A.grew air.old (Reported cell.now ∷ []) air.new × CountsTold (cell.now ∷ []) counters.old counters.new) }
+    ensures stop { IfErr result (λ f. A.stopped f air.old (Reported cell.now) air.new × (counters.new ≡ counters.old)) }
     ensures same { A.same air.old air.new }
     ensures cause { HasAirCause (A.faults air.old) (A.faults air.new) result }
 {
@@ -98,10 +96,7 @@ impl Intake {
             None => Ok(()),
             Some(cell) => {
                 self.place.prb = prb;
-                match tell(&mut self.memory.counters, &cell, air) {
-                    Ok(()) => Ok(()),
-                    Err(fault) => Err(fault),
-                }
+                tell(&mut self.memory.counters, &cell, air)
             }
         }
     }
@@ -133,10 +128,7 @@ impl Intake {
     {
         self.claim();
         for prb in self.place.prb..m.endpoint.prbs {
-            match self.close_cell(m, prb, air) {
-                Ok(()) => {}
-                Err(fault) => return Err(fault),
-            }
+            self.close_cell(m, prb, air)?;
         }
         self.place = Place {
             symbol: self.place.symbol + 1,
@@ -175,15 +167,10 @@ impl Intake {
         ensures same { A.same air.old air.new }
         ensures cause { HasAirCause (A.faults air.old) (A.faults air.new) result }
     {
-        loop {
-            match self.next_due(to) {
-                None => return Ok(()),
-                Some(next) => match self.close_symbol(&next, air) {
-                    Ok(()) => {}
-                    Err(fault) => return Err(fault),
-                },
-            }
+        while let Some(next) = self.next_due(to) {
+            self.close_symbol(&next, air)?;
         }
+        Ok(())
     }
 
     /// Hands the air every planned cell that was not reported whose moment, the start of its symbol and Ta4's maximum, is at most
@@ -209,12 +196,8 @@ impl Intake {
         ensures same { A.same air.old air.new }
         ensures cause { HasAirCause (A.faults air.old) (A.faults air.new) result }
     {
-        match self.close_due(to, air) {
-            Ok(()) => {
-                self.clock = to;
-                Ok(())
-            }
-            Err(fault) => Err(fault),
-        }
+        self.close_due(to, air)?;
+        self.clock = to;
+        Ok(())
     }
 }

@@ -22,7 +22,7 @@ use fh_base::{CARRIER_PRBS, FIRST_CLOCK, NoMemory, Ticks, of_ns};
 use plan_model::PlannedLine;
 use std::alloc::Global;
 use unit_memory::{Arrived, TakesFrames, UnitMemory};
-use unit_model::Delivered;
+use unit_model::{Deaf, Delivered, Listener};
 use window_config::Config;
 
 /// How long after the start of its symbol a cell is reported.
@@ -68,7 +68,11 @@ pub struct Intake {
 impl Intake {
     ghost use Rattle.du_intake.specs.Calls.{IsIntakeDue, IsReportedBefore, MayTakeAt, IntakeStandsFor, intake_clock};
     ghost use Rattle.plan_model.specs.Lines.{uplink_allocations};
-    ghost use Rattle.unit_memory.specs.Control.{has_delay};
+    ghost use Rattle.unit_memory.specs.Control.{has_control, has_delay};
+    ghost use Rattle.unit_memory.specs.Memory.{arrival_at};
+    ghost use Rattle.std.specs.Prelude.{All, ◌∷◌};
+    ghost use Rattle.unit_model.specs.Standing.{AreInTime};
+    ghost use Rattle.unit_model.specs.Judgements.{judgements};
 
     /// Takes all memory of the unit, for the lines of a plan at their endpoints. Its clock is one frame before 0.
     ///
@@ -132,32 +136,43 @@ impl Intake {
         ensures messages { result.messages ≡ min (length (whole_messages frame.now)) (2 ^ 32 - 1) }
         ensures refusal { result.refusal ≡ (pdu frame.now).refusal }
     {
-        self.arrive(at, frame).delivered
+        self.arrive(&mut Deaf {}, at, frame).delivered
     }
 
-    /// The same, with what else the unit's memory answers of the frame.
-    fn arrive(&mut self, at: Ticks, frame: &[u8]) -> Arrived
+    /// The same, with what else the unit's memory answers of the frame. A listener hears what is judged.
+    fn arrive<L: Listener>(&mut self, listener: &mut L, at: Ticks, frame: &[u8]) -> Arrived
         requires unit { MayTakeAt at.0 self.old }
         requires order { (intake_clock self.old).0 ≤ℤ at.0 }
         requires time { IsTime at.0 }
         ensures stands { (c : SpecConfig) (planned : List SpecAllocation) (h : History) → IntakeStandsFor c planned self.old h → IsReportedBefore c planned h at.0
             → IntakeStandsFor c planned self.new (arrived (at_clock h at.0) frame.now) }
+        ensures told { (c : SpecConfig) (planned : List SpecAllocation) (h : History) → IntakeStandsFor c planned self.old h → IsReportedBefore c planned h at.0
+            → L.heard listener.old (judgements AtDu c h.arrivals (arrival_at at.0 frame.now)) listener.new }
+        ensures times { (c : SpecConfig) (planned : List SpecAllocation) (h : History) → IntakeStandsFor c planned self.old h → IsReportedBefore c planned h at.0
+            → IsConfig c × AreInTime at.0 (arrival_at at.0 frame.now ∷ h.arrivals) × All (λ a. IsTime a.at) (arrival_at at.0 frame.now ∷ h.arrivals) }
         ensures clock { intake_clock self.new ≡ at }
         ensures messages { result.delivered.messages ≡ min (length (whole_messages frame.now)) (2 ^ 32 - 1) }
         ensures refusal { result.delivered.refusal ≡ (pdu frame.now).refusal }
+        ensures control { result.control ≡ has_control frame.now }
         ensures delay { result.delay ≡ has_delay frame.now }
     {
         self.clock = at;
-        self.memory.arrive(at, frame)
+        self.memory.arrive_told(listener, at, frame)
     }
 }
 
 impl TakesFrames for Intake {
     ghost use Rattle.du_intake.specs.Calls.{IntakeMayTake};
 
+    ghost side = { AtDu };
+
     ghost may_take = { λ u c planned at h. IntakeMayTake u c planned at h };
 
     fn take(&mut self, at: Ticks, frame: &[u8]) -> bool {
-        self.arrive(at, frame).delay
+        self.arrive(&mut Deaf {}, at, frame).delay
+    }
+
+    fn take_told<L: Listener>(&mut self, listener: &mut L, at: Ticks, frame: &[u8]) -> Arrived {
+        self.arrive(listener, at, frame)
     }
 }

@@ -66,11 +66,11 @@ module _ (f : Bool) (w : Option (List ℕ)) (o : List ℕ) (none : o ≡ []) whe
         let lines = subst (λ (x : Bool). Carried v p (kept_text x (first_lines c)) u q) took.which first.carried in
         let all = carried_more w v u [] p q (line_text (line.Head f)) (kept_text f (first_lines c)) head_carried lines in
         let mine = subst (λ (x : Config). Carried w [] (text_of f (first_lines x)) u q) (sym is) all in
-        inl (record {
+        inl (inl (record {
           which_is = first.which ∙ took.which;
           kept_one = k;
           kept_is = still ∙ some;
           heard = heard;
           plain = refl;
           carried = subst (λ (ls : List ExplainLine). Carried w [] (text_of f ls) u q) (sym (first_open s)) mine;
-        })
+        }))

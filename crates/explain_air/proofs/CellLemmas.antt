@@ -1,15 +1,13 @@
 -- The runs that are noted of the lines of events are those of the events.
-use Rattle.std.proofs.Common.{◌≡◌, ℕ, List, [], ◌∷◌, ◌++◌, refl, sym, ap, ap₂, subst, ◌∙◌, append-nil}
+use Rattle.std.proofs.Common.{◌≡◌, List, [], ◌∷◌, ◌++◌, refl, sym, ap, ap₂, subst, ◌∙◌, append-nil}
 use Rattle.std.specs.List.{AllByRecursion, flat_map}
 use Rattle.std.proofs.lemmas.List.Concat.{flat_map-append}
 use Rattle.air_source.specs.declared.events.Event.{Event}
-use Rattle.ecpri_fragments.specs.Pieces.{joined}
 use Rattle.explain_air.specs.Notes.{cells_in}
 use Rattle.explain_model.specs.declared.values.ExplainLine.{ExplainLine}
 use Rattle.explain_model.specs.declared.values.ExplainLine.TheVariants as line
 use Rattle.explain_model.proofs.PieceLemmas as parts
 use Rattle.explain_model.specs.Cells.{Entry, Lines, Of, entries, event_lines, lines_in, piece_lines, runs, runs_on}
-use Rattle.explain_model.specs.Pieces.{pieces}
 use Rattle.explain_model.specs.Stories.{told}
 use Rattle.explain_model.specs.Seen.{cell_runs, run_of}
 use Rattle.explain_model.specs.declared.runs.CellRun.{CellRun}

@@ -1,5 +1,6 @@
 pub mod AirLemmas
 pub mod AirSteps
+pub mod FlushLemmas
 pub mod ArrivalLemmas
 pub mod BeginLemmas
 pub mod CellLemmas
@@ -11,5 +12,5 @@ pub mod Fronts
 pub mod KeptLemmas
 pub mod NotingLemmas
 pub mod RunLemmas
-pub mod SoundLemmas
+pub mod LastLemmas
 pub mod Stopping

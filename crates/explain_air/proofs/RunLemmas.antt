@@ -1,5 +1,5 @@
 -- The run of cells that may go on.
-use Rattle.std.proofs.Common.{◌≡◌, ◌+◌, ◌==◌, ℕ, true, List, [], ◌∷◌, ◌++◌, Option, Some, None, refl}
+use Rattle.std.proofs.Common.{◌≡◌, ◌+◌, true}
 use Rattle.std.proofs.lemmas.Bool.{and_parts, eqb-true}
 use Rattle.air_source.specs.declared.events.AirCell.{AirCell}
 use Rattle.explain_model.specs.declared.values.CellWord.{CellWord}

@@ -1,7 +1,13 @@
 -- How far lines were taken, of a part of some lines and of all.
-use Rattle.std.proofs.Common.{◌≡◌, List, [], ◌∷◌, ◌++◌, ◌⊎◌, inl, inr, refl, sym, ap, ◌∙◌, append_assoc, append-nil}
+use Rattle.std.proofs.Common.{List, [], ◌∷◌, ◌++◌, ◌⊎◌, inl, inr, refl, sym, ap, ◌∙◌, append_assoc, append-nil}
+use Rattle.std.specs.Prelude.{IfErr, Result, Ok, Err}
 use Rattle.explain_model.specs.declared.values.ExplainLine.{ExplainLine}
-use Rattle.explain_heard.specs.Stops.{StopsBetween, StopsSome, Between, Within, StopsInLine}
+use Rattle.explain_heard.specs.Stops.{StopsSome, Between, Within, StopsInLine}
+
+-- what is so of each fault
+pub if_err_all : {T E : Type 0} {P : E → Type 0} (r : Result T E) → ((f : E) → P f) → IfErr r P
+if_err_all (Ok x) all = tt
+if_err_all (Err f) all = all f
 
 module _ {W : Type 0} (grew : W → List ExplainLine → W → Type 0) (stopped : W → ExplainLine → W → Type 0) where
   -- in one line, or before it

@@ -5,6 +5,7 @@ pub mod Notes
 pub mod NoteLaws
 pub mod Notings
 pub mod Runs
+pub mod LastFrames
 pub mod Heard
 pub mod Closing
 pub mod Airs

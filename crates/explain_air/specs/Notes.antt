@@ -1,6 +1,6 @@
 -- What is noted of lines: the sums that they tell, and the runs of cells.
 use Rattle.std.specs.Prelude.{◌≡◌, ℕ, List, [], ◌∷◌, ◌++◌}
-use Rattle.std.specs.List.{AllByRecursion, flat_map}
+use Rattle.std.specs.List.{flat_map}
 use Rattle.explain_air.specs.declared.notes.Notes.{Notes}
 use Rattle.explain_model.specs.declared.places.PrbRun.{PrbRun}
 use Rattle.explain_model.specs.declared.values.CellWord.{CellWord}

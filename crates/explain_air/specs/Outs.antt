@@ -1,11 +1,10 @@
 -- What a contract sees of what takes lines to a sink (this project's profile).
-use Rattle.std.specs.Prelude.{◌≡◌, ℕ, Bool, List, [], ◌∷◌, ◌++◌, Option}
+use Rattle.std.specs.Prelude.{◌≡◌, ℕ, Bool, List, Option}
 use Rattle.std.specs.Borrow.{GName}
 use Rattle.explain_air.specs.declared.out.LineOut.{LineOut}
 use Rattle.explain_model.specs.Lines.{lines_text}
 use Rattle.explain_model.specs.declared.values.ExplainLine.{ExplainLine}
 use Rattle.explain_model.specs.Text.{kept}
-use Rattle.fh_base.specs.Told.{WritesFront}
 use Rattle.fh_base.specs.Owed.{Carried}
 
 -- of these lines the ones that are kept, as a text

@@ -93,108 +93,98 @@ fn note_unused<W: LineSink>(
     tell_unused(alloc, ordered, sorted, endpoints, &mut noting)
 }
 
+/// What reasons are found in beside the runs of cells.
+#[derive(Drop)]
+struct Grounds<'a> {
+    endpoints: &'a [EndpointConfig],
+    ordered: &'a OrderedKept,
+    plan: &'a PlanLines,
+}
+
 /// Tells why elements of the plan are silent, and which blocks no cell shows.
 fn tell_rest<W: LineSink>(
     alloc: Global,
-    endpoints: &[EndpointConfig],
-    ordered: &OrderedKept,
+    grounds: &Grounds<'_>,
     cells: CellRuns,
-    plan: &PlanLines,
     notes: &mut Notes,
     out: &mut W,
 ) -> Result<(), AirFault>
-    ensures noted { OnOk result ((s : Subject) (events : List Event) → AreOf s events endpoints.now ordered.now cells plan.now → HasNoted notes.old (rest_of s events) notes.new) }
-    ensures heard { OnOk result ((s : Subject) (events : List Event) → AreOf s events endpoints.now ordered.now cells plan.now → W.grew out.old (rest_of s events) out.new) }
-    ensures stop { IfErr result (λ f. (s : Subject) (events : List Event) → AreOf s events endpoints.now ordered.now cells plan.now → StopsSome W.grew (W.stopped f) (rest_of s events) out.old out.new) }
+    ensures noted { OnOk result ((s : Subject) (events : List Event) → AreOf s events grounds.now.endpoints.now grounds.now.ordered.now cells grounds.now.plan.now → HasNoted notes.old (rest_of s events) notes.new) }
+    ensures heard { OnOk result ((s : Subject) (events : List Event) → AreOf s events grounds.now.endpoints.now grounds.now.ordered.now cells grounds.now.plan.now → W.grew out.old (rest_of s events) out.new) }
+    ensures stop { IfErr result (λ f. (s : Subject) (events : List Event) → AreOf s events grounds.now.endpoints.now grounds.now.ordered.now cells grounds.now.plan.now → StopsSome W.grew (W.stopped f) (rest_of s events) out.old out.new) }
     ensures same { W.same out.old out.new }
     ensures cause { HasAirCause (W.faults out.old) (W.faults out.new) result }
 {
-    let sorted = match cells.order() {
-        Ok(sorted) => sorted,
-        Err(fault) => return Err(AirFault::from(fault)),
-    };
-    match note_silent(ordered, &sorted, plan, notes, out) {
-        Ok(()) => note_unused(alloc, endpoints, ordered, &sorted, notes, out),
-        Err(fault) => Err(fault),
-    }
+    let sorted = cells.order()?;
+    note_silent(grounds.ordered, &sorted, grounds.plan, notes, out)?;
+    note_unused(
+        alloc,
+        grounds.endpoints,
+        grounds.ordered,
+        &sorted,
+        notes,
+        out,
+    )
 }
 
 /// Tells why cells are missing and elements of the plan are silent, and which blocks no cell shows.
-pub(crate) fn tell_reasons<W: LineSink>(
+fn tell_reasons<W: LineSink>(
     alloc: Global,
-    endpoints: &[EndpointConfig],
-    ordered: &OrderedKept,
+    grounds: &Grounds<'_>,
     cells: CellRuns,
-    plan: &PlanLines,
     notes: &mut Notes,
     out: &mut W,
 ) -> Result<(), AirFault>
-    ensures noted { OnOk result ((s : Subject) (events : List Event) → AreOf s events endpoints.now ordered.now cells plan.now → HasNoted notes.old ((reasons_of s events).whys) notes.new) }
-    ensures heard { OnOk result ((s : Subject) (events : List Event) → AreOf s events endpoints.now ordered.now cells plan.now → W.grew out.old ((reasons_of s events).whys) out.new) }
-    ensures stop { IfErr result (λ f. (s : Subject) (events : List Event) → AreOf s events endpoints.now ordered.now cells plan.now → StopsSome W.grew (W.stopped f) ((reasons_of s events).whys) out.old out.new) }
+    ensures noted { OnOk result ((s : Subject) (events : List Event) → AreOf s events grounds.now.endpoints.now grounds.now.ordered.now cells grounds.now.plan.now → HasNoted notes.old ((reasons_of s events).whys) notes.new) }
+    ensures heard { OnOk result ((s : Subject) (events : List Event) → AreOf s events grounds.now.endpoints.now grounds.now.ordered.now cells grounds.now.plan.now → W.grew out.old ((reasons_of s events).whys) out.new) }
+    ensures stop { IfErr result (λ f. (s : Subject) (events : List Event) → AreOf s events grounds.now.endpoints.now grounds.now.ordered.now cells grounds.now.plan.now → StopsSome W.grew (W.stopped f) ((reasons_of s events).whys) out.old out.new) }
     ensures same { W.same out.old out.new }
     ensures cause { HasAirCause (W.faults out.old) (W.faults out.new) result }
 {
-    match note_missing(ordered, &cells, notes, out) {
-        Ok(()) => tell_rest(alloc, endpoints, ordered, cells, plan, notes, out),
-        Err(fault) => Err(fault),
-    }
+    note_missing(grounds.ordered, &cells, notes, out)?;
+    tell_rest(alloc, grounds, cells, notes, out)
 }
 
 /// Tells the margins of both units.
-pub(crate) fn tell_margins<W: LineSink>(
-    ru: &UnitLines,
-    du: &UnitLines,
-    out: &mut W,
-) -> Result<(), AirFault>
+fn tell_margins<W: LineSink>(ru: &UnitLines, du: &UnitLines, out: &mut W) -> Result<(), AirFault>
     ensures heard { OnOk result ((c : SpecConfig) (events : List Event) → IsUnitAfter Ru c events ru.now → IsUnitAfter Du c events du.now → W.grew out.old (margin_lines c events) out.new) }
     ensures stop { IfErr result (λ f. (c : SpecConfig) (events : List Event) → IsUnitAfter Ru c events ru.now → IsUnitAfter Du c events du.now → StopsSome W.grew (W.stopped f) (margin_lines c events) out.old out.new) }
     ensures same { W.same out.old out.new }
     ensures cause { HasAirCause (W.faults out.old) (W.faults out.new) result }
 {
-    match ru.tell_margins(out) {
-        Ok(()) => du.tell_margins(out),
-        Err(fault) => Err(fault),
-    }
+    ru.tell_margins(out)?;
+    du.tell_margins(out)
 }
 
 /// Tells how many cells are shown, and how many missing or silent for which reason.
-pub(crate) fn tell_sums<W: LineSink>(sums: &ReasonSums, out: &mut W) -> Result<(), AirFault>
+fn tell_sums<W: LineSink>(sums: &ReasonSums, out: &mut W) -> Result<(), AirFault>
     ensures heard { OnOk result ((es : List SpecEndpoint) (ls : List SpecLine) → AreSums es ls sums.now → W.grew out.old (sum_text es Ru ls ++ sum_text es Du ls) out.new) }
     ensures stop { IfErr result (λ f. (es : List SpecEndpoint) (ls : List SpecLine) → AreSums es ls sums.now → StopsSome W.grew (W.stopped f) (sum_text es Ru ls ++ sum_text es Du ls) out.old out.new) }
     ensures same { W.same out.old out.new }
     ensures cause { HasAirCause (W.faults out.old) (W.faults out.new) result }
 {
-    match sums.tell(Side::Ru, out) {
-        Ok(()) => sums.tell(Side::Du, out),
-        Err(fault) => Err(fault),
-    }
+    sums.tell(Side::Ru, out)?;
+    sums.tell(Side::Du, out)
 }
 
 /// Tells the reasons, the margins of both units, and how many cells are shown, missing or silent.
 fn tell_ending<W: LineSink>(
     alloc: Global,
-    endpoints: &[EndpointConfig],
-    ordered: &OrderedKept,
+    grounds: &Grounds<'_>,
     cells: CellRuns,
-    plan: &PlanLines,
     ru: &UnitLines,
     du: &UnitLines,
     notes: &mut Notes,
     out: &mut W,
 ) -> Result<(), AirFault>
-    ensures heard { OnOk result ((s : Subject) (events : List Event) → IsEnding s events endpoints.now ordered.now cells plan.now ru.now du.now notes.old → W.grew out.old (reason_lines s events) out.new) }
-    ensures stop { IfErr result (λ f. (s : Subject) (events : List Event) → IsEnding s events endpoints.now ordered.now cells plan.now ru.now du.now notes.old → StopsSome W.grew (W.stopped f) (reason_lines s events) out.old out.new) }
+    ensures heard { OnOk result ((s : Subject) (events : List Event) → IsEnding s events grounds.now.endpoints.now grounds.now.ordered.now cells grounds.now.plan.now ru.now du.now notes.old → W.grew out.old (reason_lines s events) out.new) }
+    ensures stop { IfErr result (λ f. (s : Subject) (events : List Event) → IsEnding s events grounds.now.endpoints.now grounds.now.ordered.now cells grounds.now.plan.now ru.now du.now notes.old → StopsSome W.grew (W.stopped f) (reason_lines s events) out.old out.new) }
     ensures same { W.same out.old out.new }
     ensures cause { HasAirCause (W.faults out.old) (W.faults out.new) result }
 {
-    match tell_reasons(alloc, endpoints, ordered, cells, plan, notes, out) {
-        Ok(()) => match tell_margins(ru, du, out) {
-            Ok(()) => tell_sums(&notes.sums, out),
-            Err(fault) => Err(fault),
-        },
-        Err(fault) => Err(fault),
-    }
+    tell_reasons(alloc, grounds, cells, notes, out)?;
+    tell_margins(ru, du, out)?;
+    tell_sums(&notes.sums, out)
 }
 
 /// Sorts the records, and tells what is between the lines of the events and the counters.
@@ -213,23 +203,13 @@ pub(crate) fn tell_last<W: LineSink>(
     ensures cause { HasAirCause (W.faults out.old) (W.faults out.new) result }
 {
     let mut notes = notes;
-    let endpoints = match notes.copy_endpoints(alloc) {
-        Ok(endpoints) => endpoints,
-        Err(fault) => return Err(AirFault::from(fault)),
-    };
+    let endpoints = notes.copy_endpoints(alloc)?;
     let cells = replace(&mut notes.cells, CellRuns::new(alloc));
-    match records.order(alloc) {
-        Ok(ordered) => tell_ending(
-            alloc,
-            endpoints.as_slice(),
-            &ordered,
-            cells,
-            plan,
-            ru,
-            du,
-            &mut notes,
-            out,
-        ),
-        Err(fault) => Err(AirFault::from(fault)),
-    }
+    let ordered = records.order(alloc)?;
+    let grounds = Grounds {
+        endpoints: endpoints.as_slice(),
+        ordered: &ordered,
+        plan,
+    };
+    tell_ending(alloc, &grounds, cells, ru, du, &mut notes, out)
 }

@@ -53,10 +53,7 @@ fn tell_lines<W: LineSink>(lines: &[ExplainLine], out: &mut W) -> Result<(), Air
     ensures cause { HasAirCause (W.faults out.old) (W.faults out.new) result }
 {
     for line in lines {
-        match out.put(line) {
-            Ok(()) => {}
-            Err(fault) => return Err(fault),
-        }
+        out.put(line)?;
     }
     Ok(())
 }
@@ -69,10 +66,7 @@ fn tell_endpoints<W: LineSink>(endpoints: &[EndpointConfig], out: &mut W) -> Res
     ensures cause { HasAirCause (W.faults out.old) (W.faults out.new) result }
 {
     for endpoint in endpoints {
-        match out.put(&ExplainLine::Endpoint(*endpoint)) {
-            Ok(()) => {}
-            Err(fault) => return Err(fault),
-        }
+        out.put(&ExplainLine::Endpoint(*endpoint))?;
     }
     Ok(())
 }
@@ -85,8 +79,6 @@ pub(crate) fn tell_first<W: LineSink>(config: &Config, out: &mut W) -> Result<()
     ensures same { W.same out.old out.new }
     ensures cause { HasAirCause (W.faults out.old) (W.faults out.new) result }
 {
-    match tell_lines(&window_lines(&config.delays), out) {
-        Ok(()) => tell_endpoints(config.endpoints.as_slice(), out),
-        Err(fault) => Err(fault),
-    }
+    tell_lines(&window_lines(&config.delays), out)?;
+    tell_endpoints(config.endpoints.as_slice(), out)
 }

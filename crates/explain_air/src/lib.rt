@@ -6,10 +6,12 @@ mod cells;
 mod closing;
 mod first;
 mod kept;
+mod last;
 mod notes;
 mod out;
 mod plan;
 mod runs;
+mod windows;
 
 pub use air::ExplainAir;
 pub use kept::Kept;

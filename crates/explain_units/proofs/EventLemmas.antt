@@ -1,14 +1,12 @@
 -- One more event, and what is kept of a unit.
-use Rattle.std.proofs.Common.{◌≡◌, ℕ, suc, ◌<◌, Bool, false, List, [], ◌∷◌, ◌++◌, refl, sym, ap, subst, ◌∙◌, append-nil, arith}
-use Rattle.std.specs.Prelude.{Option, if◌then◌else◌, length}
+use Rattle.std.proofs.Common.{◌≡◌, ℕ, suc, ◌<◌, Bool, List, [], ◌∷◌, ◌++◌, refl, sym, ap, subst, ◌∙◌, append-nil, arith}
+use Rattle.std.specs.Prelude.{All, Option, if◌then◌else◌, length}
 use Rattle.std.specs.List.{flat_map}
 use Rattle.std.proofs.lemmas.Grind.{flat_map-append}
-use Rattle.air_source.specs.Units.{same_side}
 use Rattle.air_source.specs.declared.events.AirCell.{AirCell}
 use Rattle.air_source.specs.declared.events.Event.{Event}
 use Rattle.air_source.specs.declared.events.Event.TheVariants as event
 use Rattle.air_source.specs.declared.events.Side.{Side}
-use Rattle.air_source.specs.declared.events.Side.TheVariants.{Ru, Du}
 use Rattle.explain_units.proofs.GiverLemmas.{givers_are_kept}
 use Rattle.explain_units.specs.Blocks.{giver_of}
 use Rattle.explain_units.specs.Laws.{kept_by, kept_from, kept_in}
@@ -16,7 +14,8 @@ use Rattle.explain_units.specs.declared.blocks.Given.{Given as Kept}
 use Rattle.ecpri_frames.specs.Messages.{pdu}
 use Rattle.ecpri_frames.specs.declared.refusals.PduRefusal.{PduRefusal}
 use Rattle.explain_heard.specs.Heard.{all_heard}
-use Rattle.explain_heard.specs.declared.heard.Heard.{Heard}
+use Rattle.explain_heard.specs.Judged.{all_judged}
+use Rattle.explain_heard.specs.declared.judged.Judged.{Judged}
 use Rattle.explain_units.specs.declared.kept_margins.EndpointMargins.{EndpointMargins}
 use Rattle.explain_model.specs.declared.values.ExplainLine.{ExplainLine}
 use Rattle.explain_model.specs.declared.values.ExplainLine.TheVariants as line
@@ -29,38 +28,27 @@ use Rattle.explain_model.specs.Sections.{frame_line, story_lines}
 use Rattle.explain_model.specs.Stories.{Came, Story, Told, arrival_count, arrival_with, stories, stories_in, story, told, told_after, told_of}
 use Rattle.explain_units.proofs.KnownLemmas.{all_known, all_lines, none_known}
 use Rattle.explain_units.proofs.MarginLemmas.{margins_are_told}
-use Rattle.explain_units.specs.Ears.{HearsFor}
+use Rattle.explain_units.specs.Frames.{IsFrame, judged_next, line_of}
+use Rattle.explain_units.specs.declared.frames.FrameHeard.{FrameHeard}
 use Rattle.explain_units.specs.Known.{IsKnown, Known, after_all, all_said, nothing_known}
 use Rattle.explain_units.specs.MarginLines.{margins_said}
 use Rattle.explain_units.specs.Knowing.{known_of}
-use Rattle.explain_units.specs.Units.{IsElsewhere, IsUnitAfter, frame_lines, judged_next}
+use Rattle.explain_units.specs.Units.{IsElsewhere, IsUnitAfter, frame_lines}
 use Rattle.explain_units.specs.declared.units.UnitLines.{UnitLines}
 use Rattle.fh_base.specs.declared.values.Ticks.{Ticks}
-use Rattle.unit_model.specs.Heard.{arrivals_heard, is_of}
+use Rattle.unit_laws.specs.Sound.{IsSoundJudgement}
+use Rattle.unit_model.specs.Heard.{arrivals_heard}
 use Rattle.unit_model.specs.Judgements.{Judgement}
 use Rattle.fh_base.specs.Lists.{onto}
-use Rattle.unit_model.specs.Meetings.{Arrival}
+use Rattle.window_config.specs.Configs.{IsConfig}
 use Rattle.window_config.specs.declared.config.Config.{Config}
-use Rattle.unit_model.proofs.ArrivalLemmas.{arrivals-append, own}
 use Rattle.air_source.proofs.Sides.{side_self}
-
-other : (side at_side : Side) → same_side at_side side ≡ false → is_of side at_side ≡ false
-other Ru Ru h = h
-other Ru Du h = refl
-other Du Ru h = refl
-other Du Du h = h
 
 -- ---- an arrival at the unit
 
 module _ (side : Side) (c : Config) (events : List Event) (at : Ticks) (frame : List ℕ) where
   abbrev now_told : Story
   now_told = story c (suc (arrival_count events)) side (arrivals_heard side [] events) (arrival_with at.0 frame)
-
-  pub arrivals_own : arrivals_heard side [] (events ++ event.Arrival side at frame ∷ []) ≡ arrival_with at.0 frame ∷ arrivals_heard side [] events
-  unfolding arrivals_heard
-  arrivals_own =
-      arrivals-append side [] events (event.Arrival side at frame ∷ [])
-      ∙ ap (λ (b : Bool). let xs : List Arrival = if b then arrival_with at.0 frame ∷ arrivals_heard side [] events else arrivals_heard side [] events in xs) (own side)
 
   pub judged_own : judged_before side (told c (events ++ event.Arrival side at frame ∷ [])) ≡ onto (judged_before side (told c events)) (judged_next side c events at.0 frame)
   judged_own =
@@ -92,19 +80,19 @@ module _ (side : Side) (c : Config) (events : List Event) (at : Ticks) (frame : 
   dated_own = judged_go_on.on_dated side c events (event.Arrival side at frame) ∙ ap (λ (ds : List Dated). dated side c events ++ ds) dated_now
 
   -- what is known then
-  pub known_own : (number : ℕ) (k : Known) → number ≡ suc (arrival_count events)
-      → IsKnown side c (kept_from side (stories c events)) (judged_before side (told c events)) (dated side c events) k
-      → IsKnown side c (kept_from side (stories c (events ++ event.Arrival side at frame ∷ []))) (judged_before side (told c (events ++ event.Arrival side at frame ∷ [])))
-      (dated side c (events ++ event.Arrival side at frame ∷ [])) (after_all number (all_heard side c.endpoints (judged_next side c events at.0 frame)) k)
-  known_own number k is h =
+  pub known_own : (number : ℕ) (k : Known) → number ≡ suc (arrival_count events) → IsConfig c → All (IsSoundJudgement c.endpoints) (judged_next side c events at.0 frame)
+      → IsKnown c (kept_from side (stories c events)) (judged_before side (told c events)) (dated side c events) k
+      → IsKnown c (kept_from side (stories c (events ++ event.Arrival side at frame ∷ []))) (judged_before side (told c (events ++ event.Arrival side at frame ∷ [])))
+      (dated side c (events ++ event.Arrival side at frame ∷ [])) (after_all number (all_judged side c.delays (all_heard side c.endpoints (judged_next side c events at.0 frame))) k)
+  known_own number k is config sound h =
       let some_number : 0 < number = omega (arith, is) in
-      let new = after_all number (all_heard side c.endpoints (judged_next side c events at.0 frame)) k in
-      let all = all_known side c number (judged_next side c events at.0 frame) (kept_from side (stories c events)) (judged_before side (told c events)) (dated side c events) k some_number h in
+      let new = after_all number (all_judged side c.delays (all_heard side c.endpoints (judged_next side c events at.0 frame))) k in
+      let all = all_known side c number (judged_next side c events at.0 frame) (kept_from side (stories c events)) (judged_before side (told c events)) (dated side c events) k some_number config.endpoints sound h in
       let gs = kept_from side (stories c (events ++ event.Arrival side at frame ∷ [])) in
       let js = judged_before side (told c (events ++ event.Arrival side at frame ∷ [])) in
-      subst (λ (ds : List Dated). IsKnown side c gs js ds new) (sym dated_own)
-      (subst (λ (xs : List Judgement). IsKnown side c gs xs (dated side c events ++ flat_map (dated_of side c.delays) (judged_next side c events at.0 frame)) new) (sym judged_own)
-      (subst (λ (xs : List Kept). IsKnown side c xs (onto (judged_before side (told c events)) (judged_next side c events at.0 frame))
+      subst (λ (ds : List Dated). IsKnown c gs js ds new) (sym dated_own)
+      (subst (λ (xs : List Judgement). IsKnown c gs xs (dated side c events ++ flat_map (dated_of side c.delays) (judged_next side c events at.0 frame)) new) (sym judged_own)
+      (subst (λ (xs : List Kept). IsKnown c xs (onto (judged_before side (told c events)) (judged_next side c events at.0 frame))
       (dated side c events ++ flat_map (dated_of side c.delays) (judged_next side c events at.0 frame)) new) (kept_is number is) all))
     where
       kept_is : (number : ℕ) → number ≡ suc (arrival_count events)
@@ -112,60 +100,55 @@ module _ (side : Side) (c : Config) (events : List Event) (at : Ticks) (frame : 
       kept_is number is = ap (λ (n : ℕ). kept_from side (stories c events) ++ flat_map (kept_by n) (judged_next side c events at.0 frame)) is ∙ sym kept_own
 
   -- the lines
-  pub lines_own : (number : ℕ) (k : Known) → number ≡ suc (arrival_count events)
-      → IsKnown side c (kept_from side (stories c events)) (judged_before side (told c events)) (dated side c events) k
-      → frame_line (story c number side (arrivals_heard side [] events) (arrival_with at.0 frame)) ∷ all_said number (all_heard side c.endpoints (judged_next side c events at.0 frame)) k
+  pub lines_own : (number : ℕ) (k : Known) → number ≡ suc (arrival_count events) → IsConfig c → All (IsSoundJudgement c.endpoints) (judged_next side c events at.0 frame)
+      → IsKnown c (kept_from side (stories c events)) (judged_before side (told c events)) (dated side c events) k
+      → frame_line (story c number side (arrivals_heard side [] events) (arrival_with at.0 frame)) ∷ all_said number (all_judged side c.delays (all_heard side c.endpoints (judged_next side c events at.0 frame))) k
       ≡ frame_lines side c events number at.0 frame
   unfolding story_lines
-  lines_own number k is h =
+  lines_own number k is config sound h =
       let some_number : 0 < number = omega (arith, is) in
       ap (λ (ls : List ExplainLine). frame_line (story c number side (arrivals_heard side [] events) (arrival_with at.0 frame)) ∷ ls)
-      (all_lines side c number (judged_next side c events at.0 frame) (kept_from side (stories c events)) (judged_before side (told c events)) (dated side c events) k some_number h)
+      (all_lines side c number (judged_next side c events at.0 frame) (kept_from side (stories c events)) (judged_before side (told c events)) (dated side c events) k some_number config.endpoints sound h)
 
+module _ (c : Config) (events : List Event) (bytes : List ℕ) (f : FrameHeard) (judged : List Judged) (u : UnitLines) (h : IsUnitAfter f.side c events u)
+    (is : IsFrame c events bytes f judged) where
   -- the unit after it
-  pub unit_heard : (number : ℕ) (u v : UnitLines) (heard : List Heard) → IsUnitAfter side c events u → number ≡ suc (arrival_count events)
-      → HearsFor side c (arrival_with at.0 frame ∷ arrivals_heard side [] events) v.ear → heard ≡ all_heard side c.endpoints (judged_next side c events at.0 frame)
-      → known_of v.earlier ≡ after_all number heard (known_of u.earlier) → IsUnitAfter side c (events ++ event.Arrival side at frame ∷ []) v
-  unit_heard number u v heard h is ear heard_is known_is = record {
-    ear = subst (λ (xs : List Arrival). HearsFor side c xs v.ear) (sym arrivals_own) ear;
-    earlier =
-        subst (λ (k : Known). IsKnown side c (kept_from side (stories c (events ++ event.Arrival side at frame ∷ []))) (judged_before side (told c (events ++ event.Arrival side at frame ∷ [])))
-        (dated side c (events ++ event.Arrival side at frame ∷ [])) k)
-        (sym (known_is ∙ ap (λ (hs : List Heard). after_all number hs (known_of u.earlier)) heard_is)) (known_own number (known_of u.earlier) is h.earlier);
-  }
+  pub unit_heard : (v : UnitLines) → v.side ≡ u.side → known_of v.earlier ≡ after_all f.number judged (known_of u.earlier) → IsUnitAfter f.side c (events ++ event.Arrival f.side f.at bytes ∷ []) v
+  unit_heard v same known_is =
+      let all = events ++ event.Arrival f.side f.at bytes ∷ [] in
+      record {
+        side_is = same ∙ h.side_is;
+        earlier =
+            subst (λ (k : Known). IsKnown c (kept_from f.side (stories c all)) (judged_before f.side (told c all)) (dated f.side c all) k)
+            (sym (known_is ∙ ap (λ (hs : List Judged). after_all f.number hs (known_of u.earlier)) is.judged_is))
+            (known_own f.side c events f.at bytes f.number (known_of u.earlier) is.number_is is.config is.sound h.earlier);
+      }
 
   -- its lines, as they are told
-  pub frame_said : (number : ℕ) (u : UnitLines) (bytes : ℕ) (heard : List Heard) (refusal : Option PduRefusal) → IsUnitAfter side c events u → number ≡ suc (arrival_count events)
-      → bytes ≡ length frame → refusal ≡ (pdu frame).refusal → heard ≡ all_heard side c.endpoints (judged_next side c events at.0 frame)
-      → line.Frame number u.earlier.side at bytes refusal ∷ all_said number heard (known_of u.earlier) ≡ frame_lines side c events number at.0 frame
-  frame_said number u bytes heard refusal h is bytes_is refusal_is heard_is =
-      ap (λ (s : Side). line.Frame number s at bytes refusal ∷ all_said number heard (known_of u.earlier)) h.earlier.side_is
-      ∙ ap (λ (n : ℕ). line.Frame number side at n refusal ∷ all_said number heard (known_of u.earlier)) bytes_is
-      ∙ ap (λ (r : Option PduRefusal). line.Frame number side at (length frame) r ∷ all_said number heard (known_of u.earlier)) refusal_is
-      ∙ ap (λ (hs : List Heard). line.Frame number side at (length frame) (pdu frame).refusal ∷ all_said number hs (known_of u.earlier)) heard_is
-      ∙ lines_own number (known_of u.earlier) is h.earlier
+  pub frame_said : line_of f ∷ all_said f.number judged (known_of u.earlier) ≡ frame_lines f.side c events f.number f.at.0 bytes
+  frame_said =
+      ap (λ (n : ℕ). line.Frame f.number f.side f.at n f.refusal ∷ all_said f.number judged (known_of u.earlier)) is.bytes_are
+      ∙ ap (λ (r : Option PduRefusal). line.Frame f.number f.side f.at (length bytes) r ∷ all_said f.number judged (known_of u.earlier)) is.refusal_is
+      ∙ ap (λ (hs : List Judged). line.Frame f.number f.side f.at (length bytes) (pdu bytes).refusal ∷ all_said f.number hs (known_of u.earlier)) is.judged_is
+      ∙ lines_own f.side c events f.at bytes f.number (known_of u.earlier) is.number_is is.config is.sound h.earlier
 
 -- ---- any other event
 
 module _ (side : Side) (c : Config) (events : List Event) where
   -- it adds nothing to these
   record IsQuiet (e : Event) : Type 0 where
-    pub arrivals : arrivals_heard side [] (events ++ e ∷ []) ≡ arrivals_heard side [] events
     pub judged : judged_after side (judged_before side (told c events)) (told_of c events e ∷ []) ≡ judged_before side (told c events)
     pub kept : kept_from side (stories_in (told_of c events e ∷ [])) ≡ []
     pub sections : flat_map (dated_in side c.delays) (stories_in (told_of c events e ∷ [])) ≡ []
 
   quiet : (e : Event) → IsElsewhere side e → IsQuiet e
-  unfolding arrivals_heard judged_after stories_in
-  quiet (event.Cell a) h = record { arrivals = arrivals-append side [] events (event.Cell a ∷ []); judged = refl; kept = refl; sections = refl }
-  quiet (event.Delay at at_side id value) h = record { arrivals = arrivals-append side [] events (event.Delay at at_side id value ∷ []); judged = refl; kept = refl; sections = refl }
-  quiet (event.Count at_side counter value) h = record { arrivals = arrivals-append side [] events (event.Count at_side counter value ∷ []); judged = refl; kept = refl; sections = refl }
+  unfolding judged_after stories_in
+  quiet (event.Cell a) h = record { judged = refl; kept = refl; sections = refl }
+  quiet (event.Delay at at_side id value) h = record { judged = refl; kept = refl; sections = refl }
+  quiet (event.Count at_side counter value) h = record { judged = refl; kept = refl; sections = refl }
   quiet (event.Arrival at_side at frame) h =
       let s : Story = story c (suc (arrival_count events)) at_side (arrivals_heard at_side [] events) (arrival_with at.0 frame) in
       record {
-        arrivals =
-            arrivals-append side [] events (event.Arrival at_side at frame ∷ [])
-            ∙ ap (λ (b : Bool). let xs : List Arrival = if b then arrival_with at.0 frame ∷ arrivals_heard side [] events else arrivals_heard side [] events in xs) (other side at_side h);
         judged = ap (λ (b : Bool). let js : List Judgement = if b then onto (judged_before side (told c events)) s.judged else judged_before side (told c events) in js) h;
         kept = append-nil (kept_in side s) ∙ ap (λ (b : Bool). let gs : List Kept = if b then flat_map (kept_by s.number) s.judged else [] in gs) h;
         sections = append-nil (dated_in side c.delays s) ∙ ap (λ (b : Bool). let ds : List Dated = if b then flat_map (dated_of side c.delays) s.judged else [] in ds) h;
@@ -185,11 +168,11 @@ module _ (side : Side) (c : Config) (events : List Event) where
 
   leaves : (e : Event) (u : UnitLines) → IsQuiet e → IsUnitAfter side c events u → IsUnitAfter side c (events ++ e ∷ []) u
   leaves e u q h = record {
-    ear = subst (λ (xs : List Arrival). HearsFor side c xs u.ear) (sym q.arrivals) h.ear;
+    side_is = h.side_is;
     earlier =
-        subst (λ (ds : List Dated). IsKnown side c (kept_from side (stories c (events ++ e ∷ []))) (judged_before side (told c (events ++ e ∷ []))) ds (known_of u.earlier)) (sym (dated_quiet e q))
-        (subst (λ (js : List Judgement). IsKnown side c (kept_from side (stories c (events ++ e ∷ []))) js (dated side c events) (known_of u.earlier)) (sym (judged_quiet e q))
-        (subst (λ (gs : List Kept). IsKnown side c gs (judged_before side (told c events)) (dated side c events) (known_of u.earlier)) (sym (kept_quiet e q)) h.earlier));
+        subst (λ (ds : List Dated). IsKnown c (kept_from side (stories c (events ++ e ∷ []))) (judged_before side (told c (events ++ e ∷ []))) ds (known_of u.earlier)) (sym (dated_quiet e q))
+        (subst (λ (js : List Judgement). IsKnown c (kept_from side (stories c (events ++ e ∷ []))) js (dated side c events) (known_of u.earlier)) (sym (judged_quiet e q))
+        (subst (λ (gs : List Kept). IsKnown c gs (judged_before side (told c events)) (dated side c events) (known_of u.earlier)) (sym (kept_quiet e q)) h.earlier));
   }
 
 -- it changes nothing of what is kept of the unit
@@ -198,9 +181,9 @@ others_leave_it side c events e u elsewhere h = leaves side c events e u (quiet 
 
 -- ---- no event
 
-pub made : (side : Side) (c : Config) (u : UnitLines) → HearsFor side c [] u.ear → known_of u.earlier ≡ nothing_known side c → IsUnitAfter side c [] u
-unfolding told_after judged_after stories_in dated arrivals_heard
-made side c u ear known = record { ear = ear; earlier = subst (λ (k : Known). IsKnown side c [] [] [] k) (sym known) (none_known side c) }
+pub made : (side : Side) (c : Config) (u : UnitLines) → u.side ≡ side → known_of u.earlier ≡ nothing_known c → IsUnitAfter side c [] u
+unfolding told_after judged_after stories_in dated
+made side c u same known = record { side_is = same; earlier = subst (λ (k : Known). IsKnown c [] [] [] k) (sym known) (none_known c) }
 
 -- ---- after some events
 
@@ -211,6 +194,6 @@ giver_after side c events u a h same =
     ∙ givers_are_kept (stories c events) a
 
 pub margins_after_events : (side : Side) (c : Config) (events : List Event) (u : UnitLines) (ms : List EndpointMargins) → IsUnitAfter side c events u → ms ≡ u.earlier.margins.all.items
-    → margins_said u.earlier.side ms ≡ margins_at side c.endpoints (dated side c events)
+    → margins_said u.side ms ≡ margins_at side c.endpoints (dated side c events)
 margins_after_events side c events u ms h is =
-    ap (λ (s : Side). margins_said s ms) h.earlier.side_is ∙ ap (margins_said side) (is ∙ h.earlier.margins) ∙ margins_are_told side c.endpoints (dated side c events)
+    ap (λ (s : Side). margins_said s ms) h.side_is ∙ ap (margins_said side) (is ∙ h.earlier.margins) ∙ margins_are_told side c.endpoints (dated side c events)

@@ -4,7 +4,6 @@ pub mod KnownLemmas
 pub mod MarginLemmas
 pub mod EventLemmas
 pub mod TellLemmas
-pub mod EarLemmas
 pub mod ChainLemmas
 pub mod LinkLemmas
 pub mod BlockLemmas

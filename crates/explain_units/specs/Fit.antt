@@ -1,54 +1,43 @@
--- What is known of each thing that a unit judges of a frame, so that it has a line.
-use Rattle.std.specs.Prelude.{◌≡◌, ℤ, ◌≤ℤ◌, false}
+-- What is known of each thing that a unit judged of a frame, so that it has a line.
+use Rattle.std.specs.Prelude.{◌+◌, ◌≤◌, List, All}
+use Rattle.std.specs.List.{AllByRecursion}
+use Rattle.air_source.specs.declared.events.Side.{Side}
+use Rattle.explain_heard.specs.Judged.{all_judged}
+use Rattle.explain_heard.specs.Sound.{IsSoundHeard}
 use Rattle.explain_heard.specs.declared.heard.Heard.{Heard}
-use Rattle.explain_heard.specs.declared.heard.Heard.TheVariants as kept
-use Rattle.fh_base.specs.Carrier.{is_outside}
-use Rattle.unit_model.specs.Headings.{IsSoundHeading}
-use Rattle.unit_model.specs.Judgements.{Judgement, Met, Commanded, Fragmented, Unread, Turned, Given}
-use Rattle.unit_model.specs.Proper.{IsTime}
-use Rattle.unit_model.specs.Sound.{IsSoundCommand}
-use Rattle.unit_model.specs.declared.decoded.ControlSection.{ControlSection}
+use Rattle.explain_heard.specs.declared.judged.Judged.{Judged}
+use Rattle.explain_heard.specs.declared.judged.Judged.TheVariants as judged
+use Rattle.unit_model.specs.Claims.{first_prb, prb_count}
+use Rattle.unit_model.specs.Sound.{IsSoundAllocation}
+use Rattle.unit_model.specs.declared.allocations.Allocation.{Allocation}
 use Rattle.unit_model.specs.declared.verdicts.CommandVerdict.{CommandVerdict}
 use Rattle.unit_model.specs.declared.verdicts.CommandVerdict.TheVariants.{Mismatch, Late, Early, Range, Repeat, Overlap, Full, Accepted}
+use Rattle.window_config.specs.declared.delays.Delays.{Delays}
 
--- a frame may arrive then, where the last one arrived at this clock
-pub record IsNext (clock at : ℤ) : Type 0 where
-  pub later : clock ≤ℤ at
-  pub time : IsTime at
+-- it names symbols of a slot and PRBs of the carrier, whose numbers have 16 bits
+pub record IsOnCarrier (a : Allocation) : Type 0 where
+  pub sound : IsSoundAllocation a
+  pub prbs : first_prb a + prb_count a ≤ 65535
 
--- ---- PRBs
+-- a section of a command that overlaps another one is on its carrier
+abbrev pub IsWithin : CommandVerdict → Allocation → Type 0
+IsWithin Mismatch a = Unit {0}
+IsWithin Late a = Unit {0}
+IsWithin Early a = Unit {0}
+IsWithin Range a = Unit {0}
+IsWithin Repeat a = Unit {0}
+IsWithin Overlap a = IsOnCarrier a
+IsWithin Full a = Unit {0}
+IsWithin Accepted a = Unit {0}
 
-abbrev pub IsOnCarrier : ControlSection → Type 0
-IsOnCarrier s = is_outside s.endpoint.prbs s.section.start_prb s.section.num_prb ≡ false
+abbrev pub IsFit : Judged → Type 0
+IsFit (judged.Message m) = Unit {0}
+IsFit (judged.Command c) = IsWithin c.verdict c.allocation
+IsFit (judged.Fragment f) = Unit {0}
+IsFit (judged.Whole w) = Unit {0}
+IsFit (judged.Data d) = d.prbs.first + d.prbs.count ≤ 65535
 
--- a section that overlaps another one does not go past the carrier
-abbrev pub IsWithin : CommandVerdict → ControlSection → Type 0
-IsWithin Mismatch s = Unit {0}
-IsWithin Late s = Unit {0}
-IsWithin Early s = Unit {0}
-IsWithin Range s = Unit {0}
-IsWithin Repeat s = Unit {0}
-IsWithin Overlap s = IsOnCarrier s
-IsWithin Full s = Unit {0}
-IsWithin Accepted s = Unit {0}
-
-abbrev pub IsWithinJudged : Judgement → Type 0
-IsWithinJudged (Met m) = Unit {0}
-IsWithinJudged (Commanded s v) = IsWithin v s
-IsWithinJudged (Fragmented e f v) = Unit {0}
-IsWithinJudged (Unread ep e m why) = Unit {0}
-IsWithinJudged (Turned ep e m) = Unit {0}
-IsWithinJudged (Given h v) = Unit {0}
-
--- ---- what is kept of a judgement
-
-pub record IsFitCommand (s : ControlSection) (v : CommandVerdict) : Type 0 where
-  pub sound : IsSoundCommand s
-  pub within : IsWithin v s
-
-abbrev pub IsFit : Heard → Type 0
-IsFit (kept.Message m) = Unit {0}
-IsFit (kept.Command s v) = IsFitCommand s v
-IsFit (kept.Fragment f) = Unit {0}
-IsFit (kept.Whole w) = IsTime w.last.0
-IsFit (kept.Data h v) = IsSoundHeading h
+-- what was heard of a frame can be judged, and that is fit
+pub record AreFit (heard : List Heard) : Type 0 where
+  pub sound : All IsSoundHeard heard
+  pub fit : (side : Side) (d : Delays) → AllByRecursion IsFit (all_judged side d heard)

@@ -4,8 +4,6 @@ use Rattle.explain_units.specs.declared.earlier.Earlier.{Earlier}
 
 abbrev pub known_of : Earlier → Known
 known_of e = record {
-  side = e.side;
-  delays = e.windows.delays;
   place = e.place;
   blocks = e.blocks;
   claims = e.claims;

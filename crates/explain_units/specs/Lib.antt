@@ -1,8 +1,7 @@
 pub mod Fit
 pub mod Known
 pub mod Knowing
-pub mod Judging
-pub mod Ears
+pub mod Frames
 pub mod MarginLines
 pub mod Units
 pub mod Chains

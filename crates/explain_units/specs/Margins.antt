@@ -1,5 +1,5 @@
 -- The margins of a unit's endpoints, as sections are received.
-use Rattle.std.specs.Prelude.{List, map, ℕ, ◌==◌, Bool, not, ◌||◌, if◌then◌else◌, pos}
+use Rattle.std.specs.Prelude.{ℕ, zero, suc, List, [], ◌∷◌, map, ◌==◌, Bool, not, ◌||◌, pos}
 use Rattle.explain_units.specs.declared.kept_margins.EndpointMargins.{EndpointMargins}
 use Rattle.explain_model.specs.declared.places.Timing.{Timing}
 use Rattle.explain_model.specs.declared.values.Margin.{Margin}
@@ -26,9 +26,11 @@ with_one Down class t m = record m { down = margin_by class m.down t }
 with_one Up class t m = record m { up = margin_by class m.up t }
 with_one Data class t m = record m { «data» = margin_by class m.«data» t }
 
--- where the section is of the endpoint with this id
-abbrev pub added : ℕ → MarginClass → Class → Timing → EndpointMargins → EndpointMargins
-added id of class t m = if id == m.id then with_one of class t m else m
+-- the margins with one section more of the endpoint with this index; after the last one none changes
+abbrev pub added_at : ℕ → MarginClass → Class → Timing → List EndpointMargins → List EndpointMargins
+added_at k of class t [] = []
+added_at zero of class t (m ∷ ms) = with_one of class t m ∷ ms
+added_at (suc k) of class t (m ∷ ms) = m ∷ added_at k of class t ms
 
 -- ---- the margins of the lines
 

@@ -10,24 +10,18 @@ use Rattle.explain_model.specs.Judged.{judged_before}
 use Rattle.explain_model.specs.Margins.{dated}
 use Rattle.explain_model.specs.Sections.{story_lines}
 use Rattle.explain_model.specs.Stories.{arrival_with, stories, story, told}
-use Rattle.explain_units.specs.Ears.{HearsFor}
 use Rattle.explain_units.specs.Known.{IsKnown}
 use Rattle.explain_units.specs.Knowing.{known_of}
 use Rattle.explain_units.specs.declared.units.UnitLines.{UnitLines}
 use Rattle.unit_model.specs.Heard.{arrivals_heard}
-use Rattle.unit_model.specs.Judgements.{Judgement, judgements}
 use Rattle.window_config.specs.declared.config.Config.{Config}
 
--- after these events: its memory holds the arrivals of the unit, and what lines say of earlier judgements is what the unit judged
+-- after these events: what lines say of earlier judgements is what the unit judged
 pub record IsUnitAfter (side : Side) (c : Config) (events : List Event) (u : UnitLines) : Type 0 where
-  pub ear : HearsFor side c (arrivals_heard side [] events) u.ear
-  pub earlier : IsKnown side c (kept_from side (stories c events)) (judged_before side (told c events)) (dated side c events) (known_of u.earlier)
+  pub side_is : u.side ≡ side
+  pub earlier : IsKnown c (kept_from side (stories c events)) (judged_before side (told c events)) (dated side c events) (known_of u.earlier)
 
--- what the unit judges of a frame that arrives after these events
-abbrev pub judged_next : Side → Config → List Event → ℤ → List ℕ → List Judgement
-judged_next side c events at frame = judgements side c (arrivals_heard side [] events) (arrival_with at frame)
-
--- its lines, where it is the arrival with this number
+-- the lines of a frame that arrives then, where it is the arrival with this number
 abbrev pub frame_lines : Side → Config → List Event → ℕ → ℤ → List ℕ → List ExplainLine
 frame_lines side c events number at frame =
     story_lines c (judged_before side (told c events)) (story c number side (arrivals_heard side [] events) (arrival_with at frame))

@@ -1,11 +1,11 @@
 // What a section overlaps.
-ghost use Rattle.std.specs.Prelude.{◌≡◌, ◌<◌, ◌∷◌, [], map, IfOk, OnOk};
+ghost use Rattle.std.specs.Prelude.{◌≡◌, ◌+◌, ◌<◌, ◌≤◌, ◌∷◌, [], map, IfOk, OnOk};
 ghost use Rattle.std.specs.Option.{option_map};
+ghost use Rattle.explain_units.specs.Fit.{IsOnCarrier};
 ghost use Rattle.explain_units.specs.Claims.{allocation_chain, first_id, is_clashing, slot_chain};
 ghost use Rattle.fh_base.specs.Lists.{onto};
 ghost use Rattle.explain_model.specs.Judged.{clash_at, clash_in, first_at};
 ghost use Rattle.unit_model.specs.Claims.{cell_of, claim_at, covers, first_prb, in_mask, is_overlapped, names, prb_count, same_way};
-ghost use Rattle.unit_model.specs.Sound.{IsSoundAllocation};
 
 use crate::chains::Chains;
 use explain_model::Clash;
@@ -179,13 +179,10 @@ impl Claims {
     }
 
     // The first cell of a symbol of a section that the section cannot have.
-    #[tactic(auto, using(fh_base::proofs::CommonLemmas::within_carrier))]
     fn clash_in(&self, a: &Allocation, symbol: u8) -> Option<Clash>
-        requires { IsSoundAllocation a.now }
+        requires { first_prb a.now + prb_count a.now ≤ 65535 }
         ensures { result ≡ first_at (first_prb a.now) (prb_count a.now) (λ n. clash_at self.now a.now symbol n) }
     {
-        // (the proof needs the range of this number)
-        let _carrier = a.endpoint.prbs;
         let prbs = a.prbs();
         for k in 0..prbs.count {
             if let Some(clash) = self.clash_at(a, symbol, prbs.first + k) {
@@ -197,7 +194,7 @@ impl Claims {
 
     /// The first cell of a section that it cannot have, by symbol and then by PRB.
     pub fn clash(&self, a: &Allocation) -> Option<Clash>
-        requires { IsSoundAllocation a.now }
+        requires { IsOnCarrier a.now }
         ensures { result ≡ clash_in self.now a.now }
     {
         for k in 0..a.num_symbol {

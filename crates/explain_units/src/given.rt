@@ -1,16 +1,13 @@
 // What is kept of a section of data.
 ghost use Rattle.std.specs.Prelude.{◌≡◌, ◌+◌, ◌≤◌, ◌++◌, OnOk};
-ghost use Rattle.explain_units.specs.Laws.{kept_by, kept_of};
 ghost use Rattle.explain_model.specs.Judged.{is_timely};
 ghost use Rattle.explain_model.specs.Sections.{some_of};
-ghost use Rattle.explain_units.specs.Known.{fresh_with};
-ghost use Rattle.unit_model.specs.Headings.{IsSoundHeading};
-ghost use Rattle.unit_model.specs.Judgements.{Given as GivenData};
+ghost use Rattle.explain_units.specs.Known.{fresh_with, given_by, given_of};
 
 use crate::blocks::{Blocks, Given};
-use explain_heard::heading_slot;
+use explain_heard::DataJudged;
 use fh_base::NoMemory;
-use unit_model::{DataHeading, DataVerdict};
+use unit_model::DataVerdict;
 
 // Whether a section of data was on time.
 fn is_timely(verdict: DataVerdict) -> bool
@@ -23,19 +20,15 @@ fn is_timely(verdict: DataVerdict) -> bool
 }
 
 // What is kept of a section of data of the arrival with this number.
-fn given_of(number: u32, heading: &DataHeading) -> Given
-    requires { IsSoundHeading heading.now }
-    ensures value { result ≡ kept_of number heading.now }
-    ensures within { result.first + result.count ≤ 65535 }
+fn given_of(number: u32, section: &DataJudged) -> Given
+    ensures { result ≡ given_of number section.now }
 {
-    let _prbs = heading.endpoint.prbs;
-    let prbs = heading.prbs();
     Given {
-        id: heading.endpoint.id,
-        slot: heading_slot(heading),
-        symbol: heading.section.symbol,
-        first: prbs.first,
-        count: prbs.count,
+        id: section.id,
+        slot: section.slot,
+        symbol: section.symbol,
+        first: section.prbs.first,
+        count: section.prbs.count,
         number,
     }
 }
@@ -44,14 +37,12 @@ fn given_of(number: u32, heading: &DataHeading) -> Given
 pub(crate) fn keep_given(
     blocks: &mut Blocks,
     number: u32,
-    heading: &DataHeading,
-    verdict: DataVerdict,
+    section: &DataJudged,
 ) -> Result<(), NoMemory>
-    requires { IsSoundHeading heading.now }
-    ensures { OnOk result (blocks.new ≡ blocks.old ++ kept_by number (GivenData heading.now verdict)) }
+    ensures { OnOk result (blocks.new ≡ blocks.old ++ given_by number section.now) }
 {
-    if is_timely(verdict) {
-        blocks.push(given_of(number, heading))
+    if is_timely(section.verdict) {
+        blocks.push(given_of(number, section))
     } else {
         Ok(())
     }
@@ -65,18 +56,13 @@ fn some_of(fresh: u16, all: u16) -> Option<u16>
 }
 
 /// How many PRBs of a section had no block, where it was taken and not all of them had none.
-pub(crate) fn fresh_by(
-    blocks: &Blocks,
-    number: u32,
-    heading: &DataHeading,
-    verdict: DataVerdict,
-) -> Option<u16>
-    requires { IsSoundHeading heading.now }
-    ensures { result ≡ fresh_with verdict blocks.now (kept_of number heading.now) }
+pub(crate) fn fresh_by(blocks: &Blocks, number: u32, section: &DataJudged) -> Option<u16>
+    requires { section.now.prbs.first + section.now.prbs.count ≤ 65535 }
+    ensures { result ≡ fresh_with section.now.verdict blocks.now (given_of number section.now) }
 {
-    match verdict {
+    match section.verdict {
         DataVerdict::Taken => {
-            let given = given_of(number, heading);
+            let given = given_of(number, section);
             some_of(blocks.fresh_count(&given), given.count)
         }
         DataVerdict::Late | DataVerdict::Early | DataVerdict::Repeat => None,

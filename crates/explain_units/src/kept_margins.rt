@@ -1,7 +1,7 @@
 // How near to the ends of their windows the sections of each endpoint were received.
 ghost use Rattle.std.specs.Prelude.{◌≡◌, map, IfOk, IfSome, OnOk, pos};
 ghost use Rattle.std.specs.Int.{int_gap};
-ghost use Rattle.explain_units.specs.Margins.{added, is_of_some, no_margins, with_one};
+ghost use Rattle.explain_units.specs.Margins.{added_at, is_of_some, no_margins, with_one};
 ghost use Rattle.explain_model.specs.Growing.{lesser, margin_by};
 ghost use Rattle.explain_model.specs.Margins.{control_class, data_class_of};
 ghost use Rattle.window_config.specs.declared.verdicts.Class.TheVariants.{OnTime, Late, Early};
@@ -157,23 +157,6 @@ fn with_dated(
     Some(new)
 }
 
-// The margins of an endpoint with one section more, where it is of the endpoint with this id.
-fn with_added(
-    m: &EndpointMargins,
-    id: u16,
-    of: MarginClass,
-    class: Class,
-    timing: Timing,
-) -> Option<EndpointMargins>
-    ensures { IfSome result (λ n. n ≡ added id of class timing m.now) }
-{
-    if id == m.id {
-        with_dated(m, of, class, timing)
-    } else {
-        Some(*m)
-    }
-}
-
 /// The margins of a unit's endpoints, in their order.
 #[derive(Drop)]
 pub struct Margins {
@@ -197,22 +180,25 @@ impl Margins {
         Ok(Margins { all })
     }
 
-    /// Adds a section of the endpoint with this id. `NoMemory` where a number would not fit.
+    /// Adds a section of the endpoint with this index. `NoMemory` where a number would not fit.
     pub fn add(
         &mut self,
-        id: u16,
+        ep: usize,
         of: MarginClass,
         class: Class,
         timing: Timing,
     ) -> Result<(), NoMemory>
-        ensures { OnOk result (self.new.all.items ≡ map (added id of class timing) self.old.all.items) }
+        ensures { OnOk result (self.new.all.items ≡ added_at ep of class timing self.old.all.items) }
     {
-        for k in 0..self.all.len() {
-            match with_added(&self.all[k], id, of, class, timing) {
-                Some(new) => self.all[k] = new,
-                None => return Err(NoMemory),
-            }
+        if ep >= self.all.len() {
+            return Ok(());
         }
-        Ok(())
+        match with_dated(&self.all[ep], of, class, timing) {
+            Some(new) => {
+                self.all[ep] = new;
+                Ok(())
+            }
+            None => Err(NoMemory),
+        }
     }
 }

@@ -8,18 +8,18 @@
 mod blocks;
 mod chains;
 mod claims;
-mod ear;
 mod earlier;
+mod frames;
 mod given;
 mod kept_margins;
 mod margins;
 mod runs;
 mod telling;
 mod units;
-mod windows;
 
 pub use blocks::{Blocks, Given};
 pub use claims::Claims;
+pub use frames::FrameHeard;
 pub use kept_margins::{EndpointMargins, Margins, control_class, data_class, is_of_some};
 pub use runs::OpenRun;
 pub use units::UnitLines;

@@ -58,10 +58,7 @@ fn tell_class<W: LineSink>(
     ensures cause { HasAirCause (W.faults out.old) (W.faults out.new) result }
 {
     for margins in all {
-        match tell_margin(side, class, margins, out) {
-            Ok(()) => {}
-            Err(fault) => return Err(fault),
-        }
+        tell_margin(side, class, margins, out)?;
     }
     Ok(())
 }
@@ -77,16 +74,7 @@ pub(crate) fn tell_all<W: LineSink>(
     ensures same { W.same out.old out.new }
     ensures cause { HasAirCause (W.faults out.old) (W.faults out.new) result }
 {
-    match tell_class(side, MarginClass::Down, all, out) {
-        Ok(()) => {}
-        Err(fault) => return Err(fault),
-    }
-    match tell_class(side, MarginClass::Up, all, out) {
-        Ok(()) => {}
-        Err(fault) => return Err(fault),
-    }
-    match tell_class(side, MarginClass::Data, all, out) {
-        Ok(()) => Ok(()),
-        Err(fault) => Err(fault),
-    }
+    tell_class(side, MarginClass::Down, all, out)?;
+    tell_class(side, MarginClass::Up, all, out)?;
+    tell_class(side, MarginClass::Data, all, out)
 }

@@ -21,11 +21,13 @@ use Rattle.unit_model.specs.Meetings.{Arrival}
 use Rattle.unit_model.specs.Reports.{ru_known}
 use Rattle.unit_model.specs.Standing.{History, at_clock, heard}
 use Rattle.unit_laws.proofs.HistoryLists.{front_empty}
+use Rattle.window_config.specs.declared.config.Config.{Config}
+use Rattle.unit_moments.specs.Heard.{HeardAnyhow}
 use Rattle.unit_moments.specs.Landing.{HasTaken, told_of_frames}
 use Rattle.document_traffic.specs.Settings.{compensation_of}
 use Rattle.unit_moments.specs.Stops.{HaltsBehind, StopsBehind}
 use Rattle.fronthaul_replay.specs.BoxTurns.{IsRadioInStep, IsRadioTurn, events_before, radio_events}
-use Rattle.unit_moments.proofs.StopLemmas.{halts_behind, halts_moved, stops_behind, stops_moved}
+use Rattle.unit_moments.proofs.StopLemmas.{Follows, halts_behind, halts_moved, stops_behind, stops_moved}
 use Rattle.fronthaul_replay.proofs.TurnLemmas.{due_here}
 use Rattle.unit_laws.proofs.AddedLemmas.{in_front}
 use Rattle.unit_model.proofs.ArrivalLemmas.{arrivals-append, arrivals-cells}
@@ -56,7 +58,7 @@ due_own : (d : Document) (tick : ℤ) (h : History) → AreOf AtRu (due_of d.con
 due_own d tick h = due_of_side AtRu d.config.delays d.config.endpoints (ru_known d.config h.arrivals) h.reported tick
 
 -- what has arrived and was reported before a tick, with some cells of the tick after it
-arrived_before : (d : Document) (tick : ℤ) (h : History) (cs : List AirCell) → IsRadioTurn d tick h → h.arrivals ≡ arrivals_heard AtRu [] (events_before d tick ++ map Cell cs)
+pub arrived_before : (d : Document) (tick : ℤ) (h : History) (cs : List AirCell) → IsRadioTurn d tick h → h.arrivals ≡ arrivals_heard AtRu [] (events_before d tick ++ map Cell cs)
 arrived_before d tick h cs turn =
     let earlier = events_before d tick in
     turn.came ∙ sym (arrivals-append AtRu [] earlier (map Cell cs) ∙ arrivals-cells AtRu (arrivals_heard AtRu [] earlier) cs)
@@ -74,9 +76,9 @@ cells_step d tick h k cs u turn own stands came told = record {
   reported = told ∙ reported_before d tick h cs turn own;
 }
 
-pub stops_due : {A : Type 0} (grew : A → List Event → A → Type 0) (stopped : A → Event → A → Type 0) (d : Document) (tick : ℤ) (h : History) (u : Ru) (a b : A)
-    → IsReplayable d → IsRadioTurn d tick h → tick ≤ℤ end_of_time → StopsAtDue grew stopped d.config h tick u a b
-    → StopsBehind grew stopped (InStep d u) (events_before d tick) (radio_events d tick) a b
+pub stops_due : {A : Type 0} (grew : Config → List Event → A → List Event → A → Type 0) (stopped : A → Event → A → Type 0) (d : Document) (tick : ℤ) (h : History) (u : Ru) (a b : A)
+    → IsReplayable d → IsRadioTurn d tick h → tick ≤ℤ end_of_time → StopsAtDue (HeardAnyhow grew) stopped d.config h tick u a b
+    → StopsBehind (grew d.config (events_before d tick)) stopped (InStep d u) (events_before d tick) (radio_events d tick) a b
 stops_due grew stopped d tick h u a b doc turn ended s =
     let more = told_at d tick in
     let own = in_front (λ (a : AirCell). a.side ≡ AtRu) s.told (s.cell ∷ s.rest) (subst (AreOf AtRu) s.is (due_own d tick h)) in
@@ -86,7 +88,7 @@ stops_due grew stopped d tick h u a b doc turn ended s =
       rest = map Cell s.rest ++ more;
       is = events_are d tick h doc turn ended ∙ cells_about (due_of d.config h tick) s.told s.cell s.rest more s.is;
       middle = s.middle;
-      heard = s.heard_is;
+      heard = s.heard_is d.config (events_before d tick);
       stop = s.stop;
       step_is = cells_step d tick h (heard h s.told) s.told u turn own s.stands refl refl;
     }
@@ -111,11 +113,10 @@ frames_step d tick x h xs u turn told rest is taken =
           ∙ ap (λ (cs : List AirCell). cells_heard AtRu (earlier ++ map Cell cells) ++ cs) (sym none) ∙ sym (cells-append AtRu (earlier ++ map Cell cells) told);
     }
 
-module _ {A : Type 0} (grew : A → List Event → A → Type 0) (stopped : A → Event → A → Type 0)
-    (more : (a b c : A) (first second : List Event) → grew a first b → grew b second c → grew a (first ++ second) c)
+module _ {A : Type 0} (grew next : A → List Event → A → Type 0) (stopped : A → Event → A → Type 0)
     (d : Document) (tick : ℤ) (x : Doings) (h : History) (xs : List Arrival) (u : Ru) (a b e : A)
     (doc : IsReplayable d) (turn : IsRadioTurn d tick h) (ended : tick ≤ℤ end_of_time) (told_is : told_of_frames AtRu (compensation_of d AtRu) tick x xs ≡ told_at d tick)
-    (first : grew a (map Cell (due_of d.config h tick)) b) where
+    (follows : Follows grew next a (map Cell (due_of d.config h tick)) b) where
   abbrev due_cells : List Event
   due_cells = map Cell (due_of d.config h tick)
 
@@ -126,17 +127,17 @@ module _ {A : Type 0} (grew : A → List Event → A → Type 0) (stopped : A �
   all_are = ap (λ (es : List Event). due_cells ++ es) told_is ∙ sym (events_are d tick h doc turn ended)
 
   -- the air stopped in one of the frames, or in a delay that one made known
-  pub stops_landing : StopsBehind grew stopped Taken [] (told_of_frames AtRu (compensation_of d AtRu) tick x xs) b e
+  pub stops_landing : StopsBehind next stopped Taken [] (told_of_frames AtRu (compensation_of d AtRu) tick x xs) b e
       → StopsBehind grew stopped (InStep d u) (events_before d tick) (radio_events d tick) a e
   stops_landing s =
       subst (λ (es : List Event). StopsBehind grew stopped (InStep d u) (events_before d tick) es a e) all_are
-      (stops_behind grew stopped more (InStep d u) (events_before d tick) due_cells (told_of_frames AtRu (compensation_of d AtRu) tick x xs) a b e first
-      (stops_moved grew stopped Taken (InStep d u) [] (events_before d tick ++ due_cells) (told_of_frames AtRu (compensation_of d AtRu) tick x xs) b e (λ told rest is taken. frames_step d tick x h xs u turn told rest is taken) s))
+      (stops_behind grew stopped next (InStep d u) (events_before d tick) due_cells (told_of_frames AtRu (compensation_of d AtRu) tick x xs) a b e follows
+      (stops_moved next stopped Taken (InStep d u) [] (events_before d tick ++ due_cells) (told_of_frames AtRu (compensation_of d AtRu) tick x xs) b e (λ told rest is taken. frames_step d tick x h xs u turn told rest is taken) s))
 
   -- or memory ran out among them
-  pub halts_landing : HaltsBehind grew stopped Taken [] (told_of_frames AtRu (compensation_of d AtRu) tick x xs) b e
+  pub halts_landing : HaltsBehind next stopped Taken [] (told_of_frames AtRu (compensation_of d AtRu) tick x xs) b e
       → HaltsBehind grew stopped (InStep d u) (events_before d tick) (radio_events d tick) a e
   halts_landing s =
       subst (λ (es : List Event). HaltsBehind grew stopped (InStep d u) (events_before d tick) es a e) all_are
-      (halts_behind grew stopped more (InStep d u) (events_before d tick) due_cells (told_of_frames AtRu (compensation_of d AtRu) tick x xs) a b e first
-      (halts_moved grew stopped Taken (InStep d u) [] (events_before d tick ++ due_cells) (told_of_frames AtRu (compensation_of d AtRu) tick x xs) b e (λ told rest is taken. frames_step d tick x h xs u turn told rest is taken) s))
+      (halts_behind grew stopped next (InStep d u) (events_before d tick) due_cells (told_of_frames AtRu (compensation_of d AtRu) tick x xs) a b e follows
+      (halts_moved next stopped Taken (InStep d u) [] (events_before d tick ++ due_cells) (told_of_frames AtRu (compensation_of d AtRu) tick x xs) b e (λ told rest is taken. frames_step d tick x h xs u turn told rest is taken) s))

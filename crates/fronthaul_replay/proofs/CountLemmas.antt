@@ -17,6 +17,7 @@ use Rattle.fault_counters.specs.Counts.{capped, count_of, times}
 use Rattle.fault_counters.specs.Names.{all_counters}
 use Rattle.fault_counters.specs.declared.kinds.Counter.{Counter}
 use Rattle.fh_document.specs.declared.document.Document.{Document}
+use Rattle.unit_moments.proofs.StopLemmas.{Follows}
 use Rattle.fronthaul_replay.specs.IntakeTurns.{AtIntakeTurn, planned_for}
 use Rattle.fronthaul_replay.proofs.BoxNext.{intake_over}
 use Rattle.document_traffic.specs.Replayed.{doings_at, landings_for, traffic_of}
@@ -276,19 +277,18 @@ passed d = events_before d (end_of_time +ℤ pos 1)
 abbrev counts_for : Side → Document → List Event
 counts_for side d = count_events side d.config (traffic_of d)
 
-module _ {A : Type 0} (grew : A → List Event → A → Type 0) (more : (a b c : A) (first second : List Event) → grew a first b → grew b second c → grew a (first ++ second) c)
-    (d : Document) where
+module _ {A : Type 0} (grew next : A → List Event → A → Type 0) (d : Document) where
   pub heard_all : (radio taken : List Event) (a b m e : A) → radio ≡ counts_for AtRu d → taken ≡ counts_for AtDu d
-      → grew a (passed d) b → grew b radio m → grew m taken e → grew a (events_of d) e
+      → Follows grew next a (passed d) b → Follows next next b radio m → next m taken e → grew a (events_of d) e
   heard_all radio taken a b m e radio_is taken_is first second third =
       subst (λ (es : List Event). grew a es e) (ap₂ (λ (xs ys : List Event). passed d ++ (xs ++ ys)) radio_is taken_is ∙ sym (all_events d))
-      (more a b e (passed d) (radio ++ taken) first (more b m e radio taken second third))
+      (first e (radio ++ taken) (second e taken third))
 
   module _ (stopped : A → Event → A → Type 0) (u : Ru) (i : Intake) where
     -- it stopped in one of a unit's counters
     stops_count : (these front rest : List Event) (a b e : A) → AllByRecursion IsCount these
-        → events_of d ≡ front ++ (these ++ rest) → IsInStep d front u i → grew a front b
-        → StopsIn grew stopped these b e → StopsInStep grew stopped d u i a e
+        → events_of d ≡ front ++ (these ++ rest) → IsInStep d front u i → Follows grew next a front b
+        → StopsIn next stopped these b e → StopsInStep grew stopped d u i a e
     stops_count these front rest a b e counts parts step first s =
         let none : AllByRecursion IsCount s.before =
         front_counts s.before (s.event ∷ s.after) (subst (AllByRecursion IsCount) s.is counts) in
@@ -299,20 +299,20 @@ module _ {A : Type 0} (grew : A → List Event → A → Type 0) (more : (a b c 
           is = parts ∙ ap (λ (es : List Event). front ++ (es ++ rest)) s.is ∙ ap (λ (es : List Event). front ++ es) (append_assoc s.before (s.event ∷ s.after) rest)
               ∙ sym (append_assoc front s.before (s.event ∷ (s.after ++ rest)));
           middle = s.middle;
-          heard = more a b s.middle front s.before first s.heard;
+          heard = first s.middle s.before s.heard;
           stop = s.stop;
           step = counts_in_step d front s.before u i none step;
         }
 
     pub stops_radio_count : (counts : List ℕ) (a b e : A) → AtTurn d (end_of_time +ℤ pos 1) u i → told_for AtRu d counts ≡ counts_for AtRu d
-        → grew a (passed d) b → StopsIn grew stopped (told_for AtRu d counts) b e → StopsInStep grew stopped d u i a e
+        → Follows grew next a (passed d) b → StopsIn next stopped (told_for AtRu d counts) b e → StopsInStep grew stopped d u i a e
     stops_radio_count counts a b e at are first s =
         stops_count (told_for AtRu d counts) (passed d) (counts_for AtDu d) a b e (all_told AtRu counts (all_doings d AtRu).counted)
         (all_events d ∙ ap (λ (es : List Event). passed d ++ (es ++ counts_for AtDu d)) (sym are)) (turn_in_step d (end_of_time +ℤ pos 1) u i at) first s
 
     pub stops_intake_count : (radio_counted counted : List ℕ) (a b m e : A) → AtTurn d (end_of_time +ℤ pos 1) u i
         → told_for AtRu d radio_counted ≡ counts_for AtRu d → told_for AtDu d counted ≡ counts_for AtDu d
-        → grew a (passed d) b → grew b (told_for AtRu d radio_counted) m → StopsIn grew stopped (told_for AtDu d counted) m e
+        → Follows grew next a (passed d) b → Follows next next b (told_for AtRu d radio_counted) m → StopsIn next stopped (told_for AtDu d counted) m e
         → StopsInStep grew stopped d u i a e
     stops_intake_count radio_counted counted a b m e at radio_are are first second s =
         let radio = told_for AtRu d radio_counted in
@@ -321,4 +321,4 @@ module _ {A : Type 0} (grew : A → List Event → A → Type 0) (more : (a b c 
         (all_events d ∙ ap₂ (λ (xs ys : List Event). passed d ++ (xs ++ ys)) (sym radio_are) (sym are) ∙ sym (append_assoc (passed d) radio taken)
         ∙ ap (λ (es : List Event). (passed d ++ radio) ++ es) (sym (append-nil taken)))
         (counts_in_step d (passed d) radio u i (all_told AtRu radio_counted (all_doings d AtRu).counted) (turn_in_step d (end_of_time +ℤ pos 1) u i at))
-        (more a b m (passed d) radio first second) s
+        (λ x more s. subst (λ (es : List Event). grew a es x) (sym (append_assoc (passed d) radio more)) (first x (radio ++ more) (second x more s))) s

@@ -22,6 +22,7 @@ use Rattle.fronthaul_replay.proofs.IntakeStopLemmas.{HasLanded, cells_then}
 use Rattle.fronthaul_replay.proofs.IntakeTurnLemmas.{after}
 use Rattle.unit_laws.proofs.DueLemmas.{due_once}
 use Rattle.unit_moments.specs.Landing.{landed}
+use Rattle.unit_moments.proofs.StopLemmas.{Follows}
 
 -- what the intake stands for once all of the tick has landed
 abbrev pub landed_then : Document → ℤ → History → History
@@ -31,13 +32,12 @@ pub has_landed : (d : Document) (tick : ℤ) (u : Intake) → IsReplayable d →
 has_landed d tick u doc a ended = record { replayable = doc; turn = a.turn; ended = ended; came = refl; told = refl }
 
 -- the air heard the tick's events of this unit
-pub heard_all : {A : Type 0} (grew : A → List Event → A → Type 0)
-    (more : (a b c : A) (first second : List Event) → grew a first b → grew b second c → grew a (first ++ second) c)
-    (d : Document) (tick : ℤ) (h k : History) (a b e : A) → HasLanded d tick h k → grew a (arrivals_at Du (traffic_of d) tick) b
-    → grew b (map Cell (intake_due_of d.config (planned_for d) k tick)) e → grew a (intake_events d tick) e
-heard_all grew more d tick h k a b e come first second =
-    more a b e (arrivals_at Du (traffic_of d) tick) (map Cell (cells_reported_at Du d.config (traffic_of d) tick)) first
-    (subst (λ (cs : List AirCell). grew b (map Cell cs) e) (cells_then d tick h k come) second)
+pub heard_all : {A : Type 0} (grew next : A → List Event → A → Type 0)
+    (d : Document) (tick : ℤ) (h k : History) (a b e : A) → HasLanded d tick h k → Follows grew next a (arrivals_at Du (traffic_of d) tick) b
+    → next b (map Cell (intake_due_of d.config (planned_for d) k tick)) e → grew a (intake_events d tick) e
+heard_all grew next d tick h k a b e come follows second =
+    follows e (map Cell (cells_reported_at Du d.config (traffic_of d) tick))
+    (subst (λ (cs : List AirCell). next b (map Cell cs) e) (cells_then d tick h k come) second)
 
 -- the intake is at the start of the next tick
 pub turn_then : (d : Document) (tick : ℤ) (h k : History) (u : Intake) → HasLanded d tick h k

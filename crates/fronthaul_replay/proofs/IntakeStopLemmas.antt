@@ -13,7 +13,7 @@ use Rattle.du_intake.specs.declared.unit.Intake.{Intake}
 use Rattle.fh_document.specs.declared.document.Document.{Document}
 use Rattle.document_traffic.specs.Laws.{IsReplayable}
 use Rattle.fronthaul_replay.proofs.BoxSteps.{arrivals_stay, cells_stay, radio_own}
-use Rattle.unit_moments.proofs.StopLemmas.{halts_ahead, halts_moved, stops_ahead, stops_moved}
+use Rattle.unit_moments.proofs.StopLemmas.{Follows, halts_ahead, halts_moved, stops_ahead, stops_moved}
 use Rattle.unit_moments.specs.Stops.{HaltsBehind, RestsBehind, StopsBehind}
 use Rattle.fronthaul_replay.specs.BoxTurns.{events_before, intake_events, radio_events}
 use Rattle.replay_laws.specs.Events.{arrivals_at, cells_reported_at}
@@ -36,12 +36,15 @@ use Rattle.unit_model.proofs.ArrivalLemmas.{arrivals-append}
 
 -- ---- before its first event
 
--- the intake is in step with what was heard before its part of the moment
+-- the intake has the frames that were heard before its part of the moment, and is in step with what was heard
+pub came_before : (d : Document) (tick : ℤ) (u : Intake) → (a : AtIntakeTurn d tick u) → a.history.arrivals ≡ arrivals_heard AtDu [] (heard_before d tick)
+came_before d tick u a = a.turn.came ∙ sym (arrivals_stay AtDu AtRu (events_before d tick) (radio_events d tick) refl (radio_own d tick))
+
 in_step_before : (d : Document) (tick : ℤ) (u : Intake) → AtIntakeTurn d tick u → IsIntakeInStep d (heard_before d tick) u
 in_step_before d tick u a = record {
   history = a.history;
   stands = a.stands;
-  arrivals = a.turn.came ∙ sym (arrivals_stay AtDu AtRu (events_before d tick) (radio_events d tick) refl (radio_own d tick));
+  arrivals = came_before d tick u a;
   reported = a.turn.told ∙ sym (cells_stay AtDu AtRu (events_before d tick) (radio_events d tick) refl (radio_own d tick));
 }
 
@@ -125,13 +128,12 @@ cells_then d tick h k l =
     ap (λ (rs : List AirCell). due AtDu d.config.delays d.config.endpoints (du_known d.config (planned_for d) k.arrivals) rs tick) l.told
     ∙ due_here d tick h k.arrivals l.replayable l.turn l.ended l.came
 
-pub stops_closing : {A : Type 0} (grew : A → List Event → A → Type 0) (stopped : A → Event → A → Type 0)
-    (more : (a b c : A) (first second : List Event) → grew a first b → grew b second c → grew a (first ++ second) c)
+pub stops_closing : {A : Type 0} (grew next : A → List Event → A → Type 0) (stopped : A → Event → A → Type 0)
     (d : Document) (tick : ℤ) (h k : History) (u : Intake) (a b e : A) → HasLanded d tick h k
-    → grew a (arrivals_at AtDu (traffic_of d) tick) b
-    → IntakeStopsAtDue grew stopped d.config (planned_for d) k tick u b e
+    → Follows grew next a (arrivals_at AtDu (traffic_of d) tick) b
+    → IntakeStopsAtDue next stopped d.config (planned_for d) k tick u b e
     → StopsBehind grew stopped (λ told. IsIntakeInStep d told u) (heard_before d tick) (intake_events d tick) a e
-stops_closing grew stopped more d tick h k u a b e l first s =
+stops_closing grew next stopped d tick h k u a b e l follows s =
     let c = d.config in
     let t = traffic_of d in
     let xs = landing_at (landings_for AtDu d) tick in
@@ -146,7 +148,7 @@ stops_closing grew stopped more d tick h k u a b e l first s =
       rest = map Cell s.rest;
       is = cells_about front (cells_reported_at AtDu c t tick) s.told s.cell s.rest (sym (cells_then d tick h k l) ∙ s.is);
       middle = s.middle;
-      heard = more a b s.middle front (map Cell s.told) first s.heard_is;
+      heard = follows s.middle (map Cell s.told) s.heard_is;
       stop = s.stop;
       step_is = record {
         history = heard k s.told;

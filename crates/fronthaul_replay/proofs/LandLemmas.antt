@@ -51,11 +51,11 @@ module _ (d : Document) (side : Side) (tick : ℤ) (left : List Leaving) (doc : 
   unit_stands P y stands = subst (λ (xs : List Arrival). P (landed tick y xs)) same stands
 
   -- and once it has landed, what was told of it are the document's events, the meter has what the document says, and the way waits from the next tick on
-  module _ {A : Type 0} (grew : A → List Event → A → Type 0) (m : UnitMeter) (x : Way) (a b : A)
-      (k : HaveLanded grew side (on_way d side h.sent) tick (compensation_of d side) (begun_at d side tick) m x a b) where
-    pub events_heard : grew a (arrivals_at side (traffic_of d) tick) b
-    events_heard = subst (λ (es : List Event). grew a es b) (told_is side d tick here same) k.heard
+  pub events_heard : {A : Type 0} (grew : A → List Event → A → Type 0) (a b : A) → grew a (told_of_frames side (compensation_of d side) tick (begun_at d side tick) here) b
+      → grew a (arrivals_at side (traffic_of d) tick) b
+  events_heard grew a b heard = subst (λ (es : List Event). grew a es b) (told_is side d tick here same) heard
 
+  module _ (m : UnitMeter) (x : Way) (k : HaveLanded (on_way d side h.sent) tick (compensation_of d side) (begun_at d side tick) m x) where
     pub meter_has : HasDoings (compensation_of d side) (made_at d side tick) m
     meter_has = subst (λ (xs : List Arrival). HasDoings (compensation_of d side) (with_frames (compensation_of d side) tick (begun_at d side tick) xs) m) same k.made
 

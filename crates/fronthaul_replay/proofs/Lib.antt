@@ -12,6 +12,7 @@ pub mod LeavingLemmas
 pub mod WayLemmas
 pub mod QuietLemmas
 pub mod LandLemmas
+pub mod ReportLemmas
 pub mod LateLemmas
 pub mod BoxSteps
 pub mod TurnLemmas

@@ -16,6 +16,7 @@ use Rattle.du_intake.specs.declared.unit.Intake.{Intake}
 use Rattle.fh_document.specs.declared.document.Document.{Document}
 use Rattle.fh_base.specs.declared.values.Ticks.{Ticks}
 use Rattle.frame_ways.proofs.TimeLemmas.{earlier_of_both}
+use Rattle.unit_moments.proofs.StopLemmas.{Follows}
 use Rattle.fronthaul_replay.specs.Up.{NoneComesUp}
 use Rattle.fronthaul_replay.specs.IntakeTurns.{planned_for}
 use Rattle.fronthaul_replay.proofs.BoxNext.{IsStill as AreBothStill, down_idle, intake_idle, none_due_before, silent_before, still_at_intake, still_between, waits_idle}
@@ -210,13 +211,10 @@ pub heard_there : {A : Type 0} (grew : A → List Event → A → Type 0) (d : D
     → grew a (events_before d now) b → grew a (events_before d tick) b
 heard_there grew d now tick a b next heard = subst (λ (es : List Event). grew a es b) (sym (events_wait d.config (traffic_of d) now tick next)) heard
 
-pub heard_next : {A : Type 0} (grew : A → List Event → A → Type 0)
-    (more : (a b c : A) (first second : List Event) → grew a first b → grew b second c → grew a (first ++ second) c)
-    (d : Document) (tick : ℤ) (a b e : A) → first_clock ≤ℤ tick → grew a (events_before d tick) b → grew b (events_at d.config (traffic_of d) tick) e
-    → grew a (events_before d (tick +ℤ pos 1)) e
-heard_next grew more d tick a b e begun first second =
-    subst (λ (es : List Event). grew a es e) (sym (events_go_on d.config (traffic_of d) tick begun))
-    (more a b e (events_before d tick) (events_at d.config (traffic_of d) tick) first second)
+pub heard_next : {A : Type 0} (grew next : A → List Event → A → Type 0) (d : Document) (tick : ℤ) (a b e : A) → first_clock ≤ℤ tick → Follows grew next a (events_before d tick) b
+    → next b (events_at d.config (traffic_of d) tick) e → grew a (events_before d (tick +ℤ pos 1)) e
+heard_next grew next d tick a b e begun follows second =
+    subst (λ (es : List Event). grew a es e) (sym (events_go_on d.config (traffic_of d) tick begun)) (follows e (events_at d.config (traffic_of d) tick) second)
 
 -- ---- the loop
 

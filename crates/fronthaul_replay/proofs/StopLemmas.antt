@@ -40,11 +40,9 @@ ticks_after d tick begun ended =
     ∙ append_assoc (events_before d tick) (events_at c t tick) later
 
 -- both units' parts of a tick were heard
-pub heard_both : {A : Type 0} (grew : A → List Event → A → Type 0)
-    (more : (a b c : A) (first second : List Event) → grew a first b → grew b second c → grew a (first ++ second) c)
-    (d : Document) (tick : ℤ) (a b e : A) → grew a (radio_events d tick) b → grew b (intake_events d tick) e → grew a (events_at d.config (traffic_of d) tick) e
-heard_both grew more d tick a b e first second =
-    subst (λ (es : List Event). grew a es e) (sym (tick_events d tick)) (more a b e (radio_events d tick) (intake_events d tick) first second)
+pub heard_both : {A : Type 0} (grew next : A → List Event → A → Type 0) (d : Document) (tick : ℤ) (a b e : A) → stop.Follows grew next a (radio_events d tick) b
+    → next b (intake_events d tick) e → grew a (events_at d.config (traffic_of d) tick) e
+heard_both grew next d tick a b e follows second = subst (λ (es : List Event). grew a es e) (sym (tick_events d tick)) (follows e (intake_events d tick) second)
 
 -- the counters of both units
 abbrev pub counts_for : Document → List Event
@@ -99,54 +97,54 @@ module _ {A : Type 0} (grew : A → List Event → A → Type 0) (stopped : A �
       (stop.halts_moved grew stopped (λ told. IsRadioInStep d told u) (InStep d u i) earlier earlier (radio_events d tick) a e
       (λ told rest is step. radio_in_step d tick u i told rest turn is step) s))
 
-  module _ (more : (a b c : A) (first second : List Event) → grew a first b → grew b second c → grew a (first ++ second) c) where
+  module _ (next : A → List Event → A → Type 0) where
     -- ---- in the distributed unit's part
 
-    pub stops_intake : (d : Document) (tick : ℤ) (u : Ru) (i : Intake) (a b e : A) → grew a (radio_events d tick) b
+    pub stops_intake : (d : Document) (tick : ℤ) (u : Ru) (i : Intake) (a b e : A) → stop.Follows grew next a (radio_events d tick) b
         → IsRadioInStep d (events_before d tick ++ radio_events d tick) u
-        → StopsBehind grew stopped (λ told. IsIntakeInStep d told i) (events_before d tick ++ radio_events d tick) (intake_events d tick) b e
+        → StopsBehind next stopped (λ told. IsIntakeInStep d told i) (events_before d tick ++ radio_events d tick) (intake_events d tick) b e
         → StopsBehind grew stopped (InStep d u i) (events_before d tick) (events_at d.config (traffic_of d) tick) a e
-    stops_intake d tick u i a b e heard radio s =
+    stops_intake d tick u i a b e follows radio s =
         let earlier = events_before d tick in
         let first = radio_events d tick in
         subst (λ (es : List Event). StopsBehind grew stopped (InStep d u i) earlier es a e) (sym (tick_events d tick))
-        (stop.stops_behind grew stopped more (InStep d u i) earlier first (intake_events d tick) a b e heard
-        (stop.stops_moved grew stopped (λ told. IsIntakeInStep d told i) (InStep d u i) (earlier ++ first) (earlier ++ first) (intake_events d tick) b e
+        (stop.stops_behind grew stopped next (InStep d u i) earlier first (intake_events d tick) a b e follows
+        (stop.stops_moved next stopped (λ told. IsIntakeInStep d told i) (InStep d u i) (earlier ++ first) (earlier ++ first) (intake_events d tick) b e
         (λ told rest is step. intake_in_step d tick u i told rest radio is step) s))
 
-    pub halts_intake : (d : Document) (tick : ℤ) (u : Ru) (i : Intake) (a b e : A) → grew a (radio_events d tick) b
+    pub halts_intake : (d : Document) (tick : ℤ) (u : Ru) (i : Intake) (a b e : A) → stop.Follows grew next a (radio_events d tick) b
         → IsRadioInStep d (events_before d tick ++ radio_events d tick) u
-        → HaltsBehind grew stopped (λ told. IsIntakeInStep d told i) (events_before d tick ++ radio_events d tick) (intake_events d tick) b e
+        → HaltsBehind next stopped (λ told. IsIntakeInStep d told i) (events_before d tick ++ radio_events d tick) (intake_events d tick) b e
         → HaltsBehind grew stopped (InStep d u i) (events_before d tick) (events_at d.config (traffic_of d) tick) a e
-    halts_intake d tick u i a b e heard radio s =
+    halts_intake d tick u i a b e follows radio s =
         let earlier = events_before d tick in
         let first = radio_events d tick in
         subst (λ (es : List Event). HaltsBehind grew stopped (InStep d u i) earlier es a e) (sym (tick_events d tick))
-        (stop.halts_behind grew stopped more (InStep d u i) earlier first (intake_events d tick) a b e heard
-        (stop.halts_moved grew stopped (λ told. IsIntakeInStep d told i) (InStep d u i) (earlier ++ first) (earlier ++ first) (intake_events d tick) b e
+        (stop.halts_behind grew stopped next (InStep d u i) earlier first (intake_events d tick) a b e follows
+        (stop.halts_moved next stopped (λ told. IsIntakeInStep d told i) (InStep d u i) (earlier ++ first) (earlier ++ first) (intake_events d tick) b e
         (λ told rest is step. intake_in_step d tick u i told rest radio is step) s))
 
     -- ---- from a moment to the whole
 
-    pub stops_whole : (step : List Event → Type 0) (d : Document) (tick : ℤ) (a b e : A) → first_clock ≤ℤ tick → tick ≤ℤ end_of_time → grew a (events_before d tick) b
-        → StopsBehind grew stopped step (events_before d tick) (events_at d.config (traffic_of d) tick) b e
+    pub stops_whole : (step : List Event → Type 0) (d : Document) (tick : ℤ) (a b e : A) → first_clock ≤ℤ tick → tick ≤ℤ end_of_time → stop.Follows grew next a (events_before d tick) b
+        → StopsBehind next stopped step (events_before d tick) (events_at d.config (traffic_of d) tick) b e
         → StopsBehind grew stopped step [] (events_before d (end_of_time +ℤ pos 1)) a e
-    stops_whole step d tick a b e begun ended first s =
+    stops_whole step d tick a b e begun ended follows s =
         let earlier = events_before d tick in
         let these = events_at d.config (traffic_of d) tick in
         let later = events_between d.config (traffic_of d) (tick +ℤ pos 1) (end_of_time +ℤ pos 1) in
         subst (λ (es : List Event). StopsBehind grew stopped step [] es a e) (sym (ticks_after d tick begun ended))
-        (stop.stops_behind grew stopped more step [] earlier (these ++ later) a b e first (stop.stops_ahead grew stopped step earlier these later b e s))
+        (stop.stops_behind grew stopped next step [] earlier (these ++ later) a b e follows (stop.stops_ahead next stopped step earlier these later b e s))
 
-    pub halts_whole : (step : List Event → Type 0) (d : Document) (tick : ℤ) (a b e : A) → first_clock ≤ℤ tick → tick ≤ℤ end_of_time → grew a (events_before d tick) b
-        → HaltsBehind grew stopped step (events_before d tick) (events_at d.config (traffic_of d) tick) b e
+    pub halts_whole : (step : List Event → Type 0) (d : Document) (tick : ℤ) (a b e : A) → first_clock ≤ℤ tick → tick ≤ℤ end_of_time → stop.Follows grew next a (events_before d tick) b
+        → HaltsBehind next stopped step (events_before d tick) (events_at d.config (traffic_of d) tick) b e
         → HaltsBehind grew stopped step [] (events_before d (end_of_time +ℤ pos 1)) a e
-    halts_whole step d tick a b e begun ended first s =
+    halts_whole step d tick a b e begun ended follows s =
         let earlier = events_before d tick in
         let these = events_at d.config (traffic_of d) tick in
         let later = events_between d.config (traffic_of d) (tick +ℤ pos 1) (end_of_time +ℤ pos 1) in
         subst (λ (es : List Event). HaltsBehind grew stopped step [] es a e) (sym (ticks_after d tick begun ended))
-        (stop.halts_behind grew stopped more step [] earlier (these ++ later) a b e first (stop.halts_ahead grew stopped step earlier these later b e s))
+        (stop.halts_behind grew stopped next step [] earlier (these ++ later) a b e follows (stop.halts_ahead next stopped step earlier these later b e s))
 
   -- ---- among all events
 

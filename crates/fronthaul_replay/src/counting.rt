@@ -6,11 +6,13 @@ ghost use Rattle.delay_exchange.specs.Units.{HasDoings};
 ghost use Rattle.delay_measure.specs.declared.edge.Compensation.{Compensation};
 ghost use Rattle.document_traffic.specs.Doings.{Doings};
 ghost use Rattle.replay_laws.specs.Events.{count_event};
+ghost use Rattle.unit_moments.specs.Heard.{HeardAnyhow};
 ghost use Rattle.fronthaul_replay.specs.Counting.{told_counts, told_number};
 
-use air_source::{Air, AirFault, Side};
+use air_source::{AirFault, Side};
 use delay_exchange::UnitMeter;
 use fault_counters::{Counter, Counters};
+use unit_moments::ListeningAir;
 
 /// A counter's number in the end: those of delay measurement are the meter's, all others the unit's.
 fn number_of(counters: &Counters, meter: &UnitMeter, counter: Counter) -> u64
@@ -24,9 +26,14 @@ fn number_of(counters: &Counters, meter: &UnitMeter, counter: Counter) -> u64
 }
 
 /// Tells the air of a counter, if it is not at 0.
-fn tell_count<A: Air>(side: Side, counter: Counter, value: u64, out: &mut A) -> Result<(), AirFault>
-    ensures heard { OnOk result (A.grew out.old (count_event side value counter) out.new) }
-    ensures stop { IfErr result (λ f. StopsIn A.grew (A.stopped f) (count_event side value counter) out.old out.new) }
+fn tell_count<A: ListeningAir>(
+    side: Side,
+    counter: Counter,
+    value: u64,
+    out: &mut A,
+) -> Result<(), AirFault>
+    ensures heard { OnOk result (HeardAnyhow A.grew out.old (count_event side value counter) out.new) }
+    ensures stop { IfErr result (λ f. StopsIn (HeardAnyhow A.grew) (A.stopped f) (count_event side value counter) out.old out.new) }
     ensures same { A.same out.old out.new }
     ensures cause { HasAirCause (A.faults out.old) (A.faults out.new) result }
 {
@@ -37,15 +44,15 @@ fn tell_count<A: Air>(side: Side, counter: Counter, value: u64, out: &mut A) -> 
 }
 
 /// Tells the air of a unit's counters that are not at 0.
-pub(crate) fn tell_counts<A: Air>(
+pub(crate) fn tell_counts<A: ListeningAir>(
     side: Side,
     counters: &Counters,
     meter: &UnitMeter,
     out: &mut A,
 ) -> Result<(), AirFault>
     requires some { (c : Compensation) × (x : Doings) × HasDoings c x meter.now }
-    ensures heard { (c : Compensation) (x : Doings) → HasDoings c x meter.now → OnOk result (A.grew out.old (told_counts side counters.now x.counted) out.new) }
-    ensures stop { (c : Compensation) (x : Doings) → HasDoings c x meter.now → IfErr result (λ f. StopsIn A.grew (A.stopped f) (told_counts side counters.now x.counted) out.old out.new) }
+    ensures heard { (c : Compensation) (x : Doings) → HasDoings c x meter.now → OnOk result (HeardAnyhow A.grew out.old (told_counts side counters.now x.counted) out.new) }
+    ensures stop { (c : Compensation) (x : Doings) → HasDoings c x meter.now → IfErr result (λ f. StopsIn (HeardAnyhow A.grew) (A.stopped f) (told_counts side counters.now x.counted) out.old out.new) }
     ensures same { A.same out.old out.new }
     ensures cause { HasAirCause (A.faults out.old) (A.faults out.new) result }
 {

@@ -22,7 +22,7 @@ use crate::coming::Coming;
 use crate::intake::intake_moment;
 use crate::radio::radio_moment;
 use crate::times::{is_up_to, tick_after, up_to_end};
-use air_source::{Air, AirFault, RePlace, Samples};
+use air_source::{AirFault, RePlace, Samples};
 use bfp_codec::Wide;
 use du_intake::Intake;
 use fh_base::{FIRST_CLOCK, NoMemory, Ticks};
@@ -30,7 +30,7 @@ use fh_document::Document;
 use frame_ways::earlier_of;
 use ru_buffers::Ru;
 use unit_meters::Meters;
-use unit_moments::send_made;
+use unit_moments::{ListeningAir, send_made};
 
 /// The next time at which a cell or a message is due at a unit, a frame leaves or lands, or a measurement begins. None where there is none
 /// up to the end.
@@ -74,7 +74,7 @@ fn send_both<G: Fn(RePlace) -> Wide>(
 
 /// What happens at both units at one time, once its measurements have begun: the plan's frames that leave then; the radio unit's cells and
 /// the frames that land at it; its answers; then the frames that land at the distributed unit, and that unit's cells.
-fn land<A: Air, F: Fn(RePlace) -> Wide, G: Fn(RePlace) -> Wide>(
+fn land<A: ListeningAir, F: Fn(RePlace) -> Wide, G: Fn(RePlace) -> Wide>(
     doc: &Document,
     tick: Ticks,
     du: &Samples<F>,
@@ -89,11 +89,11 @@ fn land<A: Air, F: Fn(RePlace) -> Wide, G: Fn(RePlace) -> Wide>(
     requires document { IsReplayable doc.now }
     requires begun { TurnHasBegun G.pre G.post doc.now tick.0 ru.old intake.old coming.old meters.old }
     requires ended { tick.0 ≤ℤ end_of_time }
-    ensures heard { OnOk result (A.grew out.old (events_at doc.now.config (traffic_of doc.now) tick.0) out.new) }
+    ensures heard { OnOk result (A.grew doc.now.config (events_before doc.now tick.0) out.old (events_at doc.now.config (traffic_of doc.now) tick.0) out.new) }
     ensures turn { OnOk result (AtTurn doc.now (tick.0 +ℤ pos 1) ru.new intake.new) }
     ensures landed { OnOk result (TurnHasLanded G.pre G.post doc.now tick.0 coming.new meters.new) }
-    ensures stop { IsErrOf result Failed → StopsBehind A.grew (A.stopped Failed) (λ told. IsInStep doc.now told ru.new intake.new) (events_before doc.now tick.0) (events_at doc.now.config (traffic_of doc.now) tick.0) out.old out.new }
-    ensures wants { IsErrOf result WantsMemory → HaltsBehind A.grew (A.stopped WantsMemory) (λ told. IsInStep doc.now told ru.new intake.new) (events_before doc.now tick.0) (events_at doc.now.config (traffic_of doc.now) tick.0) out.old out.new }
+    ensures stop { IsErrOf result Failed → StopsBehind (A.grew doc.now.config (events_before doc.now tick.0)) (A.stopped Failed) (λ told. IsInStep doc.now told ru.new intake.new) (events_before doc.now tick.0) (events_at doc.now.config (traffic_of doc.now) tick.0) out.old out.new }
+    ensures wants { IsErrOf result WantsMemory → HaltsBehind (A.grew doc.now.config (events_before doc.now tick.0)) (A.stopped WantsMemory) (λ told. IsInStep doc.now told ru.new intake.new) (events_before doc.now tick.0) (events_at doc.now.config (traffic_of doc.now) tick.0) out.old out.new }
     ensures same { A.same out.old out.new }
     ensures cause { HasAirCause (A.faults out.old) (A.faults out.new) result }
 {
@@ -111,7 +111,7 @@ fn land<A: Air, F: Fn(RePlace) -> Wide, G: Fn(RePlace) -> Wide>(
 
 /// What happens at one time: measurements begin, both units' frames land and their cells are told, and the frames of delay measurement that
 /// both made leave.
-fn moment<A: Air, F: Fn(RePlace) -> Wide, G: Fn(RePlace) -> Wide>(
+fn moment<A: ListeningAir, F: Fn(RePlace) -> Wide, G: Fn(RePlace) -> Wide>(
     doc: &Document,
     tick: Ticks,
     du: &Samples<F>,
@@ -126,10 +126,10 @@ fn moment<A: Air, F: Fn(RePlace) -> Wide, G: Fn(RePlace) -> Wide>(
     requires document { IsReplayable doc.now }
     requires moment { AtMoment G.pre G.post doc.now tick.0 ru.old intake.old coming.old meters.old }
     requires ended { tick.0 ≤ℤ end_of_time }
-    ensures heard { OnOk result (A.grew out.old (events_at doc.now.config (traffic_of doc.now) tick.0) out.new) }
+    ensures heard { OnOk result (A.grew doc.now.config (events_before doc.now tick.0) out.old (events_at doc.now.config (traffic_of doc.now) tick.0) out.new) }
     ensures moment { OnOk result (AtMoment G.pre G.post doc.now (tick.0 +ℤ pos 1) ru.new intake.new coming.new meters.new) }
-    ensures stop { IsErrOf result Failed → StopsBehind A.grew (A.stopped Failed) (λ told. IsInStep doc.now told ru.new intake.new) (events_before doc.now tick.0) (events_at doc.now.config (traffic_of doc.now) tick.0) out.old out.new }
-    ensures wants { IsErrOf result WantsMemory → HaltsBehind A.grew (A.stopped WantsMemory) (λ told. IsInStep doc.now told ru.new intake.new) (events_before doc.now tick.0) (events_at doc.now.config (traffic_of doc.now) tick.0) out.old out.new }
+    ensures stop { IsErrOf result Failed → StopsBehind (A.grew doc.now.config (events_before doc.now tick.0)) (A.stopped Failed) (λ told. IsInStep doc.now told ru.new intake.new) (events_before doc.now tick.0) (events_at doc.now.config (traffic_of doc.now) tick.0) out.old out.new }
+    ensures wants { IsErrOf result WantsMemory → HaltsBehind (A.grew doc.now.config (events_before doc.now tick.0)) (A.stopped WantsMemory) (λ told. IsInStep doc.now told ru.new intake.new) (events_before doc.now tick.0) (events_at doc.now.config (traffic_of doc.now) tick.0) out.old out.new }
     ensures same { A.same out.old out.new }
     ensures cause { HasAirCause (A.faults out.old) (A.faults out.new) result }
 {
@@ -140,7 +140,7 @@ fn moment<A: Air, F: Fn(RePlace) -> Wide, G: Fn(RePlace) -> Wide>(
 }
 
 /// Lets time pass to the end.
-pub(crate) fn pass<A: Air, F: Fn(RePlace) -> Wide, G: Fn(RePlace) -> Wide>(
+pub(crate) fn pass<A: ListeningAir, F: Fn(RePlace) -> Wide, G: Fn(RePlace) -> Wide>(
     doc: &Document,
     du: &Samples<F>,
     ru: &mut Ru,
@@ -153,11 +153,11 @@ pub(crate) fn pass<A: Air, F: Fn(RePlace) -> Wide, G: Fn(RePlace) -> Wide>(
     requires tone { AnswersBy (F.post (closure_of du.now)) (tone_of doc.now.source) }
     requires document { IsReplayable doc.now }
     requires moment { AtMoment G.pre G.post doc.now first_clock ru.old intake.old coming.old meters.old }
-    ensures heard { OnOk result (A.grew out.old (events_before doc.now (end_of_time +ℤ pos 1)) out.new) }
+    ensures heard { OnOk result (A.grew doc.now.config [] out.old (events_before doc.now (end_of_time +ℤ pos 1)) out.new) }
     ensures over { OnOk result (AtTurn doc.now (end_of_time +ℤ pos 1) ru.new intake.new) }
     ensures measured { OnOk result (MeasuresWait doc.now (end_of_time +ℤ pos 1) meters.new) }
-    ensures stop { IsErrOf result Failed → StopsBehind A.grew (A.stopped Failed) (λ told. IsInStep doc.now told ru.new intake.new) [] (events_before doc.now (end_of_time +ℤ pos 1)) out.old out.new }
-    ensures wants { IsErrOf result WantsMemory → HaltsBehind A.grew (A.stopped WantsMemory) (λ told. IsInStep doc.now told ru.new intake.new) [] (events_before doc.now (end_of_time +ℤ pos 1)) out.old out.new }
+    ensures stop { IsErrOf result Failed → StopsBehind (A.grew doc.now.config []) (A.stopped Failed) (λ told. IsInStep doc.now told ru.new intake.new) [] (events_before doc.now (end_of_time +ℤ pos 1)) out.old out.new }
+    ensures wants { IsErrOf result WantsMemory → HaltsBehind (A.grew doc.now.config []) (A.stopped WantsMemory) (λ told. IsInStep doc.now told ru.new intake.new) [] (events_before doc.now (end_of_time +ℤ pos 1)) out.old out.new }
     ensures same { A.same out.old out.new }
     ensures cause { HasAirCause (A.faults out.old) (A.faults out.new) result }
 {

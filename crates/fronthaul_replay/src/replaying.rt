@@ -1,5 +1,5 @@
 // A replay of a document, told to any air.
-ghost use Rattle.std.specs.Prelude.{◌≡◌, ◌<◌, OnOk, IfErr, IfOk};
+ghost use Rattle.std.specs.Prelude.{◌≡◌, ◌<◌, [], OnOk, IfErr, IfOk};
 ghost use Rattle.air_source.specs.Answers.{Fits16};
 ghost use Rattle.document_traffic.specs.Sending.{sent_for};
 ghost use Rattle.du_scheduler.specs.Plans.{HasToSend};
@@ -14,7 +14,7 @@ ghost use Rattle.du_intake.specs.Calls.{IntakeStandsFor};
 ghost use Rattle.fronthaul_replay.specs.IntakeTurns.{planned_for};
 ghost use Rattle.unit_model.specs.Standing.{nothing_yet};
 
-use crate::replays::replay;
+use crate::replays::replay_listening;
 use crate::report::TextFault;
 use air_source::{Air, RePlace, Samples, ToneSteps};
 use bfp_codec::Wide;
@@ -24,6 +24,7 @@ use fh_base::NoMemory;
 use fh_document::Document;
 use ru_buffers::Ru;
 use std::alloc::Global;
+use unit_moments::ListeningAir;
 
 /// Makes both units of a document and tells an air the document's events; the samples that are sent are those of its `source`, those
 /// that the radio unit takes in those of its `antenna`.
@@ -37,6 +38,24 @@ pub fn replay_to<A: Air>(
     requires plan { HasToSend document.now.config document.now.plan (sent_for document.now) plan }
     ensures heard { OnOk result (A.grew air.old (events_of document.now) air.new) }
     ensures cut { IfErr result (λ f. CutBy f A.grew A.stopped (events_of document.now) air.old air.new) }
+    ensures cause { HasWriteCause (A.faults air.old) (A.faults air.new) result }
+    ensures same { A.same air.old air.new }
+    ensures sound { OnOk result (IsSound document.now) }
+{
+    replay_listening_to(alloc, document, plan, air)
+}
+
+/// Makes both units of a document and replays it as [`replay_to`] does, told to what listens to the units.
+pub fn replay_listening_to<A: ListeningAir>(
+    alloc: Global,
+    document: &Document,
+    plan: Plan,
+    air: &mut A,
+) -> Result<(), TextFault>
+    requires document { IsDocument document.now }
+    requires plan { HasToSend document.now.config document.now.plan (sent_for document.now) plan }
+    ensures heard { OnOk result (A.grew document.now.config [] air.old (events_of document.now) air.new) }
+    ensures cut { IfErr result (λ f. CutBy f (A.grew document.now.config []) A.stopped (events_of document.now) air.old air.new) }
     ensures cause { HasWriteCause (A.faults air.old) (A.faults air.new) result }
     ensures same { A.same air.old air.new }
     ensures sound { OnOk result (IsSound document.now) }
@@ -59,7 +78,7 @@ pub fn replay_to<A: Air>(
             ensures narrow { Fits16 result }
         { taken_in.at(place) },
     );
-    replay(
+    replay_listening(
         alloc,
         document,
         plan,

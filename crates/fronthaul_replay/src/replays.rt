@@ -1,5 +1,5 @@
 // The replay.
-ghost use Rattle.std.specs.Prelude.{◌≡◌, IsErrOf, OnOk};
+ghost use Rattle.std.specs.Prelude.{◌≡◌, [], IsErrOf, OnOk};
 ghost use Rattle.air_source.specs.Answers.{AnswersBy};
 ghost use Rattle.air_source.specs.Causes.{HasAirCause};
 ghost use Rattle.air_source.specs.Kept.{IsKept, closure_of};
@@ -36,6 +36,7 @@ use ru_buffers::Ru;
 use std::alloc::Global;
 use thiserror::Error;
 use unit_meters::Meters;
+use unit_moments::ListeningAir;
 
 /// Why a replay did not reach its end.
 #[derive(Clone, Copy, Debug, PartialEq, Eq, Error)]
@@ -115,13 +116,47 @@ pub fn replay<A: Air, F: Fn(RePlace) -> Wide, G: Fn(RePlace) -> Wide>(
     ensures same { A.same out.old out.new }
     ensures sound { IsSound doc.now }
 {
+    replay_listening(alloc, doc, plan, ru, intake, du, antenna, out)
+}
+
+/// Replays a document as [`replay`] does, and tells what listens to its units, of each frame, what the unit judges of it.
+///
+/// # Errors
+///
+/// As those of [`replay`].
+pub fn replay_listening<A: ListeningAir, F: Fn(RePlace) -> Wide, G: Fn(RePlace) -> Wide>(
+    alloc: Global,
+    doc: &Document,
+    plan: Plan,
+    ru: &mut Ru,
+    intake: &mut Intake,
+    du: Samples<F>,
+    antenna: Samples<G>,
+    out: &mut A,
+) -> Result<(), ReplayFault>
+    requires document { IsDocument doc.now }
+    requires plan { HasToSend doc.now.config doc.now.plan (sent_for doc.now) plan }
+    requires kept { IsKept F.pre F.post du }
+    requires tone { AnswersBy (F.post (closure_of du)) (tone_of doc.now.source) }
+    requires antenna_kept { IsKept G.pre G.post antenna }
+    requires antenna_tone { AnswersBy (G.post (closure_of antenna)) (antenna_for doc.now) }
+    requires unit { StandsFor doc.now.config ru.old nothing_yet }
+    requires intake { IntakeStandsFor doc.now.config (planned_for doc.now) intake.old nothing_yet }
+    ensures heard { OnOk result (A.grew doc.now.config [] out.old (events_of doc.now) out.new) }
+    ensures done { OnOk result (IsDone doc.now ru.new intake.new) }
+    ensures stopped { IsErrOf result AirFailed → StopsInStep (A.grew doc.now.config []) (A.stopped Failed) doc.now ru.new intake.new out.old out.new }
+    ensures wants { IsErrOf result WantsMemory → HaltsInStep (A.grew doc.now.config []) (A.stopped AirWantsMemory) doc.now ru.new intake.new out.old out.new }
+    ensures cause { HasReplayCause (A.faults out.old) (A.faults out.new) result }
+    ensures same { A.same out.old out.new }
+    ensures sound { IsSound doc.now }
+{
     let mut coming = coming_of(alloc, doc, plan, antenna)?;
     let mut meters = meters_of(alloc, doc)?;
     run(doc, &du, ru, intake, &mut coming, &mut meters, out).map_err(ReplayFault::from)
 }
 
 /// Lets all frames land, and tells the counters of both units.
-fn run<A: Air, F: Fn(RePlace) -> Wide, G: Fn(RePlace) -> Wide>(
+fn run<A: ListeningAir, F: Fn(RePlace) -> Wide, G: Fn(RePlace) -> Wide>(
     doc: &Document,
     du: &Samples<F>,
     ru: &mut Ru,
@@ -137,10 +172,10 @@ fn run<A: Air, F: Fn(RePlace) -> Wide, G: Fn(RePlace) -> Wide>(
     requires intake { IntakeStandsFor doc.now.config (planned_for doc.now) intake.old nothing_yet }
     requires waits { WaitsInTurn G.pre G.post doc.now first_clock coming.old }
     requires measures { MeasuresWait doc.now first_clock meters.old }
-    ensures heard { OnOk result (A.grew out.old (events_of doc.now) out.new) }
+    ensures heard { OnOk result (A.grew doc.now.config [] out.old (events_of doc.now) out.new) }
     ensures done { OnOk result (IsDone doc.now ru.new intake.new) }
-    ensures stop { IsErrOf result Failed → StopsInStep A.grew (A.stopped Failed) doc.now ru.new intake.new out.old out.new }
-    ensures wants { IsErrOf result AirWantsMemory → HaltsInStep A.grew (A.stopped AirWantsMemory) doc.now ru.new intake.new out.old out.new }
+    ensures stop { IsErrOf result Failed → StopsInStep (A.grew doc.now.config []) (A.stopped Failed) doc.now ru.new intake.new out.old out.new }
+    ensures wants { IsErrOf result AirWantsMemory → HaltsInStep (A.grew doc.now.config []) (A.stopped AirWantsMemory) doc.now ru.new intake.new out.old out.new }
     ensures same { A.same out.old out.new }
     ensures cause { HasAirCause (A.faults out.old) (A.faults out.new) result }
 {

@@ -83,7 +83,7 @@ module _ (c : Config) (m : UnitMemory) (clock : ℤ) (cursor next : JobCursor) (
   pub stands_settled : RadioStands c m clock next h
   stands_settled = stands c m clock next h settled_is.kept
 
-  holds_now : Holds Ru c clock m h.arrivals (cells_counted h.reported)
+  pub holds_now : Holds Ru c clock m h.arrivals (cells_counted h.reported)
   holds_now = subst (λ (t : ℤ). Holds Ru c t m h.arrivals (cells_counted h.reported)) settled_is.since settled_is.kept.holds
 
   pub holds_some : HoldsSome clock m

@@ -181,7 +181,7 @@ reporting_starts grew same faults to u air empty unchanged next = record {
 at_clock : (to_clock clock : Ticks) (to : ℤ) (m : SymbolStart) (old new : CellsValue) → to_clock ≡ clock → IsNextReport to_clock.0 to m old new → IsNextReport clock.0 to m old new
 at_clock a b to m old new e is = subst (λ (t : Ticks). IsNextReport t.0 to m old new) e is
 
-pub known_then : (a b d : CellsValue) → SameKnown a b → SameKnown b d → SameKnown a d
+known_then : (a b d : CellsValue) → SameKnown a b → SameKnown b d → SameKnown a d
 known_then a b d p q = record {
   claims = λ cell re. q.claims cell re ∙ p.claims cell re;
   blocks = λ cell. q.blocks cell ∙ p.blocks cell;

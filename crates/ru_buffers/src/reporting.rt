@@ -63,10 +63,8 @@ impl Ru {
             air,
         );
         self.symbol = find_symbol(&self.memory.cells, self.clock);
-        match told {
-            Ok(()) => Ok(Some(first)),
-            Err(stop) => Err(stop),
-        }
+        told?;
+        Ok(Some(first))
     }
 
     /// Reports all symbols of which something is left that start by a time. The last of them, if there is one.
@@ -89,13 +87,10 @@ impl Ru {
         ensures cause { HasAirCause (A.faults air.old) (A.faults air.new) result }
     {
         let mut last = None;
-        loop {
-            match self.report_next(to, air) {
-                Ok(Some(reported)) => last = Some(reported),
-                Ok(None) => return Ok(last),
-                Err(fault) => return Err(fault),
-            }
+        while let Some(reported) = self.report_next(to, air)? {
+            last = Some(reported);
         }
+        Ok(last)
     }
 
     /// Hands the air every cell due from the clock to `to`, that time included, which was not reported, in order; then the clock is
@@ -121,12 +116,8 @@ impl Ru {
         ensures cause { HasAirCause (A.faults air.old) (A.faults air.new) result }
     {
         self.cursor = self.cursor.settled(self.clock);
-        match self.report_until(to, air) {
-            Ok(_) => {
-                self.clock = to;
-                Ok(())
-            }
-            Err(fault) => Err(fault),
-        }
+        self.report_until(to, air)?;
+        self.clock = to;
+        Ok(())
     }
 }

@@ -12,7 +12,7 @@ use fault_counters::Counters;
 use fh_base::{FIRST_CLOCK, NoMemory, Ticks};
 use std::alloc::Global;
 use unit_memory::{Arrived, TakesFrames, UnitMemory};
-use unit_model::{Delivered, SymbolStart};
+use unit_model::{Deaf, Delivered, Listener, SymbolStart};
 use unit_symbols::{JobCursor, NextJob};
 use window_config::Config;
 
@@ -34,10 +34,14 @@ pub struct Ru {
 
 impl Ru {
     ghost use Rattle.ru_buffers.specs.Calls.{HasGivenPast, IsNextMessage, IsNextSymbol, StandsFor, StandsForSome, radio_clock};
-    ghost use Rattle.unit_memory.specs.Control.{has_delay};
+    ghost use Rattle.unit_memory.specs.Control.{has_control, has_delay};
+    ghost use Rattle.unit_memory.specs.Memory.{arrival_at};
+    ghost use Rattle.unit_model.specs.Judgements.{judgements};
     ghost use Rattle.unit_model.specs.Counts.{StandAt, cells_counted};
     ghost use Rattle.unit_model.specs.Reports.{arrivals_counted};
-    ghost use Rattle.std.specs.Prelude.{◌++◌};
+    ghost use Rattle.std.specs.Prelude.{All, ◌∷◌, ◌++◌};
+    ghost use Rattle.unit_model.specs.Proper.{IsTime};
+    ghost use Rattle.unit_model.specs.Standing.{AreInTime};
     ghost use Rattle.air_source.specs.declared.events.Side.TheVariants.{Ru as AtRu};
 
     /// Takes all memory of the unit. Its clock is one frame before 0.
@@ -88,22 +92,28 @@ impl Ru {
         ensures messages { result.messages ≡ min (length (whole_messages frame.now)) (2 ^ 32 - 1) }
         ensures refusal { result.refusal ≡ (pdu frame.now).refusal }
     {
-        self.arrive(frame).delivered
+        self.arrive(&mut Deaf {}, frame).delivered
     }
 
-    /// The same, with what else the unit's memory answers of the frame.
-    fn arrive(&mut self, frame: &[u8]) -> Arrived
+    /// The same, with what else the unit's memory answers of the frame. A listener hears what is judged.
+    fn arrive<L: Listener>(&mut self, listener: &mut L, frame: &[u8]) -> Arrived
         requires unit { StandsForSome self.old }
         requires given { HasGivenPast self.old }
         ensures stands { (c : SpecConfig) (h : History) → StandsFor c self.old h → StandsFor c self.new (arrived h frame.now) }
+        ensures told { (c : SpecConfig) (h : History) → StandsFor c self.old h
+            → L.heard listener.old (judgements AtRu c h.arrivals (arrival_at (radio_clock self.old).0 frame.now)) listener.new }
+        ensures times { (c : SpecConfig) (h : History) → StandsFor c self.old h
+            → IsConfig c × AreInTime (radio_clock self.old).0 (arrival_at (radio_clock self.old).0 frame.now ∷ h.arrivals)
+            × All (λ a. IsTime a.at) (arrival_at (radio_clock self.old).0 frame.now ∷ h.arrivals) }
         ensures given { HasGivenPast self.new }
         ensures clock { radio_clock self.new ≡ radio_clock self.old }
         ensures messages { result.delivered.messages ≡ min (length (whole_messages frame.now)) (2 ^ 32 - 1) }
         ensures refusal { result.delivered.refusal ≡ (pdu frame.now).refusal }
+        ensures control { result.control ≡ has_control frame.now }
         ensures delay { result.delay ≡ has_delay frame.now }
     {
         self.cursor = self.cursor.settled(self.clock);
-        let arrival = self.memory.arrive(self.clock, frame);
+        let arrival = self.memory.arrive_told(listener, self.clock, frame);
         self.look(arrival.control);
         arrival
     }
@@ -127,10 +137,17 @@ impl Ru {
 
 impl TakesFrames for Ru {
     ghost use Rattle.ru_buffers.specs.Calls.{RadioMayTake};
+    ghost use Rattle.air_source.specs.declared.events.Side.TheVariants.{Ru as AtRu};
+
+    ghost side = { AtRu };
 
     ghost may_take = { λ u c planned at h. RadioMayTake u c planned at h };
 
-    fn take(&mut self, at: Ticks, frame: &[u8]) -> bool {
-        self.arrive(frame).delay
+    fn take(&mut self, _at: Ticks, frame: &[u8]) -> bool {
+        self.arrive(&mut Deaf {}, frame).delay
+    }
+
+    fn take_told<L: Listener>(&mut self, listener: &mut L, _at: Ticks, frame: &[u8]) -> Arrived {
+        self.arrive(listener, frame)
     }
 }

@@ -23,7 +23,7 @@ use Rattle.unit_model.specs.declared.allocations.Allocation.{Allocation}
 use Rattle.window_config.specs.declared.config.Config.{Config}
 use Rattle.unit_moments.specs.Landing.{HasTaken, HaveLanded, MayLand, clock_behind, landed, told_of_frame, told_of_frames}
 use Rattle.unit_moments.specs.Stops.{HaltsBehind, StopsBehind}
-use Rattle.unit_moments.proofs.StopLemmas.{halts_ahead, halts_behind, halts_moved, stops_ahead, stops_behind, stops_moved}
+use Rattle.unit_moments.proofs.StopLemmas.{Follows, halts_ahead, halts_behind, halts_moved, stops_ahead, stops_behind, stops_moved}
 use Rattle.unit_model.proofs.ArrivalLemmas.{arrivals-append, arrivals-own}
 
 -- ---- what a meter has of them, and what is told
@@ -68,25 +68,27 @@ landed_next tick h xs frame =
 
 -- some of those that are received at a unit at a tick were told, each with its delays, the unit took them, its meter was told them, and
 -- the rest is on its way
-pub record AreTold {A : Type 0} (grew : A → List Event → A → Type 0) (side : Side) (v : OnWay) (tick : ℤ) (c : Compensation)
+pub record AreTold {A : Type 0} (grew : Config → List Event → A → List Event → A → Type 0) (side : Side) (v : OnWay) (tick : ℤ) (c : Compensation)
     (x : Doings) (takes_old takes_now : Config → List Allocation → History → Type 0) (m : UnitMeter) (now : Way) (before after : A) : Type 0 where
   pub gone : List Arrival
   pub lands : Lands v tick gone now
-  pub heard : grew before (told_of_frames side c tick x gone) after
+  pub heard : (k : Config) (planned : List Allocation) (h : History) (earlier : List Event) → takes_old k planned h → h.arrivals ≡ arrivals_heard side [] earlier
+      → grew k earlier before (told_of_frames side c tick x gone) after
   pub made : HasDoings c (with_frames c tick x gone) m
   pub takes : (k : Config) (planned : List Allocation) (h : History) → takes_old k planned h → takes_now k planned (landed tick h gone)
 
-module _ {A : Type 0} (grew : A → List Event → A → Type 0) (side : Side) (v : OnWay) (tick : ℤ) (c : Compensation) (x : Doings) where
-  pub none_are_told : (takes_old : Config → List Allocation → History → Type 0) (m : UnitMeter) (w : Way) (a : A) → MayLand v tick c x w m → grew a [] a → AreTold grew side v tick c x takes_old takes_old m w a a
+module _ {A : Type 0} (grew : Config → List Event → A → List Event → A → Type 0) (side : Side) (v : OnWay) (tick : ℤ) (c : Compensation) (x : Doings) where
+  pub none_are_told : (takes_old : Config → List Allocation → History → Type 0) (m : UnitMeter) (w : Way) (a : A) → MayLand v tick c x w m
+      → ((k : Config) (earlier : List Event) → grew k earlier a [] a) → AreTold grew side v tick c x takes_old takes_old m w a a
   none_are_told takes_old m w a may none = record {
     gone = [];
     lands = none_landed v tick w may.waits;
-    heard = subst (λ (es : List Event). grew a es a) (sym (none_told side [])) none;
+    heard = λ k planned h earlier takes came. subst (λ (es : List Event). grew k earlier a es a) (sym (none_told side [])) (none k earlier);
     made = may.doings;
     takes = λ k planned h stands. subst (takes_old k planned) (landed_none tick h) stands;
   }
 
-  module _ (more : (a b d : A) (first second : List Event) → grew a first b → grew b second d → grew a (first ++ second) d) (f : Landed) (takes_old takes_now : Config → List Allocation → History → Type 0) (m : UnitMeter)
+  module _ (f : Landed) (takes_old takes_now : Config → List Allocation → History → Type 0) (m : UnitMeter)
       (before now : Way) (a b : A) (so_far : AreTold grew side v tick c x takes_old takes_now m before a b) (next : LandsNext v tick so_far.gone f now) where
     abbrev all : List Arrival
     all = landing_at (landings_on v) tick
@@ -94,7 +96,7 @@ module _ {A : Type 0} (grew : A → List Event → A → Type 0) (side : Side) (
     abbrev one : Arrival
     one = arrival_at tick (bytes_of f)
 
-    abbrev first : List Event
+    abbrev pub first : List Event
     first = told_of_frames side c tick x so_far.gone
 
     abbrev has : Doings
@@ -117,16 +119,29 @@ module _ {A : Type 0} (grew : A → List Event → A → Type 0) (side : Side) (
         go [] is = late one next.comes is
         go (y ∷ ys) is = late y (ys ++ one ∷ next.comes) is
 
+    -- the unit has what was told of them
+    pub came_so_far : (h : History) (earlier : List Event) → h.arrivals ≡ arrivals_heard side [] earlier → (landed tick h so_far.gone).arrivals ≡ arrivals_heard side [] (earlier ++ first)
+    came_so_far h earlier came =
+        sym (arrivals-own side h.arrivals (results_of c tick x so_far.gone) so_far.gone)
+        ∙ ap (λ (xs : List Arrival). arrivals_heard side xs first) came
+        ∙ sym (arrivals-append side [] earlier first)
+
     -- one more was told
-    pub one_more_told : (takes_new : Config → List Allocation → History → Type 0) (n : UnitMeter) (e : A) → grew b here e → HasDoings c has_then n
+    pub one_more_told : ((k : Config) (earlier : List Event) (a b d : A) (first second : List Event) → grew k earlier a first b → grew k (earlier ++ first) b second d → grew k earlier a (first ++ second) d)
+        → (takes_new : Config → List Allocation → History → Type 0) (n : UnitMeter) (e : A)
+        → ((k : Config) (planned : List Allocation) (h : History) (earlier : List Event) → takes_now k planned h → h.arrivals ≡ arrivals_heard side [] earlier → grew k earlier b here e)
+        → HasDoings c has_then n
         → ((k : Config) (planned : List Allocation) (h : History) → takes_now k planned h → takes_new k planned (arrived (at_clock h tick) (bytes_of f)))
         → AreTold grew side v tick c x takes_old takes_new n now a e
-    one_more_told takes_new n e heard made takes =
+    one_more_told more takes_new n e heard made takes =
         let told = told-append side c tick x so_far.gone (one ∷ []) ∙ ap (λ (es : List Event). first ++ es) (told_one side has_then.results [] one) in
         record {
           gone = so_far.gone ++ one ∷ [];
           lands = next.lands;
-          heard = subst (λ (es : List Event). grew a es e) (sym told) (more a b e first here so_far.heard heard);
+          heard = λ k planned h earlier stands came.
+              subst (λ (es : List Event). grew k earlier a es e) (sym told)
+              (more k earlier a b e first here (so_far.heard k planned h earlier stands came)
+              (heard k planned (landed tick h so_far.gone) (earlier ++ first) (so_far.takes k planned h stands) (came_so_far h earlier came)));
           made = subst (λ (z : Doings). HasDoings c z n) (sym (with_frames-append c tick x so_far.gone (one ∷ []))) made;
           takes = λ k planned h stands. subst (takes_new k planned) (landed_next tick h so_far.gone (bytes_of f)) (takes k planned (landed tick h so_far.gone) (so_far.takes k planned h stands));
         }
@@ -149,27 +164,33 @@ module _ {A : Type 0} (grew : A → List Event → A → Type 0) (side : Side) (
     }
 
     -- the air stopped in it, or in a delay of it
-    pub stops_here : (stopped : A → Event → A → Type 0) (stands : History → Type 0) (h : History) (e : A) → StopsBehind grew stopped (HasTaken stands side (landed tick h so_far.gone)) [] here b e
-        → StopsBehind grew stopped (HasTaken stands side h) [] (told_of_frames side c tick x all) a e
-    stops_here stopped stands h e s =
-        subst (λ (es : List Event). StopsBehind grew stopped (HasTaken stands side h) [] es a e) all_told
-        (stops_behind grew stopped more (HasTaken stands side h) [] first (here ++ later) a b e so_far.heard
-        (stops_ahead grew stopped (HasTaken stands side h) first here later b e
-        (stops_moved grew stopped (HasTaken stands side (landed tick h so_far.gone)) (HasTaken stands side h) [] first here b e (λ told rest is t. taken_behind stands h told t) s)))
+    module _ (k : Config) (earlier : List Event) (stopped : A → Event → A → Type 0) (stands : History → Type 0) (h : History) (e : A)
+        (follows : Follows (grew k earlier) (grew k (earlier ++ first)) a first b) where
+      pub stops_here : StopsBehind (grew k (earlier ++ first)) stopped (HasTaken stands side (landed tick h so_far.gone)) [] here b e
+          → StopsBehind (grew k earlier) stopped (HasTaken stands side h) [] (told_of_frames side c tick x all) a e
+      stops_here s =
+          subst (λ (es : List Event). StopsBehind (grew k earlier) stopped (HasTaken stands side h) [] es a e) all_told
+          (stops_behind (grew k earlier) stopped (grew k (earlier ++ first)) (HasTaken stands side h) [] first (here ++ later) a b e follows
+          (stops_ahead (grew k (earlier ++ first)) stopped (HasTaken stands side h) first here later b e
+          (stops_moved (grew k (earlier ++ first)) stopped (HasTaken stands side (landed tick h so_far.gone)) (HasTaken stands side h) [] first here b e (λ told rest is t. taken_behind stands h told t) s)))
 
-    pub halts_here : (stopped : A → Event → A → Type 0) (stands : History → Type 0) (h : History) (e : A) → HaltsBehind grew stopped (HasTaken stands side (landed tick h so_far.gone)) [] here b e
-        → HaltsBehind grew stopped (HasTaken stands side h) [] (told_of_frames side c tick x all) a e
-    halts_here stopped stands h e s =
-        subst (λ (es : List Event). HaltsBehind grew stopped (HasTaken stands side h) [] es a e) all_told
-        (halts_behind grew stopped more (HasTaken stands side h) [] first (here ++ later) a b e so_far.heard
-        (halts_ahead grew stopped (HasTaken stands side h) first here later b e
-        (halts_moved grew stopped (HasTaken stands side (landed tick h so_far.gone)) (HasTaken stands side h) [] first here b e (λ told rest is t. taken_behind stands h told t) s)))
+      pub halts_here : HaltsBehind (grew k (earlier ++ first)) stopped (HasTaken stands side (landed tick h so_far.gone)) [] here b e
+          → HaltsBehind (grew k earlier) stopped (HasTaken stands side h) [] (told_of_frames side c tick x all) a e
+      halts_here s =
+          subst (λ (es : List Event). HaltsBehind (grew k earlier) stopped (HasTaken stands side h) [] es a e) all_told
+          (halts_behind (grew k earlier) stopped (grew k (earlier ++ first)) (HasTaken stands side h) [] first (here ++ later) a b e follows
+          (halts_ahead (grew k (earlier ++ first)) stopped (HasTaken stands side h) first here later b e
+          (halts_moved (grew k (earlier ++ first)) stopped (HasTaken stands side (landed tick h so_far.gone)) (HasTaken stands side h) [] first here b e (λ told rest is t. taken_behind stands h told t) s)))
 
   -- none is left
   module _ (takes_old takes_now : Config → List Allocation → History → Type 0) (m : UnitMeter) (before now : Way) (a b : A) (so_far : AreTold grew side v tick c x takes_old takes_now m before a b) (over : HasLanded v tick so_far.gone now) where
-    pub all_landed : HaveLanded grew side v tick c x m now a b
+    pub all_heard : (k : Config) (planned : List Allocation) (h : History) (earlier : List Event) → takes_old k planned h → h.arrivals ≡ arrivals_heard side [] earlier
+        → grew k earlier a (told_of_frames side c tick x (landing_at (landings_on v) tick)) b
+    all_heard k planned h earlier stands came =
+        subst (λ (xs : List Arrival). grew k earlier a (told_of_frames side c tick x xs) b) (sym over.all) (so_far.heard k planned h earlier stands came)
+
+    pub all_landed : HaveLanded v tick c x m now
     all_landed = record {
-      heard = subst (λ (xs : List Arrival). grew a (told_of_frames side c tick x xs) b) (sym over.all) so_far.heard;
       made = subst (λ (xs : List Arrival). HasDoings c (with_frames c tick x xs) m) (sym over.all) so_far.made;
       waits = over.stands;
     }

@@ -1,10 +1,13 @@
 // The frames that land at a unit at one time.
-ghost use Rattle.std.specs.Prelude.{ℤ, pos, ◌<◌, ◌≤ℤ◌, ◌^◌, List, [], IsErrOf, OnOk, length};
+ghost use Rattle.std.specs.Prelude.{◌≡◌, pos, ◌<◌, ◌≤ℤ◌, ◌^◌, List, [], IsErrOf, OnOk, length};
 ghost use Rattle.air_source.specs.Causes.{HasAirCause};
 ghost use Rattle.air_source.specs.declared.airs.AirFault.TheVariants.{Failed, NoMemory as WantsMemory};
 ghost use Rattle.delay_exchange.specs.Units.{HasDoings};
 ghost use Rattle.delay_measure.specs.declared.edge.Compensation.{Compensation};
 ghost use Rattle.delay_model.specs.Doings.{Doings, with_frame};
+ghost use Rattle.air_source.specs.declared.events.Event.{Event};
+ghost use Rattle.unit_memory.specs.Control.{has_delay};
+ghost use Rattle.unit_model.specs.Heard.{arrivals_heard};
 ghost use Rattle.frame_ways.specs.Landing.{landing_at};
 ghost use Rattle.frame_ways.specs.Landed.{bytes_of};
 ghost use Rattle.frame_ways.specs.Ways.{OnWay, landings_on};
@@ -14,29 +17,22 @@ ghost use Rattle.unit_model.specs.declared.allocations.Allocation.{Allocation};
 ghost use Rattle.unit_moments.specs.Landing.{HasTaken, HaveLanded, MayLand, landed, told_of_frame, told_of_frames};
 ghost use Rattle.unit_moments.specs.Stops.{HaltsBehind, StopsBehind};
 
+use crate::listening::ListeningAir;
 use crate::results::tell_results;
-use air_source::{Air, AirFault, Side};
+use air_source::{AirFault, Side};
 use delay_exchange::UnitMeter;
 use fh_base::{NoMemory, Ticks};
 use frame_ways::{FramePool, Landed, Way};
 use unit_memory::TakesFrames;
 
-/// Gives a frame that arrives to the unit, and then to its meter, which is told it where it has a message of delay measurement: the unit
-/// has it also where memory runs out in the meter.
-fn take_in<U: TakesFrames>(
-    at: Ticks,
-    bytes: &[u8],
-    unit: &mut U,
-    meter: &mut UnitMeter,
-) -> Result<(), NoMemory>
-    requires unit { (k : Config) × (planned : List Allocation) × (h : History) × U.may_take unit.old k planned at.0 h }
+/// Tells a unit's meter a frame, where it has a message of delay measurement.
+fn measure(at: Ticks, bytes: &[u8], measures: bool, meter: &mut UnitMeter) -> Result<(), NoMemory>
+    requires measures { measures ≡ has_delay bytes.now }
     requires low { pos 0 ≤ℤ at.0 }
     requires high { at.0 ≤ℤ pos (2 ^ 56) }
-    ensures took { (k : Config) (planned : List Allocation) (h : History) → U.may_take unit.old k planned at.0 h
-        → U.may_take unit.new k planned at.0 (arrived (at_clock h at.0) bytes.now) }
-    ensures made { OnOk result ((c : Compensation) (x : Doings) → HasDoings c x meter.old → HasDoings c (with_frame c at.0 x bytes.now) meter.new) }
+    ensures { OnOk result ((c : Compensation) (x : Doings) → HasDoings c x meter.old → HasDoings c (with_frame c at.0 x bytes.now) meter.new) }
 {
-    if unit.take(at, bytes) {
+    if measures {
         meter.tell(at, bytes)
     } else {
         meter.pass();
@@ -44,8 +40,9 @@ fn take_in<U: TakesFrames>(
     }
 }
 
-/// Tells the air of a frame that arrives, and then gives it to the unit and to its meter; the delays that it makes known are told after it.
-fn hear<U: TakesFrames, A: Air>(
+/// Tells the air of a frame that arrives, which hands it to the unit, and then the unit's meter; the delays that it makes known are told
+/// after it.
+fn hear<U: TakesFrames, A: ListeningAir>(
     side: Side,
     at: Ticks,
     frame: &Landed<'_>,
@@ -54,23 +51,28 @@ fn hear<U: TakesFrames, A: Air>(
     out: &mut A,
 ) -> Result<(), AirFault>
     requires short { length (bytes_of frame.now) < 2 ^ 32 }
+    requires side { side ≡ U.side }
     requires unit { (k : Config) × (planned : List Allocation) × (h : History) × U.may_take unit.old k planned at.0 h }
     requires low { pos 0 ≤ℤ at.0 }
     requires high { at.0 ≤ℤ pos (2 ^ 56) }
-    ensures heard { (c : Compensation) (x : Doings) → HasDoings c x meter.old → OnOk result (A.grew out.old (told_of_frame side c at.0 x (bytes_of frame.now)) out.new) }
+    ensures heard { (c : Compensation) (x : Doings) (k : Config) (planned : List Allocation) (h : History) (earlier : List Event) → HasDoings c x meter.old
+        → U.may_take unit.old k planned at.0 h → h.arrivals ≡ arrivals_heard side [] earlier
+        → OnOk result (A.grew k earlier out.old (told_of_frame side c at.0 x (bytes_of frame.now)) out.new) }
     ensures took { OnOk result ((k : Config) (planned : List Allocation) (h : History) → U.may_take unit.old k planned at.0 h
         → U.may_take unit.new k planned at.0 (arrived (at_clock h at.0) (bytes_of frame.now))) }
     ensures made { (c : Compensation) (x : Doings) → HasDoings c x meter.old → OnOk result (HasDoings c (with_frame c at.0 x (bytes_of frame.now)) meter.new) }
-    ensures stop { (c : Compensation) (x : Doings) (k : Config) (planned : List Allocation) (h : History) → HasDoings c x meter.old → U.may_take unit.old k planned at.0 h
-        → IsErrOf result Failed → StopsBehind A.grew (A.stopped Failed) (HasTaken (U.may_take unit.new k planned at.0) side h) [] (told_of_frame side c at.0 x (bytes_of frame.now)) out.old out.new }
-    ensures wants { (c : Compensation) (x : Doings) (k : Config) (planned : List Allocation) (h : History) → HasDoings c x meter.old → U.may_take unit.old k planned at.0 h
-        → IsErrOf result WantsMemory → HaltsBehind A.grew (A.stopped WantsMemory) (HasTaken (U.may_take unit.new k planned at.0) side h) [] (told_of_frame side c at.0 x (bytes_of frame.now)) out.old out.new }
+    ensures stop { (c : Compensation) (x : Doings) (k : Config) (planned : List Allocation) (h : History) (earlier : List Event) → HasDoings c x meter.old
+        → U.may_take unit.old k planned at.0 h → h.arrivals ≡ arrivals_heard side [] earlier → IsErrOf result Failed
+        → StopsBehind (A.grew k earlier) (A.stopped Failed) (HasTaken (U.may_take unit.new k planned at.0) side h) [] (told_of_frame side c at.0 x (bytes_of frame.now)) out.old out.new }
+    ensures wants { (c : Compensation) (x : Doings) (k : Config) (planned : List Allocation) (h : History) (earlier : List Event) → HasDoings c x meter.old
+        → U.may_take unit.old k planned at.0 h → h.arrivals ≡ arrivals_heard side [] earlier → IsErrOf result WantsMemory
+        → HaltsBehind (A.grew k earlier) (A.stopped WantsMemory) (HasTaken (U.may_take unit.new k planned at.0) side h) [] (told_of_frame side c at.0 x (bytes_of frame.now)) out.old out.new }
     ensures same { A.same out.old out.new }
     ensures cause { HasAirCause (A.faults out.old) (A.faults out.new) result }
 {
     let bytes = frame.as_slice();
-    out.arrival(side, at, bytes)?;
-    take_in(at, bytes, unit, meter)?;
+    let measures = out.arrival(side, at, bytes, unit)?;
+    measure(at, bytes, measures, meter)?;
     tell_results(side, at, meter.results(), out)
 }
 
@@ -79,7 +81,7 @@ fn hear<U: TakesFrames, A: Air>(
 /// # Errors
 ///
 /// The air's own fault, or `NoMemory` where memory runs out in the meter.
-pub fn land<U: TakesFrames, A: Air>(
+pub fn land<U: TakesFrames, A: ListeningAir>(
     side: Side,
     tick: Ticks,
     unit: &mut U,
@@ -88,18 +90,22 @@ pub fn land<U: TakesFrames, A: Air>(
     pool: &mut FramePool,
     out: &mut A,
 ) -> Result<(), AirFault>
+    requires side { side ≡ U.side }
     requires unit { (k : Config) × (planned : List Allocation) × (h : History) × U.may_take unit.old k planned tick.0 h }
     requires some { (v : OnWay) × (c : Compensation) × (x : Doings) × MayLand v tick.0 c x way.old meter.old }
+    ensures heard { (v : OnWay) (c : Compensation) (x : Doings) (k : Config) (planned : List Allocation) (h : History) (earlier : List Event)
+        → MayLand v tick.0 c x way.old meter.old → U.may_take unit.old k planned tick.0 h → h.arrivals ≡ arrivals_heard side [] earlier
+        → OnOk result (A.grew k earlier out.old (told_of_frames side c tick.0 x (landing_at (landings_on v) tick.0)) out.new) }
     ensures landed { (v : OnWay) (c : Compensation) (x : Doings) → MayLand v tick.0 c x way.old meter.old
-        → OnOk result (HaveLanded A.grew side v tick.0 c x meter.new way.new out.old out.new) }
+        → OnOk result (HaveLanded v tick.0 c x meter.new way.new) }
     ensures took { (v : OnWay) (c : Compensation) (x : Doings) (k : Config) (planned : List Allocation) (h : History) → MayLand v tick.0 c x way.old meter.old
         → U.may_take unit.old k planned tick.0 h → OnOk result (U.may_take unit.new k planned tick.0 (landed tick.0 h (landing_at (landings_on v) tick.0))) }
-    ensures stop { (v : OnWay) (c : Compensation) (x : Doings) (k : Config) (planned : List Allocation) (h : History) → MayLand v tick.0 c x way.old meter.old
-        → U.may_take unit.old k planned tick.0 h → IsErrOf result Failed
-        → StopsBehind A.grew (A.stopped Failed) (HasTaken (U.may_take unit.new k planned tick.0) side h) [] (told_of_frames side c tick.0 x (landing_at (landings_on v) tick.0)) out.old out.new }
-    ensures wants { (v : OnWay) (c : Compensation) (x : Doings) (k : Config) (planned : List Allocation) (h : History) → MayLand v tick.0 c x way.old meter.old
-        → U.may_take unit.old k planned tick.0 h → IsErrOf result WantsMemory
-        → HaltsBehind A.grew (A.stopped WantsMemory) (HasTaken (U.may_take unit.new k planned tick.0) side h) [] (told_of_frames side c tick.0 x (landing_at (landings_on v) tick.0)) out.old out.new }
+    ensures stop { (v : OnWay) (c : Compensation) (x : Doings) (k : Config) (planned : List Allocation) (h : History) (earlier : List Event)
+        → MayLand v tick.0 c x way.old meter.old → U.may_take unit.old k planned tick.0 h → h.arrivals ≡ arrivals_heard side [] earlier → IsErrOf result Failed
+        → StopsBehind (A.grew k earlier) (A.stopped Failed) (HasTaken (U.may_take unit.new k planned tick.0) side h) [] (told_of_frames side c tick.0 x (landing_at (landings_on v) tick.0)) out.old out.new }
+    ensures wants { (v : OnWay) (c : Compensation) (x : Doings) (k : Config) (planned : List Allocation) (h : History) (earlier : List Event)
+        → MayLand v tick.0 c x way.old meter.old → U.may_take unit.old k planned tick.0 h → h.arrivals ≡ arrivals_heard side [] earlier → IsErrOf result WantsMemory
+        → HaltsBehind (A.grew k earlier) (A.stopped WantsMemory) (HasTaken (U.may_take unit.new k planned tick.0) side h) [] (told_of_frames side c tick.0 x (landing_at (landings_on v) tick.0)) out.old out.new }
     ensures same { A.same out.old out.new }
     ensures cause { HasAirCause (A.faults out.old) (A.faults out.new) result }
 {

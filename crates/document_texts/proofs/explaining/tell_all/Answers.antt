@@ -16,15 +16,15 @@ returns-in_err-begin-clause-part g c =
     (begin_part w d a.faults (w (sink_of a)) (w (sink_of c.begin.new.self)) c.in_err-begin.ensures.part) in
     search (rules, part)
 
-pub returns-in_err-replay_to-clause-part : goal.returns-in_err-replay_to-clause-part
-returns-in_err-replay_to-clause-part g c =
+pub returns-in_err-replay_listening_to-clause-part : goal.returns-in_err-replay_listening_to-clause-part
+returns-in_err-replay_listening_to-clause-part g c =
     let w = g.K.Sink.written in
     let a = c.args.air.now in
     let b = c.begin.new.self in
     let d = c.args.document.now in
     let at = begun w d a.faults (w (sink_of a)) a.kept b c.requires.fresh c.in_ok-begin.ensures.heard in
-    let part = at_error c.from_residual-in_err-replay_to.result _
-    (cut_part w d a.faults (w (sink_of a)) c.in_err-replay_to.field-0.0 b c.replay_to.new.air at c.in_err-replay_to.ensures.cut) in
+    let part = at_error c.from_residual-in_err-replay_listening_to.result _
+    (cut_part w d a.faults (w (sink_of a)) c.in_err-replay_listening_to.field-0.0 b c.replay_listening_to.new.air at c.in_err-replay_listening_to.ensures.cut) in
     search (rules, part)
 
 pub returns-clause-part : goal.returns-clause-part
@@ -32,10 +32,10 @@ returns-clause-part g c =
     let w = g.K.Sink.written in
     let a = c.args.air.now in
     let b = c.begin.new.self in
-    let e = c.replay_to.new.air in
+    let e = c.replay_listening_to.new.air in
     let d = c.args.document.now in
     let at = begun w d a.faults (w (sink_of a)) a.kept b c.requires.fresh c.in_ok-begin.ensures.heard in
-    let told = grown w d a.faults (w (sink_of a)) (events_of d) b e at c.in_ok-replay_to.ensures.heard in
+    let told = grown w d a.faults (w (sink_of a)) (events_of d) b e at c.in_ok-replay_listening_to.ensures.heard in
     let part = on_err_weaker c.finish.result
     (λ some. finish_part w d a.faults (w (sink_of a)) e (w (sink_of c.finish.new.self)) told some) c.finish.ensures.part in
     let passed = error_passed c.finish.result c.map_err.result _ c.map_err.ensures.variant part in
@@ -46,10 +46,10 @@ returns-clause-done g c =
     let w = g.K.Sink.written in
     let a = c.args.air.now in
     let b = c.begin.new.self in
-    let e = c.replay_to.new.air in
+    let e = c.replay_listening_to.new.air in
     let d = c.args.document.now in
     let at = begun w d a.faults (w (sink_of a)) a.kept b c.requires.fresh c.in_ok-begin.ensures.heard in
-    let told = grown w d a.faults (w (sink_of a)) (events_of d) b e at c.in_ok-replay_to.ensures.heard in
+    let told = grown w d a.faults (w (sink_of a)) (events_of d) b e at c.in_ok-replay_listening_to.ensures.heard in
     let done = on_ok_weaker c.finish.result
     (λ all. finish_whole w d a.faults (w (sink_of a)) e (w (sink_of c.finish.new.self)) told all) c.finish.ensures.all in
     search (rules, done)
@@ -59,9 +59,9 @@ returns-clause-few g c =
     let w = g.K.Sink.written in
     let a = c.args.air.now in
     let b = c.begin.new.self in
-    let e = c.replay_to.new.air in
+    let e = c.replay_listening_to.new.air in
     let d = c.args.document.now in
     let at = begun w d a.faults (w (sink_of a)) a.kept b c.requires.fresh c.in_ok-begin.ensures.heard in
-    let told = grown w d a.faults (w (sink_of a)) (events_of d) b e at c.in_ok-replay_to.ensures.heard in
+    let told = grown w d a.faults (w (sink_of a)) (events_of d) b e at c.in_ok-replay_listening_to.ensures.heard in
     let few = on_ok_weaker c.finish.result (λ all. finish_few w d a.faults (w (sink_of a)) e told all) c.finish.ensures.few in
     search (rules, few)

@@ -1,4 +1,4 @@
-use Rattle.std.proofs.Common.{rules, ◌≡◌}
+use Rattle.std.proofs.Common.{rules}
 use Rattle.std.proofs.lemmas.Result.{IfErr-weaker}
 use Rattle.explain_air.proofs.NotingLemmas.{noting_line_stops}
 use Rattle.explain_air.proofs.closing.note_missing.Goals as goal

@@ -1,5 +1,5 @@
 -- The windows, and then the endpoints.
-use Rattle.std.proofs.Common.{List, subst}
+use Rattle.std.proofs.Common.{rules, List, subst}
 use Rattle.std.proofs.lemmas.Result.{IfErr-weaker, on_ok_weaker}
 use Rattle.explain_model.specs.declared.values.ExplainLine.{ExplainLine}
 use Rattle.explain_model.specs.Text.{endpoint_lines, window_lines}
@@ -9,26 +9,28 @@ use Rattle.why_lines.proofs.TellLemmas.{stops_last}
 use Rattle.window_config.specs.declared.endpoints.EndpointConfig.{EndpointConfig}
 use Rattle.explain_air.proofs.first.tell_first.Goals as goal
 
-pub returns-in-Ok-clause-heard : goal.returns-in-Ok-clause-heard
-returns-in-Ok-clause-heard g c =
+pub returns-clause-heard : goal.returns-clause-heard
+returns-clause-heard g c =
     on_ok_weaker c.tell_endpoints.result
     (λ h.
     g.met.W.LineSink.grew_more c.args.out.now c.tell_lines.new.out c.tell_endpoints.new.out (window_lines c.args.config.now.delays) (endpoint_lines c.args.config.now.endpoints)
-    (subst (λ (ls : List ExplainLine). g.W.LineSink.grew c.args.out.now ls c.tell_lines.new.out) c.window_lines.ensures c.in-Ok.ensures.heard)
+    (subst (λ (ls : List ExplainLine). g.W.LineSink.grew c.args.out.now ls c.tell_lines.new.out) c.window_lines.ensures c.in_ok-tell_lines.ensures.heard)
     (subst (λ (es : List EndpointConfig). g.W.LineSink.grew c.tell_lines.new.out (endpoint_lines es) c.tell_endpoints.new.out) c.as_slice.ensures.items h))
     c.tell_endpoints.ensures.heard
 
-pub returns-in-Ok-clause-stop : goal.returns-in-Ok-clause-stop
-returns-in-Ok-clause-stop g c =
+pub returns-clause-stop : goal.returns-clause-stop
+returns-clause-stop g c =
     IfErr-weaker c.tell_endpoints.result _ _
     (λ f h.
     stops_last g.W.LineSink.grew g.met.W.LineSink.grew_more (g.W.LineSink.stopped f) c.args.out.now c.tell_lines.new.out c.tell_endpoints.new.out
     (window_lines c.args.config.now.delays) (endpoint_lines c.args.config.now.endpoints)
-    (subst (λ (ls : List ExplainLine). g.W.LineSink.grew c.args.out.now ls c.tell_lines.new.out) c.window_lines.ensures c.in-Ok.ensures.heard)
+    (subst (λ (ls : List ExplainLine). g.W.LineSink.grew c.args.out.now ls c.tell_lines.new.out) c.window_lines.ensures c.in_ok-tell_lines.ensures.heard)
     (subst (λ (es : List EndpointConfig). StopsInLine g.W.LineSink.grew (g.W.LineSink.stopped f) (endpoint_lines es) c.tell_lines.new.out c.tell_endpoints.new.out) c.as_slice.ensures.items h))
     c.tell_endpoints.ensures.stop
 
-pub returns-in-Err-clause-stop : goal.returns-in-Err-clause-stop
-returns-in-Err-clause-stop g c =
-    in_before g.W.LineSink.grew (g.W.LineSink.stopped c.in-Err.fault) (window_lines c.args.config.now.delays) (endpoint_lines c.args.config.now.endpoints) c.args.out.now c.tell_lines.new.out
-    (subst (λ (ls : List ExplainLine). StopsInLine g.W.LineSink.grew (g.W.LineSink.stopped c.in-Err.fault) ls c.args.out.now c.tell_lines.new.out) c.window_lines.ensures c.in-Err.ensures.stop)
+pub returns-in_err-tell_lines-clause-stop : goal.returns-in_err-tell_lines-clause-stop
+returns-in_err-tell_lines-clause-stop g c =
+    let stop =
+    in_before g.W.LineSink.grew (g.W.LineSink.stopped c.in_err-tell_lines.field-0.0) (window_lines c.args.config.now.delays) (endpoint_lines c.args.config.now.endpoints) c.args.out.now c.tell_lines.new.out
+    (subst (λ (ls : List ExplainLine). StopsInLine g.W.LineSink.grew (g.W.LineSink.stopped c.in_err-tell_lines.field-0.0) ls c.args.out.now c.tell_lines.new.out) c.window_lines.ensures c.in_err-tell_lines.ensures.stop) in
+    search (rules, stop)

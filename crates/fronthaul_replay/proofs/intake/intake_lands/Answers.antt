@@ -6,9 +6,13 @@ use Rattle.document_traffic.specs.Settings.{compensation_of}
 use Rattle.du_intake.specs.Calls.{IntakeMayTake}
 use Rattle.fronthaul_replay.specs.Waiting.{begun_at, on_way}
 use Rattle.fronthaul_replay.proofs.LandLemmas.{events_heard, here, may_land, meter_has, same, told_is, unit_stands, waits_on}
-use Rattle.fronthaul_replay.specs.IntakeTurns.{planned_for}
+use Rattle.document_traffic.specs.Replayed.{traffic_of}
+use Rattle.replay_laws.specs.Events.{arrivals_at}
+use Rattle.fronthaul_replay.specs.IntakeTurns.{heard_before, planned_for}
+use Rattle.unit_moments.specs.Heard.{HeardAnyhow}
+use Rattle.unit_moments.proofs.StopLemmas.{follows_anyhow}
 use Rattle.fronthaul_replay.proofs.IntakeMomentLemmas.{has_landed, heard_all, landed_then, turn_then}
-use Rattle.fronthaul_replay.proofs.IntakeStopLemmas.{halts_landing, stops_closing, stops_landing}
+use Rattle.fronthaul_replay.proofs.IntakeStopLemmas.{came_before, halts_landing, stops_closing, stops_landing}
 use Rattle.fronthaul_replay.proofs.ReadyLemmas.{intake_may_take, low_enough, stands_some}
 use Rattle.fronthaul_replay.proofs.intake.intake_lands.Given.{Over}
 use Rattle.fronthaul_replay.proofs.intake.intake_lands.Goals as goal
@@ -25,6 +29,19 @@ taken g c =
     unit_stands d AtDu tick w.0 c.requires.document w.1 c.args.way.now w.2 (IntakeMayTake c.land.new.unit d.config (planned_for d) tick) a.history
     (c.in_ok-land.ensures.took (on_way d AtDu w.2.sent) (compensation_of d AtDu) (begun_at d AtDu tick) d.config (planned_for d) a.history may
     (intake_may_take d tick c.args.intake.now a c.requires.ended))
+
+-- and the frames were told
+told_here : (g : Over) (c : In_ok-land g)
+    → g.A.ListeningAir.grew c.args.doc.now.config (heard_before c.args.doc.now c.args.tick.0) c.args.out.now (arrivals_at AtDu (traffic_of c.args.doc.now) c.args.tick.0) c.land.new.out
+told_here g c =
+    let d = c.args.doc.now in
+    let tick = c.args.tick.0 in
+    let a = c.requires.turn in
+    let w = c.requires.waits in
+    let may = may_land d AtDu tick w.0 c.requires.document w.1 c.args.way.now w.2 c.args.meter.now c.requires.begun c.requires.late (low_enough tick c.requires.ended) in
+    events_heard d AtDu tick w.0 c.requires.document w.1 c.args.way.now w.2 (g.A.ListeningAir.grew d.config (heard_before d tick)) c.args.out.now c.land.new.out
+    (c.in_ok-land.ensures.heard (on_way d AtDu w.2.sent) (compensation_of d AtDu) (begun_at d AtDu tick) d.config (planned_for d) a.history (heard_before d tick) may
+    (intake_may_take d tick c.args.intake.now a c.requires.ended) (came_before d tick c.args.intake.now a))
 
 pub land-requires-clause-unit : goal.land-requires-clause-unit
 land-requires-clause-unit g c =
@@ -52,10 +69,10 @@ returns-in_err-land-clause-stop g c failed =
     let w = c.requires.waits in
     let may = may_land d AtDu tick w.0 c.requires.document w.1 c.args.way.now w.2 c.args.meter.now c.requires.begun c.requires.late (low_enough tick c.requires.ended) in
     let xs = here d AtDu tick w.0 c.requires.document w.1 c.args.way.now w.2 in
-    stops_landing g.A.Air.grew (g.A.Air.stopped Failed) d tick (begun_at d AtDu tick) c.args.intake.now c.land.new.unit xs c.args.out.now c.land.new.out a
+    stops_landing (g.A.ListeningAir.grew d.config (heard_before d tick)) (g.A.ListeningAir.stopped Failed) d tick (begun_at d AtDu tick) c.args.intake.now c.land.new.unit xs c.args.out.now c.land.new.out a
     (told_is AtDu d tick xs (same d AtDu tick w.0 c.requires.document w.1 c.args.way.now w.2))
-    (c.land.ensures.stop (on_way d AtDu w.2.sent) (compensation_of d AtDu) (begun_at d AtDu tick) d.config (planned_for d) a.history may
-    (intake_may_take d tick c.args.intake.now a c.requires.ended) (same_result ∙ failed))
+    (c.land.ensures.stop (on_way d AtDu w.2.sent) (compensation_of d AtDu) (begun_at d AtDu tick) d.config (planned_for d) a.history (heard_before d tick) may
+    (intake_may_take d tick c.args.intake.now a c.requires.ended) (came_before d tick c.args.intake.now a) (same_result ∙ failed))
 
 pub returns-in_err-land-clause-wants : goal.returns-in_err-land-clause-wants
 returns-in_err-land-clause-wants g c wants =
@@ -66,10 +83,10 @@ returns-in_err-land-clause-wants g c wants =
     let w = c.requires.waits in
     let may = may_land d AtDu tick w.0 c.requires.document w.1 c.args.way.now w.2 c.args.meter.now c.requires.begun c.requires.late (low_enough tick c.requires.ended) in
     let xs = here d AtDu tick w.0 c.requires.document w.1 c.args.way.now w.2 in
-    halts_landing g.A.Air.grew (g.A.Air.stopped NoMemory) d tick (begun_at d AtDu tick) c.args.intake.now c.land.new.unit xs c.args.out.now c.land.new.out a
+    halts_landing (g.A.ListeningAir.grew d.config (heard_before d tick)) (g.A.ListeningAir.stopped NoMemory) d tick (begun_at d AtDu tick) c.args.intake.now c.land.new.unit xs c.args.out.now c.land.new.out a
     (told_is AtDu d tick xs (same d AtDu tick w.0 c.requires.document w.1 c.args.way.now w.2))
-    (c.land.ensures.wants (on_way d AtDu w.2.sent) (compensation_of d AtDu) (begun_at d AtDu tick) d.config (planned_for d) a.history may
-    (intake_may_take d tick c.args.intake.now a c.requires.ended) (same_result ∙ wants))
+    (c.land.ensures.wants (on_way d AtDu w.2.sent) (compensation_of d AtDu) (begun_at d AtDu tick) d.config (planned_for d) a.history (heard_before d tick) may
+    (intake_may_take d tick c.args.intake.now a c.requires.ended) (came_before d tick c.args.intake.now a) (same_result ∙ wants))
 
 pub close_until-requires-clause-unit : goal.close_until-requires-clause-unit
 close_until-requires-clause-unit g c =
@@ -84,15 +101,12 @@ returns-clause-heard g c =
     let d = c.args.doc.now in
     let tick = c.args.tick.0 in
     let a = c.requires.turn in
-    let w = c.requires.waits in
-    let all = taken g (goal.at.returns-clause-heard g c).In_ok-land in
-    let may = may_land d AtDu tick w.0 c.requires.document w.1 c.args.way.now w.2 c.args.meter.now c.requires.begun c.requires.late (low_enough tick c.requires.ended) in
-    let l = c.in_ok-land.ensures.landed (on_way d AtDu w.2.sent) (compensation_of d AtDu) (begun_at d AtDu tick) may in
+    let ok = (goal.at.returns-clause-heard g c).In_ok-land in
     on_ok_weaker c.close_until.result
-    (λ second. heard_all g.A.Air.grew g.met.A.Air.grew_more d tick a.history (landed_then d tick a.history) c.args.out.now c.land.new.out c.close_until.new.air
-    (has_landed d tick c.args.intake.now c.requires.document a c.requires.ended)
-    (events_heard d AtDu tick w.0 c.requires.document w.1 c.args.way.now w.2 g.A.Air.grew c.land.new.meter c.land.new.way c.args.out.now c.land.new.out l) second)
-    (c.close_until.ensures.heard d.config (planned_for d) (landed_then d tick a.history) all.stands)
+    (λ second. heard_all (g.A.ListeningAir.grew d.config (heard_before d tick)) (HeardAnyhow g.A.ListeningAir.grew) d tick a.history (landed_then d tick a.history)
+    c.args.out.now c.land.new.out c.close_until.new.out (has_landed d tick c.args.intake.now c.requires.document a c.requires.ended)
+    (follows_anyhow g.A.ListeningAir.grew g.met.A.ListeningAir.grew_more d.config (heard_before d tick) (arrivals_at AtDu (traffic_of d) tick) c.args.out.now c.land.new.out (told_here g ok)) second)
+    (c.close_until.ensures.heard d.config (planned_for d) (landed_then d tick a.history) (taken g ok).stands)
 
 pub returns-clause-turn : goal.returns-clause-turn
 returns-clause-turn g c =
@@ -101,7 +115,7 @@ returns-clause-turn g c =
     let a = c.requires.turn in
     let all = taken g (goal.at.returns-clause-turn g c).In_ok-land in
     on_ok_weaker c.close_until.result
-    (λ stands. turn_then d tick a.history (landed_then d tick a.history) c.close_until.new.self (has_landed d tick c.args.intake.now c.requires.document a c.requires.ended) stands)
+    (λ stands. turn_then d tick a.history (landed_then d tick a.history) c.close_until.new.intake (has_landed d tick c.args.intake.now c.requires.document a c.requires.ended) stands)
     (c.close_until.ensures.stands d.config (planned_for d) (landed_then d tick a.history) all.stands)
 
 pub returns-clause-waits : goal.returns-clause-waits
@@ -111,7 +125,7 @@ returns-clause-waits g c left later waits =
     let may = may_land d AtDu tick left c.requires.document later c.args.way.now waits c.args.meter.now c.requires.begun c.requires.late (low_enough tick c.requires.ended) in
     let l = c.in_ok-land.ensures.landed (on_way d AtDu waits.sent) (compensation_of d AtDu) (begun_at d AtDu tick) may in
     on_ok_weaker c.close_until.result
-    (λ clock. waits_on d AtDu tick left c.requires.document later c.args.way.now waits g.A.Air.grew c.land.new.meter c.land.new.way c.args.out.now c.land.new.out l)
+    (λ clock. waits_on d AtDu tick left c.requires.document later c.args.way.now waits c.land.new.meter c.land.new.way l)
     c.close_until.ensures.clock
 
 pub returns-clause-made : goal.returns-clause-made
@@ -122,7 +136,7 @@ returns-clause-made g c =
     let may = may_land d AtDu tick w.0 c.requires.document w.1 c.args.way.now w.2 c.args.meter.now c.requires.begun c.requires.late (low_enough tick c.requires.ended) in
     let l = c.in_ok-land.ensures.landed (on_way d AtDu w.2.sent) (compensation_of d AtDu) (begun_at d AtDu tick) may in
     on_ok_weaker c.close_until.result
-    (λ clock. meter_has d AtDu tick w.0 c.requires.document w.1 c.args.way.now w.2 g.A.Air.grew c.land.new.meter c.land.new.way c.args.out.now c.land.new.out l)
+    (λ clock. meter_has d AtDu tick w.0 c.requires.document w.1 c.args.way.now w.2 c.land.new.meter c.land.new.way l)
     c.close_until.ensures.clock
 
 pub returns-clause-stop : goal.returns-clause-stop
@@ -130,31 +144,25 @@ returns-clause-stop g c failed =
     let d = c.args.doc.now in
     let tick = c.args.tick.0 in
     let a = c.requires.turn in
-    let w = c.requires.waits in
-    let all = taken g (goal.at.returns-clause-stop g c).In_ok-land in
-    let may = may_land d AtDu tick w.0 c.requires.document w.1 c.args.way.now w.2 c.args.meter.now c.requires.begun c.requires.late (low_enough tick c.requires.ended) in
-    let l = c.in_ok-land.ensures.landed (on_way d AtDu w.2.sent) (compensation_of d AtDu) (begun_at d AtDu tick) may in
-    stops_closing g.A.Air.grew (g.A.Air.stopped Failed) g.met.A.Air.grew_more d tick a.history (landed_then d tick a.history) c.close_until.new.self c.args.out.now c.land.new.out c.close_until.new.air
-    (has_landed d tick c.args.intake.now c.requires.document a c.requires.ended)
-    (events_heard d AtDu tick w.0 c.requires.document w.1 c.args.way.now w.2 g.A.Air.grew c.land.new.meter c.land.new.way c.args.out.now c.land.new.out l)
-    (IfErr-at_err _ failed (c.close_until.ensures.stop d.config (planned_for d) (landed_then d tick a.history) all.stands))
+    let ok = (goal.at.returns-clause-stop g c).In_ok-land in
+    stops_closing (g.A.ListeningAir.grew d.config (heard_before d tick)) (HeardAnyhow g.A.ListeningAir.grew) (g.A.ListeningAir.stopped Failed) d tick a.history (landed_then d tick a.history)
+    c.close_until.new.intake c.args.out.now c.land.new.out c.close_until.new.out (has_landed d tick c.args.intake.now c.requires.document a c.requires.ended)
+    (follows_anyhow g.A.ListeningAir.grew g.met.A.ListeningAir.grew_more d.config (heard_before d tick) (arrivals_at AtDu (traffic_of d) tick) c.args.out.now c.land.new.out (told_here g ok))
+    (IfErr-at_err _ failed (c.close_until.ensures.stop d.config (planned_for d) (landed_then d tick a.history) (taken g ok).stands))
 
 pub returns-clause-wants : goal.returns-clause-wants
 returns-clause-wants g c wants =
     let d = c.args.doc.now in
     let tick = c.args.tick.0 in
     let a = c.requires.turn in
-    let w = c.requires.waits in
-    let all = taken g (goal.at.returns-clause-wants g c).In_ok-land in
-    let may = may_land d AtDu tick w.0 c.requires.document w.1 c.args.way.now w.2 c.args.meter.now c.requires.begun c.requires.late (low_enough tick c.requires.ended) in
-    let l = c.in_ok-land.ensures.landed (on_way d AtDu w.2.sent) (compensation_of d AtDu) (begun_at d AtDu tick) may in
-    inl (stops_closing g.A.Air.grew (g.A.Air.stopped NoMemory) g.met.A.Air.grew_more d tick a.history (landed_then d tick a.history) c.close_until.new.self c.args.out.now c.land.new.out c.close_until.new.air
-    (has_landed d tick c.args.intake.now c.requires.document a c.requires.ended)
-    (events_heard d AtDu tick w.0 c.requires.document w.1 c.args.way.now w.2 g.A.Air.grew c.land.new.meter c.land.new.way c.args.out.now c.land.new.out l)
-    (IfErr-at_err _ wants (c.close_until.ensures.stop d.config (planned_for d) (landed_then d tick a.history) all.stands)))
+    let ok = (goal.at.returns-clause-wants g c).In_ok-land in
+    inl (stops_closing (g.A.ListeningAir.grew d.config (heard_before d tick)) (HeardAnyhow g.A.ListeningAir.grew) (g.A.ListeningAir.stopped NoMemory) d tick a.history (landed_then d tick a.history)
+    c.close_until.new.intake c.args.out.now c.land.new.out c.close_until.new.out (has_landed d tick c.args.intake.now c.requires.document a c.requires.ended)
+    (follows_anyhow g.A.ListeningAir.grew g.met.A.ListeningAir.grew_more d.config (heard_before d tick) (arrivals_at AtDu (traffic_of d) tick) c.args.out.now c.land.new.out (told_here g ok))
+    (IfErr-at_err _ wants (c.close_until.ensures.stop d.config (planned_for d) (landed_then d tick a.history) (taken g ok).stands)))
 
 pub returns-clause-same : goal.returns-clause-same
-returns-clause-same g c = g.met.A.Air.same_more c.args.out.now c.land.new.out c.close_until.new.air c.land.ensures.same c.close_until.ensures.same
+returns-clause-same g c = g.met.A.ListeningAir.same_more c.args.out.now c.land.new.out c.close_until.new.out c.land.ensures.same c.close_until.ensures.same
 
 pub close_until-requires-clause-time : goal.close_until-requires-clause-time
 close_until-requires-clause-time g c = (taken g (goal.at.close_until-requires-clause-time g c).In_ok-land).time

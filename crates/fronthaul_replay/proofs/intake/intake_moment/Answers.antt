@@ -5,6 +5,7 @@ use Rattle.fronthaul_replay.proofs.IntakeStopLemmas.{rests_before}
 use Rattle.fronthaul_replay.proofs.LateLemmas.{late_enough}
 use Rattle.fronthaul_replay.proofs.UpLemmas.{is_due, landed_up, queue_short, up_is_sent, up_later}
 use Rattle.fronthaul_replay.proofs.WayLemmas.{is_read}
+use Rattle.fronthaul_replay.specs.IntakeTurns.{heard_before}
 use Rattle.fronthaul_replay.specs.Up.{HasSentUp, handed_by, left_at_end}
 use Rattle.fronthaul_replay.specs.Waiting.{on_way}
 use Rattle.std.specs.Prelude.{length}
@@ -75,14 +76,18 @@ returns-clause-waits g c =
 
 pub returns-in_err-answer-clause-wants : goal.returns-in_err-answer-clause-wants
 returns-in_err-answer-clause-wants g c wants =
-    inr (rests_before g.A.Air.grew c.args.doc.now c.args.tick.0 c.args.intake.now c.args.out.now c.requires.turn (g.met.A.Air.grew_none c.args.out.now))
+    let earlier = heard_before c.args.doc.now c.args.tick.0 in
+    inr (rests_before (g.A.ListeningAir.grew c.args.doc.now.config earlier) c.args.doc.now c.args.tick.0 c.args.intake.now c.args.out.now c.requires.turn
+    (g.met.A.ListeningAir.grew_none c.args.doc.now.config earlier c.args.out.now))
 
 pub returns-in_err-release_all-clause-wants : goal.returns-in_err-release_all-clause-wants
 returns-in_err-release_all-clause-wants g c wants =
-    inr (rests_before g.A.Air.grew c.args.doc.now c.args.tick.0 c.args.intake.now c.args.out.now c.requires.turn (g.met.A.Air.grew_none c.args.out.now))
+    let earlier = heard_before c.args.doc.now c.args.tick.0 in
+    inr (rests_before (g.A.ListeningAir.grew c.args.doc.now.config earlier) c.args.doc.now c.args.tick.0 c.args.intake.now c.args.out.now c.requires.turn
+    (g.met.A.ListeningAir.grew_none c.args.doc.now.config earlier c.args.out.now))
 
 pub returns-in_err-answer-clause-cause : goal.returns-in_err-answer-clause-cause
-returns-in_err-answer-clause-cause g c = cause_wanted (g.A.Air.faults c.args.out.now) (g.A.Air.faults c.args.out.now) c.from_residual.result c.from_residual.ensures.1 refl
+returns-in_err-answer-clause-cause g c = cause_wanted (g.A.ListeningAir.faults c.args.out.now) (g.A.ListeningAir.faults c.args.out.now) c.from_residual.result c.from_residual.ensures.1 refl
 
 pub returns-in_err-release_all-clause-cause : goal.returns-in_err-release_all-clause-cause
-returns-in_err-release_all-clause-cause g c = cause_wanted (g.A.Air.faults c.args.out.now) (g.A.Air.faults c.args.out.now) c.from_residual-in_err-release_all.result c.from_residual-in_err-release_all.ensures.1 refl
+returns-in_err-release_all-clause-cause g c = cause_wanted (g.A.ListeningAir.faults c.args.out.now) (g.A.ListeningAir.faults c.args.out.now) c.from_residual-in_err-release_all.result c.from_residual-in_err-release_all.ensures.1 refl

@@ -1,4 +1,4 @@
-use Rattle.std.proofs.Common.{◌≡◌, ◌+ℤ◌, pos}
+use Rattle.std.proofs.Common.{◌≡◌, ◌+ℤ◌, pos, []}
 use Rattle.std.specs.Int.{int_gap}
 use Rattle.fronthaul_replay.specs.BoxTurns.{events_before}
 use Rattle.replay_laws.specs.Moments.{end_of_time}
@@ -8,9 +8,9 @@ use Rattle.fronthaul_replay.proofs.moments.pass.Given as goal
 abbrev pub invariant-loop-tick : goal.invariant-loop-tick
 invariant-loop-tick g l = record {
   at : AtMoment (goal.G-pre g) (goal.G-post g) l.doc l.now.0 l.ru l.intake l.coming l.meters;
-  heard : g.A.Air.grew l.initial.out (events_before l.doc l.now.0) l.out;
-  same : g.A.Air.same l.initial.out l.out;
-  still : g.A.Air.faults l.out ≡ g.A.Air.faults l.initial.out;
+  heard : g.A.ListeningAir.grew l.doc.config [] l.initial.out (events_before l.doc l.now.0) l.out;
+  same : g.A.ListeningAir.same l.initial.out l.out;
+  still : g.A.ListeningAir.faults l.out ≡ g.A.ListeningAir.faults l.initial.out;
 }
 
 abbrev pub decreases-loop-tick : goal.decreases-loop-tick

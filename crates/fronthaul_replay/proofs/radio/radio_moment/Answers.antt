@@ -6,6 +6,7 @@ use Rattle.fronthaul_replay.proofs.DownLemmas.{down_later, has_sent, landed_down
 use Rattle.fronthaul_replay.proofs.LateLemmas.{late_enough}
 use Rattle.fronthaul_replay.proofs.BoxSteps.{radio_rests}
 use Rattle.fronthaul_replay.proofs.WayLemmas.{is_read}
+use Rattle.fronthaul_replay.specs.BoxTurns.{events_before}
 use Rattle.fronthaul_replay.specs.Down.{HasSentDown, left_down}
 use Rattle.fronthaul_replay.specs.Waiting.{on_way}
 use Rattle.fronthaul_replay.proofs.radio.radio_moment.Given.{Over}
@@ -51,7 +52,9 @@ returns-clause-waits g c =
 
 pub returns-in_err-send_due-clause-wants : goal.returns-in_err-send_due-clause-wants
 returns-in_err-send_due-clause-wants g c wants =
-    inr (radio_rests g.A.Air.grew c.args.doc.now c.args.tick.0 c.args.ru.now c.args.out.now c.requires.turn (g.met.A.Air.grew_none c.args.out.now))
+    let earlier = events_before c.args.doc.now c.args.tick.0 in
+    inr (radio_rests (g.A.ListeningAir.grew c.args.doc.now.config earlier) c.args.doc.now c.args.tick.0 c.args.ru.now c.args.out.now c.requires.turn
+    (g.met.A.ListeningAir.grew_none c.args.doc.now.config earlier c.args.out.now))
 
 pub returns-in_err-send_due-clause-cause : goal.returns-in_err-send_due-clause-cause
-returns-in_err-send_due-clause-cause g c = cause_wanted (g.A.Air.faults c.args.out.now) (g.A.Air.faults c.args.out.now) c.from_residual.result c.from_residual.ensures.1 refl
+returns-in_err-send_due-clause-cause g c = cause_wanted (g.A.ListeningAir.faults c.args.out.now) (g.A.ListeningAir.faults c.args.out.now) c.from_residual.result c.from_residual.ensures.1 refl

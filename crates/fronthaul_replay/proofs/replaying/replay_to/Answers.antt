@@ -1,31 +1,13 @@
-use Rattle.std.proofs.Common.{Err, ap, refl}
-use Rattle.air_source.specs.declared.airs.AirFault.TheVariants.{Failed, NoMemory}
-use Rattle.fronthaul_replay.specs.Replaying.{events_of}
-use Rattle.fronthaul_replay.proofs.FaultLemmas.{cut_from, write_cause, write_wanted}
-use Rattle.fronthaul_replay.proofs.StopLemmas.{halts_cut, stops_cut}
 use Rattle.fronthaul_replay.proofs.replaying.replay_to.Goals as goal
 
-pub intake_of-requires : goal.intake_of-requires
-intake_of-requires g c = record { document = c.requires.document; valid = c.requires.plan.valid }
+pub returns-clause-heard : goal.returns-clause-heard
+returns-clause-heard g c = c.replay_listening_to.ensures.heard
 
-pub returns-in_err-replay-clause-cut : goal.returns-in_err-replay-clause-cut
-returns-in_err-replay-clause-cut g c =
-    let grew = g.A.Air.grew in
-    let stopped = g.A.Air.stopped in
-    let d = c.args.document.now in
-    let r = c.replay.new in
-    let x = c.from_residual-in_err-replay in
-    cut_from grew stopped (events_of d) c.args.air.now r.out c.in_err-replay.field-0.0 x.result x.ensures.1
-    (λ is. stops_cut grew (stopped Failed) d r.ru r.intake c.args.air.now r.out (c.in_err-replay.ensures.stopped (ap Err is)))
-    (λ is. halts_cut grew (stopped NoMemory) d r.ru r.intake c.args.air.now r.out (c.in_err-replay.ensures.wants (ap Err is)))
+pub returns-clause-cut : goal.returns-clause-cut
+returns-clause-cut g c = c.replay_listening_to.ensures.cut
 
-pub returns-in_err-ru-clause-cause : goal.returns-in_err-ru-clause-cause
-returns-in_err-ru-clause-cause g c = write_wanted (g.A.Air.faults c.args.air.now) (g.A.Air.faults c.args.air.now) c.from_residual.result c.from_residual.ensures.1 refl
+pub returns-clause-cause : goal.returns-clause-cause
+returns-clause-cause g c = c.replay_listening_to.ensures.cause
 
-pub returns-in_err-intake-clause-cause : goal.returns-in_err-intake-clause-cause
-returns-in_err-intake-clause-cause g c = write_wanted (g.A.Air.faults c.args.air.now) (g.A.Air.faults c.args.air.now) c.from_residual-in_err-intake.result c.from_residual-in_err-intake.ensures.1 refl
-
-pub returns-in_err-replay-clause-cause : goal.returns-in_err-replay-clause-cause
-returns-in_err-replay-clause-cause g c =
-    let x = c.from_residual-in_err-replay in
-    write_cause (g.A.Air.faults c.args.air.now) (g.A.Air.faults c.replay.new.out) c.in_err-replay.field-0.0 x.result x.ensures.1 c.in_err-replay.ensures.cause
+pub returns-clause-same : goal.returns-clause-same
+returns-clause-same g c = c.replay_listening_to.ensures.same

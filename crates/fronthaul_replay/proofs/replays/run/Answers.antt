@@ -1,4 +1,4 @@
-use Rattle.std.proofs.Common.{rules, ◌≡◌, inl, ◌∙◌, refl}
+use Rattle.std.proofs.Common.{rules, ◌≡◌, ◌+ℤ◌, pos, [], inl, ◌∙◌, refl}
 use Rattle.std.proofs.lemmas.Result.{IfErr-at_err, on_ok_weaker}
 use Rattle.air_source.specs.declared.airs.AirFault.TheVariants.{Failed, NoMemory}
 use Rattle.air_source.specs.declared.events.Side.TheVariants.{Ru, Du}
@@ -9,6 +9,11 @@ use Rattle.fronthaul_replay.proofs.TurnLemmas.{first_turn}
 use Rattle.fronthaul_replay.proofs.CountLemmas.{all_doings, heard_all, intake_counts, over, radio_counts, stops_intake_count, stops_radio_count, told_for}
 use Rattle.fronthaul_replay.proofs.StopLemmas.{halts_passing, stops_passing}
 use Rattle.air_source.proofs.Causes.{air_cause_since}
+use Rattle.fronthaul_replay.specs.BoxTurns.{events_before}
+use Rattle.replay_laws.specs.Moments.{end_of_time}
+use Rattle.unit_moments.specs.Heard.{HeardAnyhow}
+use Rattle.unit_moments.specs.HeardLaws.{anyhow_more}
+use Rattle.unit_moments.proofs.StopLemmas.{follows_anyhow}
 use Rattle.fronthaul_replay.proofs.replays.run.Goals as goal
 use Rattle.unit_moments.proofs.CauseLemmas.{cause_passed}
 
@@ -24,12 +29,12 @@ pass-requires-clause-moment g c =
 pub returns-in_err-pass-clause-stop : goal.returns-in_err-pass-clause-stop
 returns-in_err-pass-clause-stop g c failed =
     let same : c.pass.result ≡ c.from_residual.result = search rules in
-    stops_passing g.A.Air.grew (g.A.Air.stopped Failed) c.args.doc.now c.pass.new.ru c.pass.new.intake c.args.out.now c.pass.new.out (c.pass.ensures.stop (same ∙ failed))
+    stops_passing (g.A.ListeningAir.grew c.args.doc.now.config []) (g.A.ListeningAir.stopped Failed) c.args.doc.now c.pass.new.ru c.pass.new.intake c.args.out.now c.pass.new.out (c.pass.ensures.stop (same ∙ failed))
 
 pub returns-in_err-pass-clause-wants : goal.returns-in_err-pass-clause-wants
 returns-in_err-pass-clause-wants g c wants =
     let same : c.pass.result ≡ c.from_residual.result = search rules in
-    halts_passing g.A.Air.grew (g.A.Air.stopped NoMemory) c.args.doc.now c.pass.new.ru c.pass.new.intake c.args.out.now c.pass.new.out (c.pass.ensures.wants (same ∙ wants))
+    halts_passing (g.A.ListeningAir.grew c.args.doc.now.config []) (g.A.ListeningAir.stopped NoMemory) c.args.doc.now c.pass.new.ru c.pass.new.intake c.args.out.now c.pass.new.out (c.pass.ensures.wants (same ∙ wants))
 
 -- ---- the radio unit's counters
 
@@ -44,9 +49,10 @@ returns-in_err-tell_counts-clause-stop g c failed =
     let done = over d c.pass.new.ru c.pass.new.intake c.requires.document at in
     let radio = c.counters.result.now in
     let ru = c.in_ok-pass.ensures.measured.ru in
-    stops_radio_count g.A.Air.grew g.met.A.Air.grew_more d (g.A.Air.stopped Failed) c.pass.new.ru c.pass.new.intake radio c.args.out.now c.pass.new.out c.tell_counts.new.out at
+    stops_radio_count (g.A.ListeningAir.grew d.config []) (HeardAnyhow g.A.ListeningAir.grew) d (g.A.ListeningAir.stopped Failed) c.pass.new.ru c.pass.new.intake radio c.args.out.now c.pass.new.out c.tell_counts.new.out at
     (radio_counts d c.pass.new.ru radio done.radio (c.counters.ensures d.config done.radio.history done.radio.stands))
-    c.in_ok-pass.ensures.heard (IfErr-at_err _ (same ∙ failed) (c.tell_counts.ensures.stop (compensation_of d Ru) (all_doings d Ru) ru))
+    (follows_anyhow g.A.ListeningAir.grew g.met.A.ListeningAir.grew_more d.config [] (events_before d (end_of_time +ℤ pos 1)) c.args.out.now c.pass.new.out c.in_ok-pass.ensures.heard)
+    (IfErr-at_err _ (same ∙ failed) (c.tell_counts.ensures.stop (compensation_of d Ru) (all_doings d Ru) ru))
 
 pub returns-in_err-tell_counts-clause-wants : goal.returns-in_err-tell_counts-clause-wants
 returns-in_err-tell_counts-clause-wants g c wants =
@@ -56,12 +62,13 @@ returns-in_err-tell_counts-clause-wants g c wants =
     let done = over d c.pass.new.ru c.pass.new.intake c.requires.document at in
     let radio = c.counters.result.now in
     let ru = c.in_ok-pass.ensures.measured.ru in
-    inl (stops_radio_count g.A.Air.grew g.met.A.Air.grew_more d (g.A.Air.stopped NoMemory) c.pass.new.ru c.pass.new.intake radio c.args.out.now c.pass.new.out c.tell_counts.new.out at
+    inl (stops_radio_count (g.A.ListeningAir.grew d.config []) (HeardAnyhow g.A.ListeningAir.grew) d (g.A.ListeningAir.stopped NoMemory) c.pass.new.ru c.pass.new.intake radio c.args.out.now c.pass.new.out c.tell_counts.new.out at
     (radio_counts d c.pass.new.ru radio done.radio (c.counters.ensures d.config done.radio.history done.radio.stands))
-    c.in_ok-pass.ensures.heard (IfErr-at_err _ (same ∙ wants) (c.tell_counts.ensures.stop (compensation_of d Ru) (all_doings d Ru) ru)))
+    (follows_anyhow g.A.ListeningAir.grew g.met.A.ListeningAir.grew_more d.config [] (events_before d (end_of_time +ℤ pos 1)) c.args.out.now c.pass.new.out c.in_ok-pass.ensures.heard)
+    (IfErr-at_err _ (same ∙ wants) (c.tell_counts.ensures.stop (compensation_of d Ru) (all_doings d Ru) ru)))
 
 pub returns-in_err-tell_counts-clause-same : goal.returns-in_err-tell_counts-clause-same
-returns-in_err-tell_counts-clause-same g c = g.met.A.Air.same_more c.args.out.now c.pass.new.out c.tell_counts.new.out c.pass.ensures.same c.tell_counts.ensures.same
+returns-in_err-tell_counts-clause-same g c = g.met.A.ListeningAir.same_more c.args.out.now c.pass.new.out c.tell_counts.new.out c.pass.ensures.same c.tell_counts.ensures.same
 
 -- ---- and the distributed unit's
 
@@ -78,11 +85,13 @@ returns-clause-heard g c =
     let taken = c.counters-2.result.now in
     let du = c.in_ok-pass.ensures.measured.du in
     on_ok_weaker c.tell_counts-2.result (λ last.
-    heard_all g.A.Air.grew g.met.A.Air.grew_more d (told_for Ru d radio) (told_for Du d taken)
+    heard_all (g.A.ListeningAir.grew d.config []) (HeardAnyhow g.A.ListeningAir.grew) d (told_for Ru d radio) (told_for Du d taken)
     c.args.out.now c.pass.new.out c.tell_counts.new.out c.tell_counts-2.new.out
     (radio_counts d c.pass.new.ru radio done.radio (c.counters.ensures d.config done.radio.history done.radio.stands))
     (intake_counts d c.pass.new.intake taken done.intake (c.counters-2.ensures d.config (planned_for d) done.intake.history done.intake.stands))
-    c.in_ok-pass.ensures.heard (c.in_ok-tell_counts.ensures.heard (compensation_of d Ru) (all_doings d Ru) ru) last)
+    (follows_anyhow g.A.ListeningAir.grew g.met.A.ListeningAir.grew_more d.config [] (events_before d (end_of_time +ℤ pos 1)) c.args.out.now c.pass.new.out c.in_ok-pass.ensures.heard)
+    (λ e more. anyhow_more g.A.ListeningAir.grew g.met.A.ListeningAir.grew_more c.pass.new.out c.tell_counts.new.out e (told_for Ru d radio) more
+    (c.in_ok-tell_counts.ensures.heard (compensation_of d Ru) (all_doings d Ru) ru)) last)
     (c.tell_counts-2.ensures.heard (compensation_of d Du) (all_doings d Du) du)
 
 pub returns-clause-done : goal.returns-clause-done
@@ -100,11 +109,13 @@ returns-clause-stop g c failed =
     let ru = c.in_ok-pass.ensures.measured.ru in
     let taken = c.counters-2.result.now in
     let du = c.in_ok-pass.ensures.measured.du in
-    stops_intake_count g.A.Air.grew g.met.A.Air.grew_more d (g.A.Air.stopped Failed) c.pass.new.ru c.pass.new.intake radio taken
+    stops_intake_count (g.A.ListeningAir.grew d.config []) (HeardAnyhow g.A.ListeningAir.grew) d (g.A.ListeningAir.stopped Failed) c.pass.new.ru c.pass.new.intake radio taken
     c.args.out.now c.pass.new.out c.tell_counts.new.out c.tell_counts-2.new.out at
     (radio_counts d c.pass.new.ru radio done.radio (c.counters.ensures d.config done.radio.history done.radio.stands))
     (intake_counts d c.pass.new.intake taken done.intake (c.counters-2.ensures d.config (planned_for d) done.intake.history done.intake.stands))
-    c.in_ok-pass.ensures.heard (c.in_ok-tell_counts.ensures.heard (compensation_of d Ru) (all_doings d Ru) ru) (IfErr-at_err _ failed (c.tell_counts-2.ensures.stop (compensation_of d Du) (all_doings d Du) du))
+    (follows_anyhow g.A.ListeningAir.grew g.met.A.ListeningAir.grew_more d.config [] (events_before d (end_of_time +ℤ pos 1)) c.args.out.now c.pass.new.out c.in_ok-pass.ensures.heard)
+    (λ e more. anyhow_more g.A.ListeningAir.grew g.met.A.ListeningAir.grew_more c.pass.new.out c.tell_counts.new.out e (told_for Ru d radio) more
+    (c.in_ok-tell_counts.ensures.heard (compensation_of d Ru) (all_doings d Ru) ru)) (IfErr-at_err _ failed (c.tell_counts-2.ensures.stop (compensation_of d Du) (all_doings d Du) du))
 
 pub returns-clause-wants : goal.returns-clause-wants
 returns-clause-wants g c wants =
@@ -115,26 +126,28 @@ returns-clause-wants g c wants =
     let ru = c.in_ok-pass.ensures.measured.ru in
     let taken = c.counters-2.result.now in
     let du = c.in_ok-pass.ensures.measured.du in
-    inl (stops_intake_count g.A.Air.grew g.met.A.Air.grew_more d (g.A.Air.stopped NoMemory) c.pass.new.ru c.pass.new.intake radio taken
+    inl (stops_intake_count (g.A.ListeningAir.grew d.config []) (HeardAnyhow g.A.ListeningAir.grew) d (g.A.ListeningAir.stopped NoMemory) c.pass.new.ru c.pass.new.intake radio taken
     c.args.out.now c.pass.new.out c.tell_counts.new.out c.tell_counts-2.new.out at
     (radio_counts d c.pass.new.ru radio done.radio (c.counters.ensures d.config done.radio.history done.radio.stands))
     (intake_counts d c.pass.new.intake taken done.intake (c.counters-2.ensures d.config (planned_for d) done.intake.history done.intake.stands))
-    c.in_ok-pass.ensures.heard (c.in_ok-tell_counts.ensures.heard (compensation_of d Ru) (all_doings d Ru) ru) (IfErr-at_err _ wants (c.tell_counts-2.ensures.stop (compensation_of d Du) (all_doings d Du) du)))
+    (follows_anyhow g.A.ListeningAir.grew g.met.A.ListeningAir.grew_more d.config [] (events_before d (end_of_time +ℤ pos 1)) c.args.out.now c.pass.new.out c.in_ok-pass.ensures.heard)
+    (λ e more. anyhow_more g.A.ListeningAir.grew g.met.A.ListeningAir.grew_more c.pass.new.out c.tell_counts.new.out e (told_for Ru d radio) more
+    (c.in_ok-tell_counts.ensures.heard (compensation_of d Ru) (all_doings d Ru) ru)) (IfErr-at_err _ wants (c.tell_counts-2.ensures.stop (compensation_of d Du) (all_doings d Du) du)))
 
 pub returns-clause-same : goal.returns-clause-same
 returns-clause-same g c =
-    g.met.A.Air.same_more c.args.out.now c.tell_counts.new.out c.tell_counts-2.new.out
-    (g.met.A.Air.same_more c.args.out.now c.pass.new.out c.tell_counts.new.out c.pass.ensures.same c.tell_counts.ensures.same) c.tell_counts-2.ensures.same
+    g.met.A.ListeningAir.same_more c.args.out.now c.tell_counts.new.out c.tell_counts-2.new.out
+    (g.met.A.ListeningAir.same_more c.args.out.now c.pass.new.out c.tell_counts.new.out c.pass.ensures.same c.tell_counts.ensures.same) c.tell_counts-2.ensures.same
 
 pub returns-in_err-pass-clause-cause : goal.returns-in_err-pass-clause-cause
 returns-in_err-pass-clause-cause g c =
     let same : c.pass.result ≡ c.from_residual.result = search rules in
-    cause_passed (g.A.Air.faults c.args.out.now) (g.A.Air.faults c.args.out.now) (g.A.Air.faults c.pass.new.out) c.pass.result c.from_residual.result same refl c.pass.ensures.cause
+    cause_passed (g.A.ListeningAir.faults c.args.out.now) (g.A.ListeningAir.faults c.args.out.now) (g.A.ListeningAir.faults c.pass.new.out) c.pass.result c.from_residual.result same refl c.pass.ensures.cause
 
 pub returns-in_err-tell_counts-clause-cause : goal.returns-in_err-tell_counts-clause-cause
 returns-in_err-tell_counts-clause-cause g c =
     let same : c.tell_counts.result ≡ c.from_residual-in_err-tell_counts.result = search rules in
-    cause_passed (g.A.Air.faults c.args.out.now) (g.A.Air.faults c.pass.new.out) (g.A.Air.faults c.tell_counts.new.out) c.tell_counts.result c.from_residual-in_err-tell_counts.result same c.in_ok-pass.ensures.cause c.tell_counts.ensures.cause
+    cause_passed (g.A.ListeningAir.faults c.args.out.now) (g.A.ListeningAir.faults c.pass.new.out) (g.A.ListeningAir.faults c.tell_counts.new.out) c.tell_counts.result c.from_residual-in_err-tell_counts.result same c.in_ok-pass.ensures.cause c.tell_counts.ensures.cause
 
 pub returns-clause-cause : goal.returns-clause-cause
-returns-clause-cause g c = air_cause_since (g.A.Air.faults c.args.out.now) (g.A.Air.faults c.tell_counts.new.out) (g.A.Air.faults c.tell_counts-2.new.out) c.tell_counts-2.result (c.in_ok-tell_counts.ensures.cause ∙ c.in_ok-pass.ensures.cause) c.tell_counts-2.ensures.cause
+returns-clause-cause g c = air_cause_since (g.A.ListeningAir.faults c.args.out.now) (g.A.ListeningAir.faults c.tell_counts.new.out) (g.A.ListeningAir.faults c.tell_counts-2.new.out) c.tell_counts-2.result (c.in_ok-tell_counts.ensures.cause ∙ c.in_ok-pass.ensures.cause) c.tell_counts-2.ensures.cause

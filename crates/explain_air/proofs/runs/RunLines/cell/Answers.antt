@@ -1,4 +1,4 @@
-use Rattle.std.proofs.Common.{rules, ◌≡◌, sym}
+use Rattle.std.proofs.Common.{rules, sym}
 use Rattle.explain_air.proofs.RunLemmas.{next_prb}
 use Rattle.explain_units.specs.Runs.{cells_of}
 use Rattle.explain_air.proofs.runs.RunLines.cell.Goals as goal

@@ -1,4 +1,4 @@
-use Rattle.std.proofs.Common.{rules, ◌≡◌, ◌∷◌, []}
+use Rattle.std.proofs.Common.{rules, ◌∷◌, []}
 use Rattle.std.proofs.lemmas.Result.{IfErr-weaker}
 use Rattle.explain_air.proofs.Stopping.{some_first, some_second, some_one}
 use Rattle.explain_air.specs.Runs.{open_of}
